@@ -1,0 +1,19 @@
+-- When an answer that tells of a failure may come (cvwatch's own). Each thing handed in that may fail, as a source of
+-- bytes or a desk of layers, has a count of its faults. The count never falls, and an answer that blames the thing
+-- comes only where the count rose in that call. A real adapter counts in 64 bits and then stays at the last value,
+-- so that "rose" reads: rose, or stands at the last value.
+use Rattle.std.specs.Prelude.{ℕ, ◌+◌, ◌-◌, ◌^◌, ◌≤◌, Bool, true, false, min}
+
+-- the count rose, or stands at the last value of 64 bits
+abbrev pub Rose : ℕ → ℕ → Type 0
+Rose before now = min (before + 1) (2 ^ 64 - 1) ≤ now
+
+-- a failure is blamed only where the count rose
+abbrev pub BlamedOnly : Bool → ℕ → ℕ → Type 0
+BlamedOnly true before now = Rose before now
+BlamedOnly false _ _ = Unit {0}
+
+-- one call: the count does not fall, and where the answer blames the thing it rose
+pub record CausedBy (before now : ℕ) (blamed : Bool) : Type 0 where
+  pub later : before ≤ now
+  pub rose : BlamedOnly blamed before now

@@ -1,0 +1,149 @@
+ghost use Rattle.std.specs.Prelude.{◌≡◌};
+
+use std::alloc::AllocError;
+use std::cmp::Ordering;
+use std::marker::Model;
+
+/// A list that is made once and then read, seen as the list of its items.
+#[derive(Debug, Drop)]
+pub struct Seq<T> {
+    inner: Vec<T>,
+}
+
+impl<T> Model for Seq<T> {
+    ghost use Rattle.std.specs.Prelude.{List};
+
+    ghost Value = { List T };
+
+    ghost view = { λ s. s.inner.items };
+}
+
+impl<T> Seq<T> {
+    pub fn of(items: Vec<T>) -> Seq<T>
+        ensures { result ≡ items.items }
+    {
+        Seq { inner: items }
+    }
+
+    pub fn as_slice(&self) -> &[T]
+        ensures { result.now ≡ self.now }
+    {
+        self.inner.as_slice()
+    }
+
+    pub fn into_vec(self) -> Vec<T>
+        ensures { result.items ≡ self }
+    {
+        self.inner
+    }
+}
+
+/// Each item is a clone of its source.
+impl<T: Clone + Drop> Clone for Seq<T> {
+    ghost use Rattle.std.specs.List.{AllZip};
+
+    ghost is_clone = { AllZip T.is_clone };
+
+    fn clone(&self) -> Result<Seq<T>, AllocError> {
+        Ok(Seq {
+            inner: self.inner.clone()?,
+        })
+    }
+}
+
+impl<T: PartialEq> PartialEq for Seq<T> {
+    ghost use Rattle.std.specs.Cmp.Lexicographic.{pointwise, lists_per};
+
+    ghost eq = { pointwise T.eq };
+
+    ghost laws = { lists_per T.laws };
+
+    fn eq(&self, other: &Seq<T>) -> bool {
+        self.as_slice() == other.as_slice()
+    }
+}
+
+impl<T: Eq> Eq for Seq<T> {
+    ghost use Rattle.std.specs.Cmp.Lexicographic.{lists_equiv};
+
+    ghost laws = { lists_equiv T.Eq.laws };
+}
+
+impl<T: PartialOrd> PartialOrd for Seq<T> {
+    ghost use Rattle.std.specs.Cmp.Lexicographic.{slice_partial_cmp, lists_po};
+
+    ghost partial_cmp = { slice_partial_cmp T.partial_cmp };
+
+    ghost laws = { lists_po T.PartialOrd.laws };
+
+    fn partial_cmp(&self, other: &Seq<T>) -> Option<Ordering> {
+        self.as_slice().partial_cmp(other.as_slice())
+    }
+}
+
+/// The first pair of items that differ decides, and else the shorter list stands first.
+impl<T: Ord> Ord for Seq<T> {
+    ghost use Rattle.std.specs.Cmp.Lexicographic.{slice_cmp, lists_total, lists_agrees, lists_ties};
+
+    ghost cmp = { slice_cmp T.cmp };
+
+    ghost total = { lists_total T.total };
+
+    ghost matches_partial_cmp = { lists_agrees T.matches_partial_cmp };
+
+    ghost matches_eq = { lists_ties T.cmp T.matches_eq };
+
+    fn cmp(&self, other: &Seq<T>) -> Ordering {
+        self.as_slice().cmp(other.as_slice())
+    }
+}
+
+#[cfg(test)]
+mod tests {
+    use super::*;
+    use crate::text::Text;
+    use std::alloc::Global;
+    use std::test::Fail;
+
+    #[derive(Clone, Debug, PartialEq, Eq, PartialOrd, Ord, Drop)]
+    struct Range {
+        turns: Seq<Text>,
+    }
+
+    #[derive(Clone, Debug, PartialEq, Eq, PartialOrd, Ord, Drop)]
+    struct Affected {
+        ranges: Seq<Range>,
+        withdrawn: bool,
+    }
+
+    fn sent<T: Send + Sync>(value: T) -> T {
+        value
+    }
+
+    fn sample(alloc: Global, turn: &str) -> Result<Affected, Fail> {
+        let turns = Seq::of(vec![in alloc; Text::of(alloc, turn)?]?);
+        let ranges = Seq::of(vec![in alloc; Range { turns }]?);
+        Ok(Affected {
+            ranges,
+            withdrawn: false,
+        })
+    }
+
+    #[test]
+    fn a_list_is_kept(rt: HostRuntime) -> Result<(), Fail> {
+        let items = sent(Seq::of([1u8, 2].to_vec(rt.alloc())?));
+        assert_eq!(rt; items.as_slice(), [1u8, 2].as_slice());
+        assert_eq!(rt; items.into_vec().as_slice(), [1u8, 2].as_slice());
+        Ok(())
+    }
+
+    #[test]
+    fn lists_in_structs_are_copied_and_ordered(rt: HostRuntime) -> Result<(), Fail> {
+        let alloc = rt.alloc();
+        let first = sent(sample(alloc, "1.0")?);
+        let second = sample(alloc, "1.0.1")?;
+        assert_eq!(rt; first.clone()?, first);
+        assert!(rt; first < second);
+        Ok(())
+    }
+}
