@@ -1,0 +1,102 @@
+ghost use Rattle.std.specs.Prelude.{◌≡◌, IfNone, IfSome, true, [], ◌∷◌};
+ghost use Rattle.std.specs.Cmp.{IsTotalOrder};
+ghost use Rattle.cv_order.specs.Digits.{after_digits, front_digits, is_digit, number_cmp, run_cmp, without_zeros};
+
+use std::cmp::Ordering;
+
+const ZERO: u8 = b'0';
+
+/// What the fronts of two texts compare to, and what stands behind both fronts.
+#[derive(Clone, Copy)]
+pub struct Compared<'a> {
+    pub ordering: Ordering,
+    pub left: &'a [u8],
+    pub right: &'a [u8],
+}
+
+/// Any two runs of digits compare, and as numbers do: the order is transitive, the other way round it is the reverse, and
+/// runs that compare equal compare alike with every third. Leading zeros do not count, and no run is too long.
+pub fn number_order_laws()
+    ensures { IsTotalOrder number_cmp }
+{}
+
+/// The text without the zeros that lead it.
+pub fn significant(text: &[u8]) -> &[u8]
+    ensures { result.now ≡ without_zeros text.now }
+{
+    let mut left = text;
+    while let [byte, rest @ ..] = left {
+        if *byte != ZERO {
+            return left;
+        }
+        left = rest;
+    }
+    left
+}
+
+/// What stands behind the digits that lead the text.
+pub fn skip_digits(text: &[u8]) -> &[u8]
+    ensures { result.now ≡ after_digits text.now }
+{
+    let mut left = text;
+    while let Some((_, rest)) = split_digit(left) {
+        left = rest;
+    }
+    left
+}
+
+/// Compares the runs of digits that lead two texts, as numbers of any length. A text that no digit leads has the empty run,
+/// which is 0. Each byte is read at most twice.
+#[tactic(auto, using(crate::proofs::Runs::zeros))]
+pub fn compare_numbers<'a>(a: &'a [u8], b: &'a [u8]) -> Compared<'a>
+    ensures ordering { result.ordering ≡ number_cmp (front_digits a.now) (front_digits b.now) }
+    ensures left { result.left.now ≡ after_digits a.now }
+    ensures right { result.right.now ≡ after_digits b.now }
+{
+    compare_runs(significant(a), significant(b))
+}
+
+fn compare_runs<'a>(a: &'a [u8], b: &'a [u8]) -> Compared<'a>
+    ensures ordering { result.ordering ≡ run_cmp (front_digits a.now) (front_digits b.now) }
+    ensures left { result.left.now ≡ after_digits a.now }
+    ensures right { result.right.now ≡ after_digits b.now }
+{
+    let mut left = a;
+    let mut right = b;
+    let mut first = Ordering::Equal;
+    while let Some((x, xs)) = split_digit(left) {
+        let Some((y, ys)) = split_digit(right) else {
+            return Compared {
+                ordering: Ordering::Greater,
+                left: skip_digits(left),
+                right,
+            };
+        };
+        first = first.then(x.cmp(&y));
+        left = xs;
+        right = ys;
+    }
+    if split_digit(right).is_some() {
+        return Compared {
+            ordering: Ordering::Less,
+            left,
+            right: skip_digits(right),
+        };
+    }
+    Compared {
+        ordering: first,
+        left,
+        right,
+    }
+}
+
+/// The digit that leads the text, and what stands behind it.
+fn split_digit(text: &[u8]) -> Option<(u8, &[u8])>
+    ensures digit { IfSome result (λ found. (text.now ≡ found.0 ∷ found.1.now) × (is_digit found.0 ≡ true)) }
+    ensures none { IfNone result ((front_digits text.now ≡ []) × (after_digits text.now ≡ text.now)) }
+{
+    match text {
+        [byte, rest @ ..] if byte.is_ascii_digit() => Some((*byte, rest)),
+        _ => None,
+    }
+}

@@ -1,0 +1,9 @@
+//! What the version orders are made of: runs of decimal digits of any length, compared as numbers, and lists compared place
+//! by place, the shorter one going on with a filler for ever. Nothing here takes memory.
+//!
+//! `compare_numbers(b"010-a", b"9+b")` is `Greater`, with the rests `-a` and `+b`.
+#![tactic(auto)]
+
+mod digits;
+
+pub use digits::{Compared, compare_numbers, number_order_laws, significant, skip_digits};
