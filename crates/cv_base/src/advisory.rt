@@ -1,0 +1,44 @@
+use crate::package::PackageName;
+use cv_seq::{Seq, Text};
+
+/// An event of a range, after the OSV schema: at this version the flaw comes in or is gone.
+#[derive(Clone, Debug, PartialEq, Eq, PartialOrd, Ord, Drop)]
+pub enum Turn {
+    Introduced(Text),
+    Fixed(Text),
+    LastAffected(Text),
+    Limit(Text),
+}
+
+/// The order of a range's versions, after the OSV schema: the ecosystem's own, or that of semantic
+/// versions. Every other type is `Other`, and nothing is within such a range.
+#[derive(Clone, Copy, Debug, PartialEq, Eq, PartialOrd, Ord)]
+pub enum RangeKind {
+    Ecosystem,
+    Semver,
+    Other,
+}
+
+/// A range of versions, told by its events.
+#[derive(Clone, Debug, PartialEq, Eq, PartialOrd, Ord, Drop)]
+pub struct Range {
+    pub kind: RangeKind,
+    pub turns: Seq<Turn>,
+}
+
+/// One affected entry of an advisory: a package, with the versions that have the flaw.
+#[derive(Clone, Debug, PartialEq, Eq, PartialOrd, Ord, Drop)]
+pub struct Affected {
+    pub package: Option<PackageName>,
+    pub ranges: Seq<Range>,
+    pub versions: Seq<Text>,
+}
+
+/// A record of the OSV schema, less what no answer needs.
+#[derive(Clone, Debug, PartialEq, Eq, PartialOrd, Ord, Drop)]
+pub struct Advisory {
+    pub id: Text,
+    pub modified: Text,
+    pub withdrawn: bool,
+    pub affected: Seq<Affected>,
+}

@@ -1,0 +1,76 @@
+ghost use Rattle.std.specs.Prelude.{◌≡◌, IfOk, MatchResult, Some, None};
+ghost use Rattle.cv_base.specs.Digest.{digest_of, digest_text, is_lower_digit};
+
+use cv_seq::{NoMemory, Text};
+use std::alloc::Global;
+use std::marker::Model;
+
+/// The text is no digest: not `sha256:` and 64 digits of `0-9a-f`.
+#[derive(Clone, Copy, Debug, PartialEq, Eq)]
+pub struct BadDigest;
+
+/// The SHA-256 digest of an image or a layer, after the OCI image specification. Contracts see it as
+/// its 32 bytes, and digests are ordered by them.
+#[derive(Clone, Copy, Debug, PartialEq, Eq, PartialOrd, Ord)]
+pub struct Digest {
+    inner: [u8; 32],
+}
+
+impl Model for Digest {
+    ghost use Rattle.std.specs.Prelude.{ℕ, List};
+
+    ghost Value = { List ℕ };
+
+    ghost view = { λ d. d.inner };
+
+    ghost inverse = { λ d. record { inner = d } };
+}
+
+impl Digest {
+    /// The digest of these 32 bytes.
+    pub fn of(bytes: [u8; 32]) -> Digest
+        ensures { result ≡ bytes }
+    {
+        Digest { inner: bytes }
+    }
+
+    /// The 32 bytes.
+    pub fn bytes(&self) -> [u8; 32]
+        ensures { result ≡ self.now }
+    {
+        self.inner
+    }
+
+    /// Reads `sha256:` and 64 digits of `0-9a-f`. Every other text is refused.
+    pub fn read(text: &[u8]) -> Result<Digest, BadDigest>
+        ensures { MatchResult result (λ d. digest_of text.now ≡ Some d) (λ _. digest_of text.now ≡ None) }
+    {
+        let Some(digits) = text.strip_prefix(b"sha256:") else {
+            return Err(BadDigest);
+        };
+        if !digits.iter().all(|digit| is_lower_digit(*digit)) {
+            return Err(BadDigest);
+        }
+        let mut inner = [0u8; 32];
+        match hex::decode_to_slice(digits, &mut inner) {
+            Ok(()) => Ok(Digest { inner }),
+            Err(_) => Err(BadDigest),
+        }
+    }
+
+    /// `sha256:` and the 64 digits.
+    pub fn text(&self, alloc: Global) -> Result<Text, NoMemory>
+        ensures { IfOk result (λ text. text ≡ digest_text self.now) }
+    {
+        let mut text = String::from_str(alloc, "sha256:")?;
+        text.push_str(hex::encode(alloc, self.inner)?.as_str())?;
+        Text::of(alloc, text.as_str())
+    }
+}
+
+/// Whether a byte is a digit of `0-9a-f`.
+fn is_lower_digit(byte: u8) -> bool
+    ensures { result ≡ is_lower_digit byte }
+{
+    byte.is_ascii_digit() || (b'a'..=b'f').contains(&byte)
+}

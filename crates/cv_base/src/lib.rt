@@ -1,0 +1,24 @@
+//! The plain data of cvwatch: digests, paths of layers, trees, packages, advisories and findings.
+//!
+//! ```text
+//! let path = RelPath::read(alloc, "var/lib/dpkg/status")?;
+//! assert_eq!(place_of(&path), Some(Place::Status));
+//! ```
+#![tactic(auto)]
+
+mod advisory;
+mod digest;
+mod finding;
+mod manifest;
+mod package;
+mod path;
+mod tree;
+
+pub use advisory::{Advisory, Affected, Range, RangeKind, Turn};
+pub use cv_seq::{NoMemory, Seq, Text};
+pub use digest::{BadDigest, Digest};
+pub use finding::{Finding, Reason, Row};
+pub use manifest::Manifest;
+pub use package::{Package, PackageKind, PackageName};
+pub use path::{MAX_PATH_LEN, PathError, RelPath};
+pub use tree::{Content, Kind, ListEntry, Node, PACKAGE_FILE_LIMIT, Tree, TreeEntry};
