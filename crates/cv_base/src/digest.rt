@@ -2,6 +2,7 @@ ghost use Rattle.std.specs.Prelude.{◌≡◌, IfOk, MatchResult, Some, None};
 ghost use Rattle.cv_base.specs.Digest.{digest_of, digest_text, is_lower_digit};
 
 use cv_seq::{NoMemory, Text};
+use hex::FromHex;
 use std::alloc::Global;
 use std::marker::Model;
 
@@ -51,9 +52,8 @@ impl Digest {
         if !digits.iter().all(|digit| is_lower_digit(*digit)) {
             return Err(BadDigest);
         }
-        let mut inner = [0u8; 32];
-        match hex::decode_to_slice(digits, &mut inner) {
-            Ok(()) => Ok(Digest { inner }),
+        match <[u8; 32] as FromHex>::from_hex(digits) {
+            Ok(inner) => Ok(Digest { inner }),
             Err(_) => Err(BadDigest),
         }
     }

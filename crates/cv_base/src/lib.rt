@@ -8,6 +8,7 @@
 
 mod advisory;
 mod digest;
+mod fault;
 mod finding;
 mod manifest;
 mod package;
@@ -17,6 +18,7 @@ mod tree;
 pub use advisory::{Advisory, Affected, Range, RangeKind, Turn};
 pub use cv_seq::{NoMemory, Seq, Text};
 pub use digest::{BadDigest, Digest};
+pub use fault::{FileBad, ReadBad, What};
 pub use finding::{Finding, Reason, Row};
 pub use manifest::Manifest;
 pub use package::{Package, PackageKind, PackageName};

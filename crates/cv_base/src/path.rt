@@ -78,7 +78,7 @@ impl RelPath {
         if text.len() > MAX_PATH_LEN {
             return Err(PathError::TooLong);
         }
-        if !are_components(text.as_bytes()) {
+        if !are_components(text) {
             return Err(PathError::BadComponent);
         }
         Ok(RelPath {
@@ -124,10 +124,10 @@ fn is_above_text(upper: &[u8], lower: &[u8]) -> bool
 }
 
 /// Whether a text is components with slashes between them.
-fn are_components(text: &[u8]) -> bool
+fn are_components(text: &str) -> bool
     ensures { result ≡ list_all is_component (slice_split is_slash text.now) }
 {
-    text.split(|byte| *byte == b'/').all(|component| is_component(component))
+    text.split('/').all(|component| is_component(component.as_bytes()))
 }
 
 /// Whether a text may stand between two slashes.
