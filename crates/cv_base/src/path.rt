@@ -101,7 +101,7 @@ impl RelPath {
     }
 
     /// The text, with what the order rests on.
-    fn plain_text(&self) -> &str
+    pub(crate) fn plain_text(&self) -> &str
         ensures parts { components result.now ≡ self.now }
         ensures plain { HasNoNul result.now }
     {
