@@ -9,6 +9,7 @@
 #![tactic(auto)]
 
 mod calm;
+mod chunk;
 mod copies;
 mod fault;
 mod line;
