@@ -1,4 +1,5 @@
 pub mod Fault
+pub mod Gather
 pub mod Lines
 pub mod Reader
 pub mod Takes

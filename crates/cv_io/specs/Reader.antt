@@ -84,6 +84,7 @@ pub record Step (before now : Reader) (left left_now : Option (List ℕ)) (answe
   pub bytes : List ℕ
   pub takes : Takes before.held bytes (progress_of before) (progress_of now) left left_now
   pub within : now.taken ≤ now.max_input
+  pub before_limit : now.ended ≡ true → now.taken < now.max_input
   pub answers : Answers bytes now answer
 
 -- ---- over the whole input, where the source tells its bytes
