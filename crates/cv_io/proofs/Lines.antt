@@ -76,8 +76,8 @@ nat_le-yes m n h = grind (arith, nat_tests)
 nat_le-alike : (a b m n k : ℕ) → a ≡ k + m → b ≡ k + n → nat_le a b ≡ nat_le m n
 nat_le-alike a b m n k e f =
     elim (cases_lt n m) [
-      inl h ↦ nat_le-no a b (omega arith) ∙ sym (nat_le-no m n h)
-    | inr h ↦ nat_le-yes a b (omega arith) ∙ sym (nat_le-yes m n h)
+      | inl h ↦ nat_le-no a b (omega arith) ∙ sym (nat_le-no m n h)
+      | inr h ↦ nat_le-yes a b (omega arith) ∙ sym (nat_le-yes m n h)
     ]
 
 -- a line that is short enough, and then the reading of the rest
@@ -103,9 +103,9 @@ unfolding reading_of
 reading_of-line max_line room piece rest h short =
     let more : length piece + 1 + room ≡ length piece + suc room = omega arith in
     let seen : take (length piece + 1 + room) (piece ++ LF ∷ rest) ≡ piece ++ LF ∷ take room rest =
-        ap (λ n. take n (piece ++ LF ∷ rest)) more ∙ take-append-add piece (LF ∷ rest) (suc room) in
+    ap (λ n. take n (piece ++ LF ∷ rest)) more ∙ take-append-add piece (LF ∷ rest) (suc room) in
     let cut : nat_le (length piece + 1 + room) (length (piece ++ LF ∷ rest)) ≡ nat_le room (length rest) =
-        nat_le-alike _ _ room (length rest) (length piece + 1) refl (omega (arith, length-append piece (LF ∷ rest))) in
+    nat_le-alike _ _ room (length rest) (length piece + 1) refl (omega (arith, length-append piece (LF ∷ rest))) in
     (λ i. reading_from max_line (cut i) (slice_split is_line_end (seen i)))
     ∙ ap (reading_from max_line (nat_le room (length rest))) (slice_split_at is_line_end piece LF (take room rest) h refl)
     ∙ reading_from-cons max_line (nat_le room (length rest)) piece (take room rest) short (split_first (take room rest))
@@ -132,7 +132,7 @@ unfolding reading_of
 reading_of-long_line max_line room front rest h long fits =
     let more : room ≡ length front + (room - length front) = omega arith in
     let seen : take room (front ++ rest) ≡ front ++ take (room - length front) rest =
-        ap (λ n. take n (front ++ rest)) more ∙ take-append-add front rest (room - length front) in
+    ap (λ n. take n (front ++ rest)) more ∙ take-append-add front rest (room - length front) in
     let pieces = split_front front (take (room - length front) rest) h in
     let is_cut = nat_le room (length (front ++ rest)) in
     ap (λ v. reading_from max_line is_cut (slice_split is_line_end v)) seen

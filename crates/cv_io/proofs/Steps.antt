@@ -89,37 +89,34 @@ module _ (before now : Reader) (l m : Option (List ℕ)) (bytes : List ℕ)
       at_line : (line : List ℕ) → IsFirstLine bytes line now → (reads whole ≡ line_then line reads_now) × (lines_of whole ≡ line ∷ lines_of (now.held ++ t.tail))
       at_line line x =
           elim x.rest [
-            inl e ↦
-              (let parts : whole ≡ x.piece ++ LF ∷ (now.held ++ t.tail) = t.old ∙ ap (λ v. v ++ t.tail) e ∙ append_assoc x.piece (LF ∷ now.held) t.tail in
-              let room : length bytes + (now.max_input - now.taken) ≡ length x.piece + 1 + room_of now = omega (arith, ap length e, length-append x.piece (LF ∷ now.held)) in
-              (
-                reading_before whole ∙ (λ i. reading_of now.max_line (room i) (parts i))
-                ∙ reading_of-line now.max_line (room_of now) x.piece (now.held ++ t.tail) x.whole x.short
-                ∙ ap (λ v. line_then v reads_now) (sym x.text),
-                ap lines_of parts ∙ lines_of-line x.piece (now.held ++ t.tail) x.whole ∙ ap (λ v. v ∷ lines_of (now.held ++ t.tail)) (sym x.text),
-              ))
-          | inr e ↦
-              (let over = all_held e.2 e.3 in
-              let parts : whole ≡ x.piece = whole_held e.3 ∙ e.0 in
-              let less = before_limit e.3 in
-              let text = sym x.text in
-              let none = sym (ap lines_of over ∙ lines_of-nil) in
-              let ends = sym (ap (reading_of now.max_line (room_of now)) over ∙ reading_of-nil now.max_line (room_of now) (omega (arith, less))) in
-              (
-                reading_before whole ∙ ap (reading_of now.max_line (length bytes + (now.max_input - now.taken))) parts
-                ∙ reading_of-last now.max_line (length bytes + (now.max_input - now.taken)) x.piece x.whole x.short e.1 (omega (arith, ap length e.0, less))
-                ∙ (λ i. line_then (text i) (ends i)),
-                ap lines_of parts ∙ lines_of-last x.piece x.whole e.1 ∙ (λ i. text i ∷ none i),
-              ))
+            | inl e ↦
+                (let parts : whole ≡ x.piece ++ LF ∷ (now.held ++ t.tail) = t.old ∙ ap (λ v. v ++ t.tail) e ∙ append_assoc x.piece (LF ∷ now.held) t.tail in
+                let room : length bytes + (now.max_input - now.taken) ≡ length x.piece + 1 + room_of now = omega (arith, ap length e, length-append x.piece (LF ∷ now.held)) in (
+                  reading_before whole ∙ (λ i. reading_of now.max_line (room i) (parts i))
+                      ∙ reading_of-line now.max_line (room_of now) x.piece (now.held ++ t.tail) x.whole x.short
+                      ∙ ap (λ v. line_then v reads_now) (sym x.text),
+                  ap lines_of parts ∙ lines_of-line x.piece (now.held ++ t.tail) x.whole ∙ ap (λ v. v ∷ lines_of (now.held ++ t.tail)) (sym x.text),
+                ))
+            | inr e ↦
+                (let over = all_held e.2 e.3 in
+                let parts : whole ≡ x.piece = whole_held e.3 ∙ e.0 in
+                let less = before_limit e.3 in
+                let text = sym x.text in
+                let none = sym (ap lines_of over ∙ lines_of-nil) in
+                let ends = sym (ap (reading_of now.max_line (room_of now)) over ∙ reading_of-nil now.max_line (room_of now) (omega (arith, less))) in (
+                  reading_before whole ∙ ap (reading_of now.max_line (length bytes + (now.max_input - now.taken))) parts
+                      ∙ reading_of-last now.max_line (length bytes + (now.max_input - now.taken)) x.piece x.whole x.short e.1 (omega (arith, ap length e.0, less))
+                      ∙ (λ i. line_then (text i) (ends i)),
+                  ap lines_of parts ∙ lines_of-last x.piece x.whole e.1 ∙ (λ i. text i ∷ none i),
+                ))
           ]
 
       at_end : IsOver bytes now → (reads whole ≡ stopped Finished) × (whole ≡ []) × (now.held ++ t.tail ≡ [])
       at_end x =
           let none : whole ≡ [] = whole_held x.ended ∙ x.none in
-          let less = before_limit x.ended in
-          (
+          let less = before_limit x.ended in (
             reading_before whole ∙ ap (reading_of now.max_line (length bytes + (now.max_input - now.taken))) none
-            ∙ reading_of-nil now.max_line (length bytes + (now.max_input - now.taken)) (omega (arith, less)),
+                ∙ reading_of-nil now.max_line (length bytes + (now.max_input - now.taken)) (omega (arith, less)),
             none,
             all_held x.held x.ended,
           )
@@ -134,7 +131,7 @@ module _ (before now : Reader) (l m : Option (List ℕ)) (bytes : List ℕ)
       at_long_line x =
           let front = take (now.max_line + 1) bytes in
           let parts : whole ≡ front ++ (drop (now.max_line + 1) bytes ++ t.tail) =
-              t.old ∙ ap (λ v. v ++ t.tail) (sym (take-append-drop (now.max_line + 1) bytes)) ∙ append_assoc front (drop (now.max_line + 1) bytes) t.tail in
+          t.old ∙ ap (λ v. v ++ t.tail) (sym (take-append-drop (now.max_line + 1) bytes)) ∙ append_assoc front (drop (now.max_line + 1) bytes) t.tail in
           let long : length front ≡ now.max_line + 1 = length-take-le (now.max_line + 1) bytes (omega (arith, x.long)) in
           reading_before whole ∙ ap (reading_of now.max_line (length bytes + (now.max_input - now.taken))) parts
           ∙ reading_of-long_line now.max_line (length bytes + (now.max_input - now.taken)) front (drop (now.max_line + 1) bytes ++ t.tail) x.whole (omega (arith, long)) (omega (arith, long, x.long))
@@ -164,6 +161,7 @@ module _ (before now : Reader) (l m : Option (List ℕ)) (lines : now.max_line �
     where
       t : Tail now.ended now.held m s.bytes whole
       t = tail_of before now l m s.bytes s.takes whole told
+
       by : (a : Result Line LineError) → Answers s.bytes now a → Reads (Some (reading_of before.max_line (room_of before) whole)) (Some (reading_of now.max_line (room_of now) (now.held ++ t.tail))) a
       by (Ok (Text line)) x = (at_line before now l m s.bytes s.takes lines inputs s.within s.before_limit whole t line x).0
       by (Ok End) x = (at_end before now l m s.bytes s.takes lines inputs s.within s.before_limit whole t x).0
@@ -177,8 +175,10 @@ module _ (before now : Reader) (l m : Option (List ℕ)) (lines : now.max_line �
     where
       t : Tail now.ended now.held m s.bytes whole
       t = tail_of before now l m s.bytes s.takes whole told
+
       kept : now.held ≡ s.bytes → Some (now.held ++ t.tail) ≡ Some whole
       kept h = ap Some (same_held before now l m s.bytes s.takes lines inputs s.within s.before_limit whole t h)
+
       by : (a : Result Line LineError) → Answers s.bytes now a → Gives (Some whole) (Some (now.held ++ t.tail)) a
       by (Ok (Text line)) x = (at_line before now l m s.bytes s.takes lines inputs s.within s.before_limit whole t line x).1
       by (Ok End) x =

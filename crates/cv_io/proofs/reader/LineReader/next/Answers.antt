@@ -8,7 +8,7 @@ returns-clause-reads g c =
     let is = c.is_err-self-inside.result in
     let done = c.next_line-answer in
     rw (← c.self.view_is) (reads_law (reader_of c.self.inside.gather was) (reader_of done.new.self is) (g.S.Source.left c.args.input.now) (g.S.Source.left done.new.input)
-        done.ensures.limits.max_line done.ensures.limits.max_input done.result (done.ensures.step was is))
+    done.ensures.limits.max_line done.ensures.limits.max_input done.result (done.ensures.step was is))
 
 pub returns-clause-gives : goal.returns-clause-gives
 returns-clause-gives g c =
@@ -16,4 +16,4 @@ returns-clause-gives g c =
     let is = c.is_err-self-inside.result in
     let done = c.next_line-answer in
     rw (← c.self.view_is) (gives_law (reader_of c.self.inside.gather was) (reader_of done.new.self is) (g.S.Source.left c.args.input.now) (g.S.Source.left done.new.input)
-        done.ensures.limits.max_line done.ensures.limits.max_input done.result (done.ensures.step was is))
+    done.ensures.limits.max_line done.ensures.limits.max_input done.result (done.ensures.step was is))
