@@ -1,7 +1,7 @@
 -- How bytes are cut into lines, and how far a reader with limits comes (cvwatch's own). A line ends at an LF, and one CR
 -- before the LF is no part of its text. What stands after the last LF is a line where it is not empty, and loses one
 -- CR at its end too. So a last piece that is only a CR is an empty line.
-use Rattle.std.specs.Prelude.{◌≡◌, ℕ, ◌+◌, ◌-◌, ◌==◌, nat_lt, nat_le, Bool, true, false, if◌then◌else◌, List, [], ◌∷◌, length, take, slice_index}
+use Rattle.std.specs.Prelude.{◌≡◌, ℕ, ◌+◌, ◌-◌, ◌==◌, nat_lt, nat_le, Bool, true, false, if◌then◌else◌, List, [], ◌∷◌, ◌++◌, length, take, slice_index}
 use Rattle.std.specs.List.{All, slice_split}
 
 -- line feed
@@ -64,6 +64,10 @@ stopped stop = record { lines = []; stop = stop }
 -- a line, and then the reading of the rest
 abbrev pub line_then : List ℕ → Reading → Reading
 line_then line rest = record { lines = line ∷ rest.lines; stop = rest.stop }
+
+-- lines, and then the reading of the rest
+abbrev pub lines_then : List (List ℕ) → Reading → Reading
+lines_then lines rest = record { lines = lines ++ rest.lines; stop = rest.stop }
 
 -- the reading of the pieces of what may be taken; `is_cut` tells that there is more than may be taken
 abbrev pub reading_from : ℕ → Bool → List (List ℕ) → Reading

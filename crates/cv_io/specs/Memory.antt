@@ -3,6 +3,11 @@
 use Rattle.std.specs.Prelude.{ℕ, ◌+◌, ◌-◌, ◌^◌, ◌==◌, min, Bool, List}
 use Rattle.std.specs.List.{list_any}
 
+-- a source or a sink in memory that never fails: the bytes that are left or were written, and the most that one call moves
+pub record Pieces : Type 0 where
+  pub bytes : List ℕ
+  pub piece : ℕ
+
 -- a source in memory
 pub record Supply : Type 0 where
   pub left : List ℕ
