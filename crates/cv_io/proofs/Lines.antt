@@ -11,10 +11,10 @@ use Rattle.std.proofs.lemmas.List.Splits.{slice_split_none, slice_split_at, slic
 use Rattle.cv_io.specs.Lines.{LF, is_line_end, HasNoLineEnd, text_of, pieces_of, last_lines, lines_from, lines_of, Stop, Finished, LongLine, LongInput, Reading, stopped, line_then, reading_from, reading_of}
 
 -- the pieces: the first one, and the later ones
-record Pieces (front ys : List ℕ) : Type 0 where
-  rest : List ℕ
-  later : List (List ℕ)
-  are : slice_split is_line_end (front ++ ys) ≡ (front ++ rest) ∷ later
+pub record Pieces (front ys : List ℕ) : Type 0 where
+  pub rest : List ℕ
+  pub later : List (List ℕ)
+  pub are : slice_split is_line_end (front ++ ys) ≡ (front ++ rest) ∷ later
 
 pieces_under : (x : ℕ) (xs ys : List ℕ) → Pieces xs ys → is_line_end x ≡ false → Pieces (x ∷ xs) ys
 pieces_under x xs ys p e = record {
@@ -23,7 +23,7 @@ pieces_under x xs ys p e = record {
   are = slice_split-cons_no is_line_end x (xs ++ ys) e ∙ ap (onto_first x) p.are;
 }
 
-split_first : (ys : List ℕ) → Pieces [] ys
+pub split_first : (ys : List ℕ) → Pieces [] ys
 split_first [] = record { rest = []; later = []; are = refl }
 split_first (y ∷ ys) = by (is_line_end y) refl (split_first ys)
   where
@@ -69,7 +69,7 @@ nat_lt-yes m n h = grind (arith, nat_tests)
 nat_le-no : (m n : ℕ) → n < m → nat_le m n ≡ false
 nat_le-no m n h = grind (arith, nat_tests)
 
-nat_le-yes : (m n : ℕ) → m ≤ n → nat_le m n ≡ true
+pub nat_le-yes : (m n : ℕ) → m ≤ n → nat_le m n ≡ true
 nat_le-yes m n h = grind (arith, nat_tests)
 
 -- the same comparison of two numbers that are both larger by k

@@ -1,6 +1,7 @@
-ghost use Rattle.std.specs.Prelude.{◌≡◌, IfOk, false, is_err};
+ghost use Rattle.std.specs.Prelude.{◌≡◌, ℕ, List, IfOk, false, is_err};
 ghost use Rattle.cv_seq.specs.Cause.{CausedBy};
 ghost use Rattle.cv_io.specs.Fault.{is_read_fault};
+ghost use Rattle.cv_io.specs.Lines.{Finished, lines_of, reading_of};
 ghost use Rattle.cv_io.specs.Reader.{Step, Reads, Gives, reading, ungiven, new_reader};
 
 use crate::gather::Gather;
@@ -18,6 +19,7 @@ pub struct LineReader {
 }
 
 impl Model for LineReader {
+    ghost use Rattle.cv_io.specs.Lines.{Finished, lines_of, reading_of};
     ghost use Rattle.cv_io.specs.Reader.{Reader};
     ghost use Rattle.cv_io.specs.Gather.{reader_of};
 
@@ -29,8 +31,11 @@ impl Model for LineReader {
 impl LineReader {
     /// A line may have `max_line` bytes before its LF, its CR among them, and the input fewer than
     /// `max_input` bytes. More than `max_input` bytes are never taken from the source.
+    #[tactic(auto, using(crate::proofs::Readings::reading_finished))]
     pub fn new(alloc: Global, max_line: usize, max_input: u64) -> Result<LineReader, NoMemory>
-        ensures { IfOk result (λ r. r ≡ new_reader max_line max_input) }
+        ensures value { IfOk result (λ r. r ≡ new_reader max_line max_input) }
+        ensures whole { (bytes : List ℕ) → (reading_of max_line max_input bytes).stop ≡ Finished →
+            (reading_of max_line max_input bytes).lines ≡ lines_of bytes }
     {
         Ok(LineReader {
             gather: Gather::new(alloc, max_line, max_input)?,
