@@ -1,6 +1,6 @@
 -- What one call of `next` means for the whole input, where the source tells its bytes.
-use Rattle.std.proofs.Common.{◌≡◌, ℕ, ◌+◌, ◌-◌, ◌<◌, ◌≤◌, List, [], ◌∷◌, ◌++◌, length, take, drop, refl, sym, ◌∙◌, ap, subst, arith, append_assoc, append-nil, length-append, length-take-le, take-append-drop, inl, inr, Bool, true, false}
-use Rattle.std.specs.Prelude.{Option, None, Some, Result, Ok, Err, if◌then◌else◌}
+use Rattle.std.proofs.Common.{◌≡◌, ℕ, ◌+◌, ◌-◌, ◌<◌, ◌≤◌, List, [], ◌∷◌, ◌++◌, length, take, drop, refl, sym, ◌∙◌, ap, subst, arith, append_assoc, append-nil, length-append, length-take, length-take-le, take-append-drop, inl, inr, Bool, true, false}
+use Rattle.std.specs.Prelude.{Option, None, Some, Result, Ok, Err, if◌then◌else◌, slice_index, ◌==◌}
 use Rattle.std.specs.Option.{option_map}
 use Rattle.std.specs.Io.KnownBytes.{Consumes, IsAtEnd, prepend_known}
 use Rattle.std.proofs.lemmas.Bool.{false≢true}
@@ -8,9 +8,9 @@ use Rattle.cv_io.specs.declared.line.Line.{Line}
 use Rattle.cv_io.specs.declared.line.Line.TheVariants.{Text, End}
 use Rattle.cv_io.specs.declared.line.LineError.{LineError}
 use Rattle.cv_io.specs.declared.line.LineError.TheVariants.{ReadFault, LineTooLong, InputTooLong, NoMemory}
-use Rattle.cv_io.specs.Lines.{LF, HasNoLineEnd, text_of, lines_of, Reading, Finished, LongLine, LongInput, stopped, line_then, reading_of}
+use Rattle.cv_io.specs.Lines.{LF, CR, HasNoLineEnd, text_of, lines_of, Reading, Finished, LongLine, LongInput, stopped, line_then, reading_of}
 use Rattle.cv_io.specs.Takes.{Takes}
-use Rattle.cv_io.specs.Reader.{Reader, progress_of, ungiven, room_of, reading, IsFirstLine, IsOver, PassesLine, IsUnfinished, Answers, Step, Reads, Gives}
+use Rattle.cv_io.specs.Reader.{Reader, progress_of, ungiven, room_of, reading, IsFirstLine, IsOver, PassesLine, IsUnfinished, Answers, Step, Reads, Gives, Narrows}
 use Rattle.cv_io.proofs.Lines.{lines_of-line, lines_of-nil, lines_of-last, reading_of-line, reading_of-nil, reading_of-last, reading_of-long_line, reading_of-long_input}
 
 -- what the source has left behind the bytes taken
@@ -141,6 +141,22 @@ module _ (before now : Reader) (l m : Option (List ℕ)) (bytes : List ℕ)
           reading_before whole ∙ ap (reading_of now.max_line (length bytes + (now.max_input - now.taken))) t.old
           ∙ reading_of-long_input now.max_line (length bytes + (now.max_input - now.taken)) bytes t.tail x.whole x.short (omega (arith, e))
 
+    shorter : (piece : List ℕ) → length (text_of piece) ≤ length piece
+    shorter piece = by (slice_index piece (length piece - 1) == CR)
+      where
+        by : (b : Bool) → length (if b then take (length piece - 1) piece else piece) ≤ length piece
+        by true = omega (arith, length-take (length piece - 1) piece)
+        by false = omega arith
+
+    narrower : (line : List ℕ) → IsFirstLine bytes line now → (room_of now < room_of before) × (room_of now + length line ≤ room_of before)
+    narrower line x =
+        let short : length line ≤ length x.piece = rw x.text (shorter x.piece) in
+        let room = room_before in
+        elim x.rest [
+          | inl e ↦ (let long = ap length e ∙ length-append x.piece (LF ∷ now.held) in (omega arith, omega arith))
+          | inr e ↦ (let long = ap length e.0 in let none = ap length e.2 in let some = e.1 in (omega arith, omega arith))
+        ]
+
 -- where the source tells nothing, nothing is said
 reads_untold : (answer : Result Line LineError) (v : Option Reading) → Reads None v answer
 reads_untold (Ok (Text line)) v = tt
@@ -204,3 +220,12 @@ module _ (before now : Reader) (l m : Option (List ℕ)) (lines : now.max_line �
       by : (u : Option (List ℕ)) → ungiven before l ≡ u → Gives u (ungiven now m) answer
       by None e = gives_untold answer (ungiven now m)
       by (Some whole) e = told_gives answer s whole e
+
+  -- each line takes of the room
+  pub narrows_law : (answer : Result Line LineError) → Step before now l m answer → Narrows before now answer
+  narrows_law answer s = by answer s.answers
+    where
+      by : (a : Result Line LineError) → Answers s.bytes now a → Narrows before now a
+      by (Ok (Text line)) x = narrower before now l m s.bytes s.takes lines inputs s.within line x
+      by (Ok End) x = tt
+      by (Err error) x = tt

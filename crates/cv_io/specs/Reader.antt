@@ -103,3 +103,9 @@ abbrev pub Gives : Option (List ℕ) → Option (List ℕ) → Result Line LineE
 Gives before now (Ok (Text line)) = IfSome before (λ bytes. IsSomeAnd now (λ rest. lines_of bytes ≡ line ∷ lines_of rest))
 Gives before now (Ok End) = IfSome before (λ bytes. (bytes ≡ []) × (now ≡ Some []))
 Gives before now (Err error) = IfSome before (λ bytes. now ≡ Some bytes)
+
+-- each line takes of the room: at least one byte, and its text
+abbrev pub Narrows : Reader → Reader → Result Line LineError → Type 0
+Narrows before now (Ok (Text line)) = (room_of now < room_of before) × (room_of now + length line ≤ room_of before)
+Narrows before now (Ok End) = Unit {0}
+Narrows before now (Err error) = Unit {0}
