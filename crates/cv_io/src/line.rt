@@ -24,6 +24,11 @@ pub enum LineError {
 }
 
 impl From<NoMemory> for LineError {
+    ghost use Rattle.std.specs.Prelude.{◌≡◌};
+    ghost use Rattle.cv_io.specs.declared.line.LineError.TheVariants as error;
+
+    ghost from_gives = { λ _ e. e ≡ error.NoMemory };
+
     fn from(_error: NoMemory) -> LineError {
         LineError::NoMemory
     }

@@ -19,17 +19,13 @@ pub enum WriteError {
 }
 
 impl From<NoMemory> for WriteError {
+    ghost use Rattle.std.specs.Prelude.{◌≡◌};
+    ghost use Rattle.cv_io.specs.declared.write.WriteError.TheVariants as error;
+
+    ghost from_gives = { λ _ e. e ≡ error.NoMemory };
+
     fn from(_error: NoMemory) -> WriteError {
         WriteError::NoMemory
-    }
-}
-
-impl From<IoFault> for WriteError {
-    fn from(fault: IoFault) -> WriteError {
-        match fault {
-            IoFault::Failed => WriteError::WriteFault,
-            IoFault::NoMemory => WriteError::NoMemory,
-        }
     }
 }
 
