@@ -100,3 +100,12 @@ fn split_digit(text: &[u8]) -> Option<(u8, &[u8])>
         _ => None,
     }
 }
+
+/// Compares two whole runs of digits as numbers of any length; the empty run is 0.
+pub fn compare_digits(a: &[u8], b: &[u8]) -> Ordering
+    ensures { result ≡ number_cmp a.now b.now }
+{
+    let left = significant(a);
+    let right = significant(b);
+    left.len().cmp(&right.len()).then_with(|| left.cmp(right))
+}
