@@ -1,15 +1,14 @@
 -- Which texts are versions, after Debian Policy 5.6.12, but for one choice of cvwatch's own: a text with a colon in its
 -- upstream version is no version.
-use Rattle.std.specs.Prelude.{ℕ, Bool, not, ◌&&◌, ◌||◌, List, [], ◌∷◌, codes, ◌==◌, false, true}
-use Rattle.std.specs.List.{list_all, list_any}
+use Rattle.std.specs.Prelude.{ℕ, Bool, ◌&&◌, ◌||◌, List, length, nat_lt, ◌==◌}
+use Rattle.std.specs.List.{list_all}
 use Rattle.std.specs.Char.{is_ascii_alphanumeric}
 use Rattle.cv_order.specs.Digits.{is_digit}
 use Rattle.cv_debver.specs.Version.{Version, version_of}
 
 -- one or more bytes, each of which passes
 abbrev pub one_or_more : (ℕ → Bool) → List ℕ → Bool
-one_or_more test [] = false
-one_or_more test (x ∷ xs) = list_all test (x ∷ xs)
+one_or_more test bytes = nat_lt 0 (length bytes) && list_all test bytes
 
 -- letters, digits and `.`, `+`, `~`
 abbrev pub is_revision_byte : ℕ → Bool
@@ -17,7 +16,7 @@ is_revision_byte byte = is_ascii_alphanumeric byte || byte == 46 || byte == 43 |
 
 -- those and `-`
 abbrev pub is_upstream_byte : ℕ → Bool
-is_upstream_byte byte = is_revision_byte byte || byte == 45
+is_upstream_byte byte = byte == 45 || is_revision_byte byte
 
 -- the epoch is one or more digits, and upstream and revision are one or more of their bytes; an absent epoch and an absent
 -- revision are `0`

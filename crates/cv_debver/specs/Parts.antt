@@ -13,26 +13,33 @@ pub data Pair : Type 0 where
   of : List ℕ → List ℕ → Pair
 
 abbrev pub word : Pair → List ℕ
-word (of letters run) = letters
+word (of letters figures) = letters
 
-abbrev pub run : Pair → List ℕ
-run (of letters run) = run
+abbrev pub number : Pair → List ℕ
+number (of letters figures) = figures
 
 -- the pairs of a text with one more byte before them: a digit begins a run of digits, if it meets none
 abbrev pub digit_onto : ℕ → List Pair → List Pair
 digit_onto digit [] = of [] (digit ∷ []) ∷ []
-digit_onto digit (of [] run ∷ rest) = of [] (digit ∷ run) ∷ rest
-digit_onto digit (of (letter ∷ letters) run ∷ rest) = of [] (digit ∷ []) ∷ of (letter ∷ letters) run ∷ rest
+digit_onto digit (of [] figures ∷ rest) = of [] (digit ∷ figures) ∷ rest
+digit_onto digit (of (letter ∷ letters) figures ∷ rest) = of [] (digit ∷ []) ∷ of (letter ∷ letters) figures ∷ rest
 
 -- any other byte begins the word of the first pair
 abbrev pub letter_onto : ℕ → List Pair → List Pair
 letter_onto letter [] = of (letter ∷ []) [] ∷ []
-letter_onto letter (of letters run ∷ rest) = of (letter ∷ letters) run ∷ rest
+letter_onto letter (of letters figures ∷ rest) = of (letter ∷ letters) figures ∷ rest
 
 -- the pairs of a text: each part is as long as it can be
 abbrev pub pairs : List ℕ → List Pair
 pairs [] = []
 pairs (byte ∷ rest) = if is_digit byte then digit_onto byte (pairs rest) else letter_onto byte (pairs rest)
+
+-- the word that a text begins with, which may be empty, and what stands behind it
+abbrev pub front_word : List ℕ → List ℕ
+front_word text = front_while (λ byte. not (is_digit byte)) text
+
+abbrev pub after_word : List ℕ → List ℕ
+after_word text = after_while (λ byte. not (is_digit byte)) text
 
 -- what a byte of a word weighs: `~`, which is 126, less than the word's end, the end less than a letter, a letter less than
 -- any other byte. Policy's numbers are -1, 0, the code and the code plus 256; here each is one higher, so that none is negative.
@@ -48,7 +55,7 @@ word_cmp = on (map weight_of) (filled_cmp nat_cmp end_weight)
 
 -- the word, then the digits as a number, of which an empty run is 0
 abbrev pub pair_cmp : Pair → Pair → Ordering
-pair_cmp = then_cmp (on word word_cmp) (on run number_cmp)
+pair_cmp = then_cmp (on word word_cmp) (on number number_cmp)
 
 -- the first pair that differs decides, the shorter list going on with empty pairs
 abbrev pub part_cmp : List ℕ → List ℕ → Ordering
@@ -58,7 +65,7 @@ pub word_total : IsTotalOrder word_cmp
 word_total = on_total (map weight_of) (filled_total end_weight nat_cmp_total)
 
 pub pair_total : IsTotalOrder pair_cmp
-pair_total = then_total (on_total word word_total) (on_total run number_total)
+pair_total = then_total (on_total word word_total) (on_total number number_total)
 
 pub part_total : IsTotalOrder part_cmp
 part_total = on_total pairs (filled_total (of [] []) pair_total)

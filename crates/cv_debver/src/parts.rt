@@ -1,16 +1,15 @@
 ghost use Rattle.std.specs.Prelude.{◌≡◌, ◌+◌, ◌<◌, ◌↔◌, not, IfNone, IfSome, IsTrue, false, [], ◌∷◌, length};
 ghost use Rattle.cv_order.specs.Digits.{is_digit};
-ghost use Rattle.cv_debver.specs.Parts.{part_cmp, weight_of, word_cmp};
-ghost use Rattle.cv_debver.proofs.Words.{after_word, front_word};
-
-use std::cmp::Ordering;
+ghost use Rattle.cv_debver.specs.Parts.{after_word, front_word, part_cmp, weight_of, word_cmp};
 
 use cv_order::{Compared, compare_numbers};
+use std::cmp::Ordering;
 
 /// What the end of a word weighs.
 const END: u16 = 1;
 
 /// Compares two upstream versions, or two revisions. Both are read once, front to back, up to the first difference.
+#[tactic(auto, using(crate::proofs::Pairs::rounds))]
 pub(crate) fn compare_parts(a: &[u8], b: &[u8]) -> Ordering
     ensures { result ≡ part_cmp a.now b.now }
 {
@@ -47,11 +46,19 @@ fn compare_words<'a>(a: &'a [u8], b: &'a [u8]) -> Compared<'a>
     let mut right = b;
     while let Some((x, xs)) = split_letter(left) {
         let Some((y, ys)) = split_letter(right) else {
-            return Compared { ordering: weight(x).cmp(&END), left, right };
+            return Compared {
+                ordering: weight(x).cmp(&END),
+                left,
+                right,
+            };
         };
         let ordering = weight(x).cmp(&weight(y));
         if ordering.is_ne() {
-            return Compared { ordering, left, right };
+            return Compared {
+                ordering,
+                left,
+                right,
+            };
         }
         left = xs;
         right = ys;
@@ -60,7 +67,11 @@ fn compare_words<'a>(a: &'a [u8], b: &'a [u8]) -> Compared<'a>
         Some((y, _)) => END.cmp(&weight(y)),
         None => Ordering::Equal,
     };
-    Compared { ordering, left, right }
+    Compared {
+        ordering,
+        left,
+        right,
+    }
 }
 
 /// The byte that leads the text, if it is no digit, and what stands behind it.

@@ -3,13 +3,12 @@ ghost use Rattle.std.specs.Cmp.{IsTotalOrder};
 ghost use Rattle.std.specs.List.{position};
 ghost use Rattle.cv_debver.specs.Version.{last_position, version_cmp, version_of, with_epoch};
 
+use crate::parts::compare_parts;
+use cv_order::compare_digits;
 use std::cmp::Ordering;
 
-use cv_order::compare_digits;
-
-use crate::parts::compare_parts;
-
 const COLON: u8 = b':';
+
 const HYPHEN: u8 = b'-';
 
 /// A text's parts: the epoch before the first colon, the revision behind the last hyphen, and the upstream version between
@@ -37,8 +36,7 @@ pub fn compare(a: &[u8], b: &[u8]) -> Ordering
 /// (`antisymm`); it is transitive (`trans`); and versions that compare equal compare alike with every third (`congr`).
 pub fn version_order_laws()
     ensures { IsTotalOrder version_cmp }
-{
-}
+{}
 
 pub(crate) fn split(text: &[u8]) -> Parts<'_>
     ensures epoch { result.epoch.now ≡ (version_of text.now).epoch }
@@ -57,8 +55,16 @@ fn split_body<'a>(epoch: &'a [u8], body: &'a [u8]) -> Parts<'a>
     ensures revision { result.revision.now ≡ (with_epoch epoch.now body.now).revision }
 {
     match find_last(body, HYPHEN) {
-        Some(at) => Parts { epoch, upstream: &body[..at], revision: &body[at + 1..] },
-        None => Parts { epoch, upstream: body, revision: b"0" },
+        Some(at) => Parts {
+            epoch,
+            upstream: &body[..at],
+            revision: &body[at + 1..],
+        },
+        None => Parts {
+            epoch,
+            upstream: body,
+            revision: b"0",
+        },
     }
 }
 
