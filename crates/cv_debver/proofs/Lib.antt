@@ -1,2 +1,3 @@
+mod Examples
 pub mod Hyphens
 pub mod Pairs

@@ -5,6 +5,8 @@
 
 mod grammar;
 mod parts;
+#[cfg(test)]
+mod tests;
 mod version;
 
 pub use grammar::is_version;
