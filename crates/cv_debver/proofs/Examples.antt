@@ -1,5 +1,5 @@
 -- The definitions, computed on examples: those of Debian Policy 5.6.12 and of the archive.
-use Rattle.std.proofs.Common.{◌≡◌, true, false, List, [], ◌∷◌, refl, codes}
+use Rattle.std.proofs.Common.{◌≡◌, true, false, [], ◌∷◌, refl, codes}
 use Rattle.std.specs.declared.cmp.Ordering.TheVariants.{Less, Equal, Greater}
 use Rattle.cv_debver.specs.Grammar.{is_version}
 use Rattle.cv_debver.specs.Parts.{of, pairs, part_cmp}

@@ -4,7 +4,7 @@ use Rattle.std.specs.Prelude.{ℕ, Bool, ◌&&◌, ◌||◌, List, length, nat_l
 use Rattle.std.specs.List.{list_all}
 use Rattle.std.specs.Char.{is_ascii_alphanumeric}
 use Rattle.cv_order.specs.Digits.{is_digit}
-use Rattle.cv_debver.specs.Version.{Version, version_of}
+use Rattle.cv_debver.specs.Version.{version_of}
 
 -- one or more bytes, each of which passes
 abbrev pub one_or_more : (ℕ → Bool) → List ℕ → Bool

@@ -1,6 +1,6 @@
 -- How an upstream version or a revision is compared, after Debian Policy 5.6.12: it is cut into pairs of a part without
 -- digits and a part of digits, and the first pair that differs decides, the shorter list going on with empty pairs.
-use Rattle.std.specs.Prelude.{ℕ, ◌+◌, Bool, not, List, [], ◌∷◌, map, if◌then◌else◌, ◌==◌}
+use Rattle.std.specs.Prelude.{ℕ, ◌+◌, not, List, [], ◌∷◌, map, if◌then◌else◌, ◌==◌}
 use Rattle.std.specs.Char.{is_ascii_alphabetic}
 use Rattle.std.specs.declared.cmp.Ordering.{Ordering}
 use Rattle.std.specs.Ordering.{nat_cmp, on, then_cmp}
