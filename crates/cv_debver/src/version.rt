@@ -1,6 +1,7 @@
 ghost use Rattle.std.specs.Prelude.{◌≡◌, ◌==◌, IfSome, ◌<◌, length};
 ghost use Rattle.std.specs.Cmp.{IsTotalOrder};
 ghost use Rattle.std.specs.List.{position};
+ghost use Rattle.cv_order.specs.Laws.{IsTotalPreorder};
 ghost use Rattle.cv_debver.specs.Version.{last_position, version_cmp, version_of, with_epoch};
 
 use crate::parts::compare_parts;
@@ -32,10 +33,11 @@ pub fn compare(a: &[u8], b: &[u8]) -> Ordering
         .then_with(|| compare_parts(a.revision, b.revision))
 }
 
-/// The three laws of the order: any two versions compare, and `compare(a, b)` is the reverse of `compare(b, a)`
-/// (`antisymm`); it is transitive (`trans`); and versions that compare equal compare alike with every third (`congr`).
+/// The three laws of the order, `laws`: any two versions compare, the order is transitive, and `compare(b, a)` is the reverse of
+/// `compare(a, b)`. `order` holds these in std's form, and that versions that compare equal compare alike with every third.
 pub fn version_order_laws()
-    ensures { IsTotalOrder version_cmp }
+    ensures laws { IsTotalPreorder version_cmp }
+    ensures order { IsTotalOrder version_cmp }
 {}
 
 pub(crate) fn split(text: &[u8]) -> Parts<'_>
