@@ -1,0 +1,5 @@
+use Rattle.cv_apkver.specs.Order.{version_total}
+use Rattle.cv_apkver.proofs.order.version_order_laws.Goals as goal
+
+pub returns : goal.returns
+returns c = version_total
