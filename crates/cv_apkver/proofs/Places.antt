@@ -1,7 +1,7 @@
 -- Two lists of numbers or of suffixes, compared one place at a time.
 use Rattle.std.proofs.Common.{◌≡◌, ℕ, List, [], ◌∷◌, Option, Some, None, ◌+◌, map, refl, arith}
 use Rattle.std.specs.declared.cmp.Ordering.{Ordering}
-use Rattle.std.specs.declared.cmp.Ordering.TheVariants.{Equal}
+use Rattle.std.specs.declared.cmp.Ordering.TheVariants.{Less, Equal, Greater}
 use Rattle.std.specs.Ordering.{ordering_then}
 use Rattle.std.specs.Cmp.Lexicographic.{slice_cmp}
 use Rattle.cv_order.specs.Digits.{front_digits, number_cmp}
@@ -15,6 +15,13 @@ pub number_place : (a b : List ℕ) → slice_cmp number_cmp (digits_of (pieces 
     ≡ ordering_then (number_cmp (front_digits (before DOT a)) (front_digits (before DOT b)))
         (slice_cmp number_cmp (digits_of (pieces_behind DOT (behind DOT a))) (digits_of (pieces_behind DOT (behind DOT b))))
 number_place a b = rw (pieces_cut DOT a, pieces_cut DOT b) refl
+
+-- a list that has not ended is greater than one that has
+pub numbers_left : (a : List ℕ) → slice_cmp number_cmp (digits_of (pieces DOT a)) [] ≡ Greater
+numbers_left a = rw (pieces_cut DOT a) refl
+
+pub numbers_right : (b : List ℕ) → slice_cmp number_cmp [] (digits_of (pieces DOT b)) ≡ Less
+numbers_right b = rw (pieces_cut DOT b) refl
 
 -- the first suffixes, and then the suffixes behind them, also where one list or both have ended
 pub suffix_place : (ps qs : List (List ℕ)) → suffixes_cmp (map suffix_of ps) (map suffix_of qs)

@@ -1,7 +1,7 @@
 -- Which texts are apk versions: `number{.number}[letter]{_suffix[number]}[-rnumber]`. A number is one or more digits,
 -- however many; the letter is one of a to z; the suffix is one of the table. apk's own order knows more forms, as a
 -- commit hash behind `~`; this profile takes them for no versions.
-use Rattle.std.specs.Prelude.{ℕ, Bool, true, false, ◌&&◌, ◌==◌, not, if◌then◌else◌, List, [], ◌∷◌, length, Option, Some, None, is_some, codes}
+use Rattle.std.specs.Prelude.{ℕ, Bool, true, false, ◌&&◌, ◌==◌, if◌then◌else◌, List, [], ◌∷◌, Option, Some, None, is_some, codes}
 use Rattle.std.specs.List.{list_all}
 use lib.Pointwise.{pointwise}
 use Rattle.cv_order.specs.Digits.{is_digit, front_digits, after_digits}
@@ -27,7 +27,8 @@ rank_of word =
 
 -- digits, one or more, and nothing else
 abbrev pub is_number : List ℕ → Bool
-is_number text = not (length text == 0) && list_all is_digit text
+is_number [] = false
+is_number (c ∷ cs) = list_all is_digit (c ∷ cs)
 
 -- one letter or nothing
 abbrev pub is_letter_or_nothing : List ℕ → Bool

@@ -67,6 +67,7 @@ fn is_suffix(text: &[u8]) -> bool
     rank(word).is_some() && are_digits(number)
 }
 
+#[tactic(auto, using(crate::proofs::Numbers::last_number))]
 fn is_last_number(text: &[u8]) -> bool
     ensures { result ≡ is_last_number text.now }
 {
@@ -86,6 +87,7 @@ fn is_letter_or_nothing(text: &[u8]) -> bool
     }
 }
 
+#[tactic(auto, using(crate::proofs::Numbers::number_some))]
 fn is_number(text: &[u8]) -> bool
     ensures { result ≡ is_number text.now }
 {

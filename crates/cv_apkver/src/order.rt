@@ -34,7 +34,7 @@ pub fn compare(a: &[u8], b: &[u8]) -> Ordering
         .then(builds.ordering)
 }
 
-#[tactic(auto, using(crate::proofs::Places::number_place, crate::proofs::Pieces::behind_len))]
+#[tactic(auto, using(crate::proofs::Places::number_place, crate::proofs::Places::numbers_left, crate::proofs::Places::numbers_right, crate::proofs::Pieces::behind_len))]
 fn compare_releases(a: &[u8], b: &[u8]) -> Ordering
     ensures { result ≡ slice_cmp number_cmp (digits_of (pieces DOT a.now)) (digits_of (pieces DOT b.now)) }
 {
