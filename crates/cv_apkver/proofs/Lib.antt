@@ -1,3 +1,4 @@
+mod Examples
 pub mod Fronts
 pub mod Numbers
 pub mod Pieces

@@ -13,7 +13,7 @@ use Rattle.cv_apkver.proofs.Pieces.{pieces_cut}
 -- the first numbers, and then the numbers behind them
 pub number_place : (a b : List ℕ) → slice_cmp number_cmp (digits_of (pieces DOT a)) (digits_of (pieces DOT b))
     ≡ ordering_then (number_cmp (front_digits (before DOT a)) (front_digits (before DOT b)))
-        (slice_cmp number_cmp (digits_of (pieces_behind DOT (behind DOT a))) (digits_of (pieces_behind DOT (behind DOT b))))
+    (slice_cmp number_cmp (digits_of (pieces_behind DOT (behind DOT a))) (digits_of (pieces_behind DOT (behind DOT b))))
 number_place a b = rw (pieces_cut DOT a, pieces_cut DOT b) refl
 
 -- a list that has not ended is greater than one that has

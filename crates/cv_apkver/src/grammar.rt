@@ -5,9 +5,8 @@ ghost use Rattle.cv_order.specs.Digits.{is_digit};
 ghost use Rattle.cv_apkver.specs.Grammar.{is_build, is_last_number, is_letter_or_nothing, is_number, is_release, is_suffix, is_version, rank_of};
 ghost use Rattle.cv_apkver.specs.Parts.{DOT, UNDERSCORE, pieces, pieces_behind};
 
-use cv_order::skip_digits;
-
 use crate::parts::{Parts, cut, split_word};
+use cv_order::skip_digits;
 
 /// Whether a text is a version: `number{.number}[letter]{_suffix[number]}[-rnumber]`.
 pub fn is_version(text: &[u8]) -> bool
@@ -115,5 +114,57 @@ pub(crate) fn rank(word: &[u8]) -> Option<u8>
         b"hg" => Some(8),
         b"p" => Some(9),
         _ => None,
+    }
+}
+
+#[cfg(test)]
+mod tests {
+    use super::*;
+    use std::test::Fail;
+
+    #[test]
+    fn tells_versions_from_other_texts(rt: HostRuntime) -> Result<(), Fail> {
+        for version in [
+            "0",
+            "1.2",
+            "1.2.0-r1",
+            "3.1.1-r1",
+            "1.2a",
+            "1.2_p",
+            "2.0.1z_alpha_beta1_pre2_rc3_cvs4_svn5_git20240101_hg7_p8-r12",
+            "00.00-r00",
+            "340282366920938463463374607431768211456.1",
+        ] {
+            assert!(rt; is_version(version.as_bytes()), "{version}");
+        }
+        for text in [
+            "",
+            "a",
+            ".1",
+            "1.",
+            "1..2",
+            "1.2ab",
+            "1.2A",
+            "1a.2",
+            "1a1",
+            "1.2~ab",
+            "1.2_",
+            "1.2_foo",
+            "1.2_alph",
+            "1.2_alphab",
+            "1.2_p1a",
+            "1.2_p1.2",
+            "1.2-",
+            "1.2-1",
+            "1.2-r",
+            "1.2-r1a",
+            "1.2-r1-r2",
+            "1.2-r1_p1",
+            "1.2 ",
+            "1:2",
+        ] {
+            assert!(rt; !is_version(text.as_bytes()), "{text}");
+        }
+        Ok(())
     }
 }

@@ -7,21 +7,23 @@ ghost use Rattle.cv_apkver.specs.Order.{build_digits, digits_of, suffix_of, suff
 ghost use Rattle.cv_apkver.specs.Parts.{DOT, UNDERSCORE, is_letter, left_len, pieces, pieces_behind};
 ghost use Rattle.cv_apkver.specs.Walk.{first_suffix, later};
 
-use std::cmp::Ordering;
-
-use cv_order::compare_numbers;
-
 use crate::grammar::rank;
 use crate::parts::{Parts, cut, split_word};
+use cv_order::compare_numbers;
+use std::cmp::Ordering;
 
+/// The rank of the end of the suffixes among the suffixes.
 const END_RANK: u8 = 4;
 
-/// Any two versions compare, transitively, and the other way round they compare in reverse.
+/// Any two versions compare; the order is transitive, the other way round it is the reverse, and versions that compare equal
+/// compare alike with every third.
 pub fn version_order_laws()
     ensures { IsTotalOrder version_cmp }
 {}
 
-/// How two versions compare. Texts that are no versions are compared too, by what can be read of them.
+/// How two versions compare: by their numbers, at the first difference, where the list that ends first is less; then by
+/// their letters, none being least; then by their suffixes, place by place; then by their build numbers. An absent number
+/// is 0, and leading zeros do not count. Two texts that are no versions are compared as far as parts can be read of them.
 pub fn compare(a: &[u8], b: &[u8]) -> Ordering
     ensures { result ≡ version_cmp a.now b.now }
 {
@@ -63,7 +65,10 @@ fn compare_releases(a: &[u8], b: &[u8]) -> Ordering
 fn letter(release: &[u8]) -> Option<u8>
     ensures { result ≡ find is_letter release.now }
 {
-    release.iter().copied().find(|byte| byte.is_ascii_lowercase())
+    release
+        .iter()
+        .copied()
+        .find(|byte| byte.is_ascii_lowercase())
 }
 
 #[tactic(auto, using(crate::proofs::Places::suffix_place, crate::proofs::Places::suffixes_ended))]
@@ -92,7 +97,7 @@ fn is_any_left(a: Option<&[u8]>, b: Option<&[u8]>) -> bool
     a.is_some() || b.is_some()
 }
 
-/// A suffix, or the end of the suffixes, and what follows it.
+/// A suffix by its rank and its number, and the suffixes behind it.
 #[derive(Clone, Copy)]
 struct NextSuffix<'a> {
     rank: u8,
@@ -100,6 +105,7 @@ struct NextSuffix<'a> {
     more: Option<&'a [u8]>,
 }
 
+/// The first suffix, or the end of the suffixes.
 #[tactic(auto, using(crate::proofs::Pieces::pieces_cut, crate::proofs::Pieces::behind_len))]
 fn next_suffix(text: Option<&[u8]>) -> NextSuffix<'_>
     ensures rank { result.rank ≡ (first_suffix (pieces_behind UNDERSCORE (option_copied text.entry))).rank }
@@ -132,3 +138,6 @@ fn build_digits(build: Option<&[u8]>) -> &[u8]
         _ => &[],
     }
 }
+
+#[cfg(test)]
+mod tests;
