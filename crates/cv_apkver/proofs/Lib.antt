@@ -3,3 +3,4 @@ pub mod Fronts
 pub mod Numbers
 pub mod Pieces
 pub mod Places
+pub mod Spelled
