@@ -1,15 +1,24 @@
-ghost use Rattle.std.specs.Prelude.{◌≡◌};
+ghost use Rattle.std.specs.Prelude.{◌≡◌, ◌↔◌, IsTrue};
 ghost use Rattle.std.specs.List.{list_all};
 ghost use Rattle.std.specs.Option.{option_copied};
 ghost use Rattle.cv_order.specs.Digits.{is_digit};
 ghost use Rattle.cv_apkver.specs.Grammar.{is_build, is_last_number, is_letter_or_nothing, is_number, is_release, is_suffix, is_version, rank_of};
 ghost use Rattle.cv_apkver.specs.Parts.{DOT, UNDERSCORE, pieces, pieces_behind};
+ghost use Rattle.cv_apkver.specs.Written.{IsVersion};
 
 use crate::parts::{Parts, cut, split_word};
 use cv_order::skip_digits;
 
-/// Whether a text is a version: `number{.number}[letter]{_suffix[number]}[-rnumber]`.
+/// Whether a text is a version: `number{.number}[letter]{_suffix[number]}[-rnumber]`. A number is one or more digits, the
+/// letter is one of a to z, and the suffix is one of alpha, beta, pre, rc, cvs, svn, git, hg and p.
 pub fn is_version(text: &[u8]) -> bool
+    ensures grammar { IsTrue result ↔ IsVersion text.now }
+    ensures value { result ≡ is_version text.now }
+{
+    has_version_parts(text)
+}
+
+fn has_version_parts(text: &[u8]) -> bool
     ensures { result ≡ is_version text.now }
 {
     let parts = Parts::of(text);

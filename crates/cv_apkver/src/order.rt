@@ -3,9 +3,10 @@ ghost use Rattle.std.specs.Cmp.{IsTotalOrder};
 ghost use Rattle.std.specs.Cmp.Lexicographic.{slice_cmp};
 ghost use Rattle.std.specs.Option.{option_copied};
 ghost use Rattle.cv_order.specs.Digits.{front_digits, number_cmp};
-ghost use Rattle.cv_apkver.specs.Order.{build_digits, digits_of, suffix_of, suffixes_cmp, version_cmp};
+ghost use Rattle.cv_apkver.specs.Order.{build_digits, digits_of, key_of, suffix_of, suffixes_cmp, version_cmp};
 ghost use Rattle.cv_apkver.specs.Parts.{DOT, UNDERSCORE, is_letter, left_len, pieces, pieces_behind};
 ghost use Rattle.cv_apkver.specs.Walk.{first_suffix, later};
+ghost use Rattle.cv_apkver.specs.Written.{IsWellWritten, Written, text_of, written_key};
 
 use crate::grammar::rank;
 use crate::parts::{Parts, cut, split_word};
@@ -19,6 +20,11 @@ const END_RANK: u8 = 4;
 /// compare alike with every third.
 pub fn version_order_laws()
     ensures { IsTotalOrder version_cmp }
+{}
+
+/// The key by which a version compares is that of the parts that its text is written from.
+pub fn version_key_law()
+    ensures { (written : Written) → IsWellWritten written → key_of (text_of written) ≡ written_key written }
 {}
 
 /// How two versions compare: by their numbers, at the first difference, where the list that ends first is less; then by
