@@ -1,10 +1,24 @@
 -- The grammar and the order, computed on examples.
-use Rattle.std.proofs.Common.{◌≡◌, true, false, [], ◌∷◌, Option, Some, None, refl, codes}
+use Rattle.std.proofs.Common.{◌≡◌, true, false, [], ◌∷◌, Some, refl, codes}
 use Rattle.std.specs.declared.cmp.Ordering.TheVariants.{Less, Equal, Greater}
-use Rattle.cv_apkver.specs.Grammar.{is_version}
-use Rattle.cv_apkver.specs.Order.{Key, Suffix, key_of, version_cmp}
+use Rattle.cv_apkver.specs.Grammar.{Written, text_of}
+use Rattle.cv_apkver.specs.Order.{key_of, version_cmp}
+use Rattle.cv_apkver.specs.Parts.{is_version}
 
--- a version by all its parts: 100 is `d`, 1 and 9 are the ranks of `beta` and `p`
+-- a version with all its parts, and its text
+abbrev whole : Written
+whole = record {
+  first = codes "1";
+  more = codes "20" ∷ codes "3" ∷ [];
+  letter = Some 100;
+  suffixes = record { word = codes "beta"; digits = codes "2" } ∷ record { word = codes "p"; digits = [] } ∷ [];
+  build = Some (codes "4");
+}
+
+written : text_of whole ≡ codes "1.20.3d_beta2_p-r4"
+written = refl
+
+-- its key, read from the text: 100 is `d`, 1 and 9 are the ranks of `beta` and `p`
 parts : key_of (codes "1.20.3d_beta2_p-r4") ≡ record {
   numbers = codes "1" ∷ codes "20" ∷ codes "3" ∷ [];
   letter = Some 100;

@@ -1,11 +1,12 @@
 -- The front of a text up to the first byte that stops a test, by the place of that byte.
-use Rattle.std.proofs.Common.{◌≡◌, ℕ, Bool, true, false, not, cond, nat_lt, List, [], ◌∷◌, length, take, drop, Option, Some, None, ◌≤◌, ◌==◌, refl, ap, sym, ◌∙◌, one-add, add-one, ◌<◌, ◌+◌, ◌-◌, length-drop, drop-cons, arith}
+use Rattle.std.proofs.Common.{◌≡◌, ℕ, Bool, true, false, not, cond, nat_lt, List, [], ◌∷◌, length, take, drop, Some, None, ◌≤◌, ◌==◌, refl, ap, ◌∙◌, one-add, add-one, ◌<◌, ◌+◌, ◌-◌, length-drop, drop-cons, arith}
 use Rattle.std.proofs.lemmas.List.Quantifiers.{position-Some}
 use Rattle.std.specs.List.{position, position_or_len}
 use Rattle.std.proofs.lemmas.Bool.{ltb-false}
 use Rattle.std.proofs.lemmas.List.{take_all, drop_all}
 use Rattle.cv_order.specs.Digits.{front_while, after_while}
-use Rattle.cv_apkver.specs.Parts.{before, behind, rest_of, is_letter, front_letters, after_letters}
+use Rattle.cv_apkver.specs.Grammar.{is_letter}
+use Rattle.cv_apkver.specs.Parts.{after_letters, before, behind, front_letters, rest_of}
 
 -- up to the first item at which p passes
 module _ (t p : ℕ → Bool) (opposite : (x : ℕ) → t x ≡ not (p x)) where

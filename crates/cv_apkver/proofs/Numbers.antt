@@ -1,8 +1,9 @@
 -- The digits at the front of a text are a number where the first byte is a digit.
-use Rattle.std.proofs.Common.{◌≡◌, ℕ, ◌<◌, Bool, true, false, ◌&&◌, List, [], ◌∷◌, length, get_or, refl, ap, arith}
+use Rattle.std.proofs.Common.{◌≡◌, ℕ, ◌<◌, Bool, true, false, List, [], ◌∷◌, length, get_or, refl, arith}
 use Rattle.std.specs.List.{list_all}
 use Rattle.cv_order.specs.Digits.{is_digit, front_digits, after_digits}
-use Rattle.cv_apkver.specs.Grammar.{is_number, is_last_number, is_letter_or_nothing}
+use Rattle.cv_apkver.specs.Grammar.{is_number}
+use Rattle.cv_apkver.specs.Parts.{is_last_number, is_letter_or_nothing}
 
 all_step : (x : ℕ) (xs : List ℕ) (b : Bool) → is_digit x ≡ b → list_all is_digit (front_digits xs) ≡ true → list_all is_digit (front_digits (x ∷ xs)) ≡ true
 all_step x xs true e ih = simp (e, ih)

@@ -1,9 +1,9 @@
 -- The pieces of a text, one after the other: what stands before the first cut, and the pieces of what stands behind it.
-use Rattle.std.proofs.Common.{◌≡◌, ℕ, Bool, true, false, not, cond, List, [], ◌∷◌, length, Option, Some, None, ◌<◌, ◌+◌, ◌==◌, ◌&&◌, refl, ap, sym, ◌∙◌, arith}
-use Rattle.std.specs.List.{slice_split, onto_first, list_all}
-use Rattle.cv_order.specs.Digits.{front_while, after_while}
-use Rattle.cv_apkver.specs.Parts.{before, behind, rest_of, pieces, pieces_behind, left_len, DOT}
-use Rattle.cv_apkver.specs.Grammar.{is_release, is_number, is_last_number}
+use Rattle.std.proofs.Common.{◌≡◌, ℕ, Bool, true, false, List, [], ◌∷◌, length, Option, Some, None, ◌<◌, ◌+◌, ◌==◌, ◌&&◌, refl, ap, ◌∙◌, arith}
+use Rattle.std.specs.List.{onto_first}
+use Rattle.cv_apkver.specs.Grammar.{DOT, is_number}
+use Rattle.cv_apkver.specs.Parts.{before, behind, is_last_number, is_release, pieces, pieces_behind}
+use Rattle.cv_apkver.specs.Walk.{left_len}
 
 cut_step : (c x : ℕ) (xs : List ℕ) (b : Bool) → (x == c) ≡ b → pieces c xs ≡ before c xs ∷ pieces_behind c (behind c xs)
     → pieces c (x ∷ xs) ≡ before c (x ∷ xs) ∷ pieces_behind c (behind c (x ∷ xs))

@@ -1,13 +1,13 @@
 -- Two lists of numbers or of suffixes, compared one place at a time.
 use Rattle.std.proofs.Common.{◌≡◌, ℕ, List, [], ◌∷◌, Option, Some, None, ◌+◌, map, refl, arith}
-use Rattle.std.specs.declared.cmp.Ordering.{Ordering}
 use Rattle.std.specs.declared.cmp.Ordering.TheVariants.{Less, Equal, Greater}
 use Rattle.std.specs.Ordering.{ordering_then}
 use Rattle.std.specs.Cmp.Lexicographic.{slice_cmp}
 use Rattle.cv_order.specs.Digits.{front_digits, number_cmp}
-use Rattle.cv_apkver.specs.Parts.{DOT, UNDERSCORE, before, behind, pieces, pieces_behind, left_len}
-use Rattle.cv_apkver.specs.Order.{digits_of, suffix_of, suffix_cmp, suffixes_cmp}
-use Rattle.cv_apkver.specs.Walk.{first_suffix, later}
+use Rattle.cv_apkver.specs.Grammar.{DOT, UNDERSCORE}
+use Rattle.cv_apkver.specs.Order.{digits_of, suffix_cmp, suffix_of, suffixes_cmp}
+use Rattle.cv_apkver.specs.Parts.{before, behind, pieces, pieces_behind}
+use Rattle.cv_apkver.specs.Walk.{first_suffix, later, left_len}
 use Rattle.cv_apkver.proofs.Pieces.{pieces_cut}
 
 -- the first numbers, and then the numbers behind them

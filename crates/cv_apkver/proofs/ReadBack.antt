@@ -1,15 +1,14 @@
 -- A text that passes the test for versions is written by the grammar: from its pieces.
-use Rattle.std.proofs.Common.{◌≡◌, ℕ, ◌==◌, Bool, true, false, not, ◌&&◌, List, [], ◌∷◌, ◌++◌, map, Option, Some, None, is_some, refl, ap, sym, ◌∙◌, append-nil, append_assoc}
+use Rattle.std.proofs.Common.{◌≡◌, ℕ, ◌==◌, Bool, true, false, ◌&&◌, List, [], ◌∷◌, ◌++◌, map, Option, Some, None, is_some, refl, ap, sym, ◌∙◌, append-nil, append_assoc}
 use Rattle.std.specs.Prelude.{◌↔◌, IsTrue}
-use Rattle.std.specs.List.{flat_map, list_all, join_with_byte}
+use Rattle.std.specs.List.{AllByRecursion, flat_map, list_all, join_with_byte}
 use Rattle.std.specs.Option.{option_to_list}
 use Rattle.std.proofs.lemmas.Bool.{and_parts, and_from, eqb-true}
 use Rattle.std.proofs.lemmas.List.Splits.{join_with_byte-slice_split}
-use Rattle.cv_order.specs.Digits.{is_digit, front_while, after_while, front_digits, after_digits}
+use Rattle.cv_order.specs.Digits.{is_digit, front_while, front_digits, after_digits}
 use Rattle.cv_order.proofs.Places.{front_while-append-after_while}
-use Rattle.cv_apkver.specs.Parts.{DOT, UNDERSCORE, HYPHEN, BUILD_MARK, is_letter, before, behind, pieces, pieces_behind, release_part, suffix_parts, build_part, front_letters, after_letters}
-use Rattle.cv_apkver.specs.Grammar.{is_number, is_release, is_last_number, is_letter_or_nothing, is_suffix, is_build, is_version, rank_of}
-use Rattle.cv_apkver.specs.Written.{Written, WrittenSuffix, release_text, suffix_text, suffixes_text, build_text, text_of, IsSuffixWritten, AreSuffixesWritten, IsWellWritten, IsVersion}
+use Rattle.cv_apkver.specs.Grammar.{BUILD_MARK, DOT, HYPHEN, IsSuffixWritten, IsVersion, UNDERSCORE, WrittenSuffix, build_text, is_letter, is_number, rank_of, release_text, suffixes_text}
+use Rattle.cv_apkver.specs.Parts.{after_letters, before, behind, build_part, front_letters, is_build, is_last_number, is_letter_or_nothing, is_release, is_suffix, is_version, pieces, pieces_behind, release_part, suffix_parts}
 use Rattle.cv_apkver.proofs.Pieces.{pieces_cut}
 use Rattle.cv_apkver.proofs.Spelled.{is_version-text_of}
 
@@ -52,7 +51,7 @@ front_passes test (x ∷ xs) = front_step test x xs (test x) refl (front_passes 
 abbrev suffix_read : List ℕ → WrittenSuffix
 suffix_read piece = record { word = front_letters piece; digits = after_letters piece }
 
-suffixes_well : (ps : List (List ℕ)) → list_all is_suffix ps ≡ true → AreSuffixesWritten (map suffix_read ps)
+suffixes_well : (ps : List (List ℕ)) → list_all is_suffix ps ≡ true → AllByRecursion IsSuffixWritten (map suffix_read ps)
 suffixes_well [] h = tt
 suffixes_well (p ∷ ps) h =
     let parts = and_parts (is_suffix p) (list_all is_suffix ps) h in
@@ -114,7 +113,7 @@ release_read (number ∷ next ∷ ps) h =
       more_well = and_from (is_number rest.first) (list_all is_number rest.more) rest.first_well rest.more_well;
       letter_well = rest.letter_well;
       spelled = ap (λ t. number ++ (DOT ∷ t))
-        (rest.spelled ∙ sym (append_assoc rest.first (flat_map (λ n. DOT ∷ n) rest.more) (option_to_list rest.letter)));
+          (rest.spelled ∙ sym (append_assoc rest.first (flat_map (λ n. DOT ∷ n) rest.more) (option_to_list rest.letter)));
     }
 
 -- a build number
@@ -143,9 +142,9 @@ version_read text h =
     let build = build_read (build_part text) behind_release.1 in
     let suffixes = map suffix_read (suffix_parts text) in
     let release_spelled : release_part text ≡ release_text release.first release.more release.letter =
-      sym (join_with_byte-slice_split DOT (release_part text)) ∙ release.spelled in
+    sym (join_with_byte-slice_split DOT (release_part text)) ∙ release.spelled in
     let suffixes_are : marked UNDERSCORE (behind UNDERSCORE (before HYPHEN text)) ≡ suffixes_text suffixes =
-      marked_is UNDERSCORE (behind UNDERSCORE (before HYPHEN text)) ∙ suffixes_spelled (suffix_parts text) in
+    marked_is UNDERSCORE (behind UNDERSCORE (before HYPHEN text)) ∙ suffixes_spelled (suffix_parts text) in
     record {
       written = record { first = release.first; more = release.more; letter = release.letter; suffixes = suffixes; build = build.build };
       well = record {
@@ -156,10 +155,10 @@ version_read text h =
         build = build.well;
       };
       spelled =
-        joined HYPHEN text
-        ∙ ap (λ r. r ++ marked HYPHEN (behind HYPHEN text)) (joined UNDERSCORE (before HYPHEN text))
-        ∙ (λ i. (release_spelled i ++ suffixes_are i) ++ build.spelled i)
-        ∙ append_assoc (release_text release.first release.more release.letter) (suffixes_text suffixes) (build_text build.build);
+          joined HYPHEN text
+          ∙ ap (λ r. r ++ marked HYPHEN (behind HYPHEN text)) (joined UNDERSCORE (before HYPHEN text))
+          ∙ (λ i. (release_spelled i ++ suffixes_are i) ++ build.spelled i)
+          ∙ append_assoc (release_text release.first release.more release.letter) (suffixes_text suffixes) (build_text build.build);
     }
 
 -- the test passes exactly the texts of the grammar

@@ -1,15 +1,14 @@
 -- A text that is written by the grammar is cut into the parts that it was written from.
-use Rattle.std.proofs.Common.{◌≡◌, ℕ, ◌==◌, Bool, true, false, not, cond, ◌&&◌, List, [], ◌∷◌, ◌++◌, map, Option, Some, None, is_some, option_map, unwrap_or, refl, ap, sym, ◌∙◌, append-nil, append_assoc, arith}
-use Rattle.std.specs.List.{flat_map, list_all, find}
+use Rattle.std.proofs.Common.{◌≡◌, ℕ, ◌==◌, Bool, true, false, not, ◌&&◌, List, [], ◌∷◌, ◌++◌, map, Option, Some, None, is_some, option_map, unwrap_or, refl, ap, sym, ◌∙◌, append-nil, append_assoc, arith}
+use Rattle.std.specs.List.{AllByRecursion, flat_map, list_all, find}
 use Rattle.std.specs.Option.{option_to_list}
 use Rattle.std.proofs.lemmas.Bool.{and_parts, and_from, not-true}
 use Rattle.std.proofs.lemmas.Bool.Decides.{nat_tests}
 use Rattle.std.proofs.lemmas.List.Folds.{list_all-append}
 use Rattle.cv_order.specs.Digits.{is_digit, front_while, after_while, front_digits, after_digits}
-use Rattle.cv_apkver.specs.Parts.{DOT, UNDERSCORE, HYPHEN, BUILD_MARK, is_letter, before, behind, rest_of, pieces, pieces_behind, release_part, suffix_parts, build_part, front_letters, after_letters}
-use Rattle.cv_apkver.specs.Grammar.{is_number, is_release, is_last_number, is_letter_or_nothing, is_suffix, is_build, is_version, rank_of}
-use Rattle.cv_apkver.specs.Order.{Key, Suffix, suffix_of, digits_of, build_digits, key_of}
-use Rattle.cv_apkver.specs.Written.{Written, WrittenSuffix, release_text, suffix_text, suffixes_text, build_text, text_of, IsSuffixWritten, AreSuffixesWritten, IsWellWritten, IsVersion, written_key}
+use Rattle.cv_apkver.specs.Grammar.{BUILD_MARK, DOT, HYPHEN, IsSuffixWritten, IsWellWritten, UNDERSCORE, Written, WrittenSuffix, build_text, is_letter, is_number, rank_of, release_text, suffix_text, suffixes_text, text_of}
+use Rattle.cv_apkver.specs.Order.{suffix_from, build_digits, digits_of, key_of, suffix_of, written_key}
+use Rattle.cv_apkver.specs.Parts.{after_letters, before, behind, build_part, front_letters, is_build, is_last_number, is_letter_or_nothing, is_release, is_suffix, is_version, pieces, pieces_behind, release_part, rest_of, suffix_parts}
 use Rattle.cv_apkver.proofs.Pieces.{pieces_cut}
 
 -- a front that passes is passed over
@@ -80,25 +79,25 @@ module _ (test : ℕ → Bool) (digit : (x : ℕ) → is_digit x ≡ true → te
   more_all dot (n ∷ more) h =
       let parts = and_parts (is_number n) (list_all is_number more) h in
       all-append test (DOT ∷ n) (flat_map (λ number. DOT ∷ number) more)
-        (and_from (test DOT) (list_all test n) dot (all-from is_digit test digit n (number_digits n parts.0)))
-        (more_all dot more parts.1)
+      (and_from (test DOT) (list_all test n) dot (all-from is_digit test digit n (number_digits n parts.0)))
+      (more_all dot more parts.1)
 
   release_all : test DOT ≡ true → ((x : ℕ) → is_letter x ≡ true → test x ≡ true) → (first : List ℕ) (more : List (List ℕ)) (letter : Option ℕ)
       → is_number first ≡ true → list_all is_number more ≡ true → list_all is_letter (option_to_list letter) ≡ true → list_all test (release_text first more letter) ≡ true
   release_all dot up first more letter a b c =
       all-append test first (flat_map (λ number. DOT ∷ number) more ++ option_to_list letter)
-        (all-from is_digit test digit first (number_digits first a))
-        (all-append test (flat_map (λ number. DOT ∷ number) more) (option_to_list letter) (more_all dot more b) (all-from is_letter test up (option_to_list letter) c))
+      (all-from is_digit test digit first (number_digits first a))
+      (all-append test (flat_map (λ number. DOT ∷ number) more) (option_to_list letter) (more_all dot more b) (all-from is_letter test up (option_to_list letter) c))
 
   suffix_all : ((x : ℕ) → is_letter x ≡ true → test x ≡ true) → (s : WrittenSuffix) → IsSuffixWritten s → list_all test (suffix_text s) ≡ true
   suffix_all up s w = all-append test s.word s.digits (all-from is_letter test up s.word w.letters) (all-from is_digit test digit s.digits w.digits)
 
-  suffixes_all : test UNDERSCORE ≡ true → ((x : ℕ) → is_letter x ≡ true → test x ≡ true) → (ss : List WrittenSuffix) → AreSuffixesWritten ss → list_all test (suffixes_text ss) ≡ true
+  suffixes_all : test UNDERSCORE ≡ true → ((x : ℕ) → is_letter x ≡ true → test x ≡ true) → (ss : List WrittenSuffix) → AllByRecursion IsSuffixWritten ss → list_all test (suffixes_text ss) ≡ true
   suffixes_all mark up [] w = refl
   suffixes_all mark up (s ∷ ss) w =
       all-append test (UNDERSCORE ∷ suffix_text s) (suffixes_text ss)
-        (and_from (test UNDERSCORE) (list_all test (suffix_text s)) mark (suffix_all up s w.0))
-        (suffixes_all mark up ss w.1)
+      (and_from (test UNDERSCORE) (list_all test (suffix_text s)) mark (suffix_all up s w.0))
+      (suffixes_all mark up ss w.1)
 
 -- the first piece ends at the first cut
 cut_first : (c : ℕ) (xs ys : List ℕ) → list_all (but c) xs ≡ true → before c ys ≡ [] → pieces c (xs ++ ys) ≡ xs ∷ pieces_behind c (behind c ys)
@@ -129,7 +128,7 @@ suffixes_front : (ss : List WrittenSuffix) → before UNDERSCORE (suffixes_text 
 suffixes_front [] = refl
 suffixes_front (s ∷ ss) = refl
 
-suffixes_cut : (ss : List WrittenSuffix) → AreSuffixesWritten ss → pieces_behind UNDERSCORE (behind UNDERSCORE (suffixes_text ss)) ≡ map suffix_text ss
+suffixes_cut : (ss : List WrittenSuffix) → AllByRecursion IsSuffixWritten ss → pieces_behind UNDERSCORE (behind UNDERSCORE (suffixes_text ss)) ≡ map suffix_text ss
 suffixes_cut [] w = refl
 suffixes_cut (s ∷ ss) w =
     cut_first UNDERSCORE (suffix_text s) (suffixes_text ss) (suffix_all (but UNDERSCORE) digit_no_underscore letter_no_underscore s w.0) (suffixes_front ss)
@@ -153,17 +152,17 @@ suffix_ok : (s : WrittenSuffix) → IsSuffixWritten s → is_suffix (suffix_text
 suffix_ok s w = and_from (is_some (rank_of (front_letters (suffix_text s)))) (list_all is_digit (after_letters (suffix_text s)))
     (ap (λ word. is_some (rank_of word)) (word_is s w) ∙ w.known) (ap (list_all is_digit) (digits_are s w) ∙ w.digits)
 
-suffixes_ok : (ss : List WrittenSuffix) → AreSuffixesWritten ss → list_all is_suffix (map suffix_text ss) ≡ true
+suffixes_ok : (ss : List WrittenSuffix) → AllByRecursion IsSuffixWritten ss → list_all is_suffix (map suffix_text ss) ≡ true
 suffixes_ok [] w = refl
 suffixes_ok (s ∷ ss) w = and_from (is_suffix (suffix_text s)) (list_all is_suffix (map suffix_text ss)) (suffix_ok s w.0) (suffixes_ok ss w.1)
 
-suffix_key : (s : WrittenSuffix) → IsSuffixWritten s → suffix_of (suffix_text s) ≡ record { rank = unwrap_or (rank_of s.word) 4; number = s.digits }
+suffix_key : (s : WrittenSuffix) → IsSuffixWritten s → suffix_of (suffix_text s) ≡ suffix_from s.word s.digits
 suffix_key s w =
     let rank : unwrap_or (rank_of (front_letters (suffix_text s))) 4 ≡ unwrap_or (rank_of s.word) 4 = ap (λ word. unwrap_or (rank_of word) 4) (word_is s w) in
     let number : front_digits (after_letters (suffix_text s)) ≡ s.digits = ap front_digits (digits_are s w) ∙ front-whole is_digit s.digits w.digits in
     λ i. record { rank = rank i; number = number i }
 
-suffixes_key : (ss : List WrittenSuffix) → AreSuffixesWritten ss → map suffix_of (map suffix_text ss) ≡ map (λ s. record { rank = unwrap_or (rank_of s.word) 4; number = s.digits }) ss
+suffixes_key : (ss : List WrittenSuffix) → AllByRecursion IsSuffixWritten ss → map suffix_of (map suffix_text ss) ≡ map (λ s. suffix_from s.word s.digits) ss
 suffixes_key [] w = refl
 suffixes_key (s ∷ ss) w = let first = suffix_key s w.0 in let more = suffixes_key ss w.1 in λ i. first i ∷ more i
 
@@ -200,8 +199,8 @@ release_cut : (first : List ℕ) (more : List (List ℕ)) (letter : Option ℕ) 
 release_cut first [] letter a b c =
     ap (pieces DOT) (sym (append-nil (first ++ option_to_list letter)))
     ∙ cut_first DOT (first ++ option_to_list letter) []
-        (all-append (but DOT) first (option_to_list letter) (all-from is_digit (but DOT) digit_no_dot first (number_digits first a)) (all-from is_letter (but DOT) letter_no_dot (option_to_list letter) c))
-        refl
+    (all-append (but DOT) first (option_to_list letter) (all-from is_digit (but DOT) digit_no_dot first (number_digits first a)) (all-from is_letter (but DOT) letter_no_dot (option_to_list letter) c))
+    refl
 release_cut first (n ∷ more) letter a b c =
     let parts = and_parts (is_number n) (list_all is_number more) b in
     let rest = flat_map (λ number. DOT ∷ number) more in
@@ -260,14 +259,14 @@ module _ (w : Written) (well : IsWellWritten w) where
   hyphen_front =
       front-append (but HYPHEN) (release_text w.first w.more w.letter) (suffixes_text w.suffixes ++ build_text w.build) (release_but HYPHEN refl digit_no_hyphen letter_no_hyphen)
       ∙ ap (λ r. release_text w.first w.more w.letter ++ r)
-          (front-append (but HYPHEN) (suffixes_text w.suffixes) (build_text w.build) (suffixes_all (but HYPHEN) digit_no_hyphen refl letter_no_hyphen w.suffixes well.suffixes)
-          ∙ (ap (λ r. suffixes_text w.suffixes ++ r) (no_front w.build) ∙ append-nil (suffixes_text w.suffixes)))
+      (front-append (but HYPHEN) (suffixes_text w.suffixes) (build_text w.build) (suffixes_all (but HYPHEN) digit_no_hyphen refl letter_no_hyphen w.suffixes well.suffixes)
+      ∙ (ap (λ r. suffixes_text w.suffixes ++ r) (no_front w.build) ∙ append-nil (suffixes_text w.suffixes)))
 
   build_is : build_part (text_of w) ≡ option_map (λ number. BUILD_MARK ∷ number) w.build
   build_is =
       ap rest_of
-        (after-append (but HYPHEN) (release_text w.first w.more w.letter) (suffixes_text w.suffixes ++ build_text w.build) (release_but HYPHEN refl digit_no_hyphen letter_no_hyphen)
-        ∙ after-append (but HYPHEN) (suffixes_text w.suffixes) (build_text w.build) (suffixes_all (but HYPHEN) digit_no_hyphen refl letter_no_hyphen w.suffixes well.suffixes))
+      (after-append (but HYPHEN) (release_text w.first w.more w.letter) (suffixes_text w.suffixes ++ build_text w.build) (release_but HYPHEN refl digit_no_hyphen letter_no_hyphen)
+      ∙ after-append (but HYPHEN) (suffixes_text w.suffixes) (build_text w.build) (suffixes_all (but HYPHEN) digit_no_hyphen refl letter_no_hyphen w.suffixes well.suffixes))
       ∙ build_rest w.build
 
   release_is : release_part (text_of w) ≡ release_text w.first w.more w.letter
@@ -280,29 +279,29 @@ module _ (w : Written) (well : IsWellWritten w) where
   suffixes_are =
       ap (λ t. pieces_behind UNDERSCORE (behind UNDERSCORE t)) hyphen_front
       ∙ ap (λ t. pieces_behind UNDERSCORE (rest_of t))
-          (after-append (but UNDERSCORE) (release_text w.first w.more w.letter) (suffixes_text w.suffixes) (release_but UNDERSCORE refl digit_no_underscore letter_no_underscore))
+      (after-append (but UNDERSCORE) (release_text w.first w.more w.letter) (suffixes_text w.suffixes) (release_but UNDERSCORE refl digit_no_underscore letter_no_underscore))
       ∙ suffixes_cut w.suffixes well.suffixes
 
   -- it is a version
   pub is_version-text_of : is_version (text_of w) ≡ true
   is_version-text_of =
       and_from (is_release (pieces DOT (release_part (text_of w)))) (list_all is_suffix (suffix_parts (text_of w)) && is_build (build_part (text_of w)))
-        (ap (λ t. is_release (pieces DOT t)) release_is
-          ∙ ap is_release (release_cut w.first w.more w.letter well.first well.more well.letter)
-          ∙ release_ok w.first w.more w.letter well.first well.more well.letter)
-        (and_from (list_all is_suffix (suffix_parts (text_of w))) (is_build (build_part (text_of w)))
-          (ap (list_all is_suffix) suffixes_are ∙ suffixes_ok w.suffixes well.suffixes)
-          (ap is_build build_is ∙ build_ok w.build well.build))
+      (ap (λ t. is_release (pieces DOT t)) release_is
+      ∙ ap is_release (release_cut w.first w.more w.letter well.first well.more well.letter)
+      ∙ release_ok w.first w.more w.letter well.first well.more well.letter)
+      (and_from (list_all is_suffix (suffix_parts (text_of w))) (is_build (build_part (text_of w)))
+      (ap (list_all is_suffix) suffixes_are ∙ suffixes_ok w.suffixes well.suffixes)
+      (ap is_build build_is ∙ build_ok w.build well.build))
 
   -- its key is that of its parts
   pub key_of-text_of : key_of (text_of w) ≡ written_key w
   key_of-text_of =
       let numbers : digits_of (pieces DOT (release_part (text_of w))) ≡ w.first ∷ w.more =
-        ap (λ t. digits_of (pieces DOT t)) release_is
-        ∙ ap digits_of (release_cut w.first w.more w.letter well.first well.more well.letter)
-        ∙ numbers_key w.first w.more w.letter well.first well.more well.letter in
+      ap (λ t. digits_of (pieces DOT t)) release_is
+      ∙ ap digits_of (release_cut w.first w.more w.letter well.first well.more well.letter)
+      ∙ numbers_key w.first w.more w.letter well.first well.more well.letter in
       let letter : find is_letter (release_part (text_of w)) ≡ w.letter =
-        ap (find is_letter) release_is ∙ letter_key w.first w.more w.letter well.first well.more well.letter in
+      ap (find is_letter) release_is ∙ letter_key w.first w.more w.letter well.first well.more well.letter in
       let suffixes : map suffix_of (suffix_parts (text_of w)) ≡ (written_key w).suffixes = ap (map suffix_of) suffixes_are ∙ suffixes_key w.suffixes well.suffixes in
       let build : build_digits (build_part (text_of w)) ≡ unwrap_or w.build [] = ap build_digits build_is ∙ build_key w.build well.build in
       λ i. record { numbers = numbers i; letter = letter i; suffixes = suffixes i; build = build i }

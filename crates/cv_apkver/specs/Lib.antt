@@ -2,4 +2,3 @@ pub mod Grammar
 pub mod Order
 pub mod Parts
 pub mod Walk
-pub mod Written

@@ -1,31 +1,10 @@
--- How the text of an apk version is cut. It is written
---     number{.number}[letter]{_suffix[number]}[-rnumber]
--- so the build number stands behind the only hyphen, the suffixes behind the underscores before it, and the numbers
--- between the dots before those. Each cut is defined for any text.
-use Rattle.std.specs.Prelude.{ℕ, Bool, ◌==◌, not, ◌+◌, List, [], ◌∷◌, length, Option, Some, None}
-use Rattle.std.specs.Char.{is_ascii_lowercase}
-use Rattle.std.specs.List.{slice_split}
-use Rattle.cv_order.specs.Digits.{front_while, after_while}
-
--- the byte `.`
-abbrev pub DOT : ℕ
-DOT = 46
-
--- the byte `_`
-abbrev pub UNDERSCORE : ℕ
-UNDERSCORE = 95
-
--- the byte `-`
-abbrev pub HYPHEN : ℕ
-HYPHEN = 45
-
--- the byte `r`, which marks a build number
-abbrev pub BUILD_MARK : ℕ
-BUILD_MARK = 114
-
--- a letter from a to z
-abbrev pub is_letter : ℕ → Bool
-is_letter byte = is_ascii_lowercase byte
+-- How the text of a version is cut, and the test for versions by its parts: the build number stands behind the only hyphen,
+-- the suffixes behind the underscores before it, and the numbers between the dots before those. Each cut is defined for any
+-- text, and the test passes exactly the texts of the grammar.
+use Rattle.std.specs.Prelude.{ℕ, Bool, true, false, not, ◌&&◌, ◌==◌, List, [], ◌∷◌, Option, Some, None, is_some}
+use Rattle.std.specs.List.{list_all, slice_split}
+use Rattle.cv_order.specs.Digits.{is_digit, front_while, after_while, front_digits, after_digits}
+use Rattle.cv_apkver.specs.Grammar.{DOT, UNDERSCORE, HYPHEN, BUILD_MARK, is_letter, is_number, rank_of}
 
 -- what stands before the first byte c: all, where there is none
 abbrev pub before : ℕ → List ℕ → List ℕ
@@ -69,7 +48,32 @@ front_letters text = front_while is_letter text
 abbrev pub after_letters : List ℕ → List ℕ
 after_letters text = after_while is_letter text
 
--- how much is left to read of a text, if there is one
-abbrev pub left_len : Option (List ℕ) → ℕ
-left_len None = 0
-left_len (Some text) = length text + 1
+-- one letter or nothing
+abbrev pub is_letter_or_nothing : List ℕ → Bool
+is_letter_or_nothing [] = true
+is_letter_or_nothing (c ∷ []) = is_letter c
+is_letter_or_nothing (c ∷ d ∷ ds) = false
+
+-- `number[letter]`
+abbrev pub is_last_number : List ℕ → Bool
+is_last_number text = is_number (front_digits text) && is_letter_or_nothing (after_digits text)
+
+-- `number{.number}[letter]`, by its pieces between the dots
+abbrev pub is_release : List (List ℕ) → Bool
+is_release [] = false
+is_release (last ∷ []) = is_last_number last
+is_release (number ∷ next ∷ more) = is_number number && is_release (next ∷ more)
+
+-- `suffix[number]`
+abbrev pub is_suffix : List ℕ → Bool
+is_suffix text = is_some (rank_of (front_letters text)) && list_all is_digit (after_letters text)
+
+-- nothing, or `rnumber`
+abbrev pub is_build : Option (List ℕ) → Bool
+is_build None = true
+is_build (Some []) = false
+is_build (Some (mark ∷ number)) = mark == BUILD_MARK && is_number number
+
+-- the text is a version
+abbrev pub is_version : List ℕ → Bool
+is_version text = is_release (pieces DOT (release_part text)) && (list_all is_suffix (suffix_parts text) && is_build (build_part text))

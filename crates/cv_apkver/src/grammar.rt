@@ -2,9 +2,8 @@ ghost use Rattle.std.specs.Prelude.{◌≡◌, ◌↔◌, IsTrue};
 ghost use Rattle.std.specs.List.{list_all};
 ghost use Rattle.std.specs.Option.{option_copied};
 ghost use Rattle.cv_order.specs.Digits.{is_digit};
-ghost use Rattle.cv_apkver.specs.Grammar.{is_build, is_last_number, is_letter_or_nothing, is_number, is_release, is_suffix, is_version, rank_of};
-ghost use Rattle.cv_apkver.specs.Parts.{DOT, UNDERSCORE, pieces, pieces_behind};
-ghost use Rattle.cv_apkver.specs.Written.{IsVersion};
+ghost use Rattle.cv_apkver.specs.Grammar.{DOT, IsVersion, UNDERSCORE, is_number, rank_of};
+ghost use Rattle.cv_apkver.specs.Parts.{is_build, is_last_number, is_letter_or_nothing, is_release, is_suffix, is_version, pieces, pieces_behind};
 
 use crate::parts::{Parts, cut, split_word};
 use cv_order::skip_digits;

@@ -1,6 +1,7 @@
 ghost use Rattle.std.specs.Prelude.{◌≡◌, ◌==◌, not, position};
 ghost use Rattle.std.specs.Option.{option_copied};
-ghost use Rattle.cv_apkver.specs.Parts.{UNDERSCORE, after_letters, before, behind, build_part, front_letters, is_letter, pieces_behind, release_part, suffix_parts};
+ghost use Rattle.cv_apkver.specs.Grammar.{UNDERSCORE, is_letter};
+ghost use Rattle.cv_apkver.specs.Parts.{after_letters, before, behind, build_part, front_letters, pieces_behind, release_part, suffix_parts};
 
 /// What the text of a version is cut into, by its first hyphen and the first underscore before it.
 #[derive(Clone, Copy)]

@@ -1,8 +1,9 @@
 use Rattle.std.proofs.Common.{◌≡◌}
 use Rattle.std.specs.List.{list_all}
 use Rattle.std.specs.Option.{option_copied}
-use Rattle.cv_apkver.specs.Grammar.{is_suffix}
-use Rattle.cv_apkver.specs.Parts.{UNDERSCORE, left_len, pieces_behind}
+use Rattle.cv_apkver.specs.Grammar.{UNDERSCORE}
+use Rattle.cv_apkver.specs.Parts.{is_suffix, pieces_behind}
+use Rattle.cv_apkver.specs.Walk.{left_len}
 use Rattle.cv_apkver.proofs.grammar.are_suffixes.Given as goal
 
 abbrev pub invariant-loop-left : goal.invariant-loop-left

@@ -1,6 +1,6 @@
 use Rattle.std.proofs.Common.{◌≡◌, length}
-use Rattle.cv_apkver.specs.Grammar.{is_release}
-use Rattle.cv_apkver.specs.Parts.{DOT, pieces}
+use Rattle.cv_apkver.specs.Grammar.{DOT}
+use Rattle.cv_apkver.specs.Parts.{is_release, pieces}
 use Rattle.cv_apkver.proofs.grammar.is_release.Given as goal
 
 abbrev pub invariant-loop-last : goal.invariant-loop-last

@@ -1,6 +1,6 @@
 -- The test that was made is the one of the definition, which passes exactly the texts of the grammar.
 use Rattle.std.proofs.Common.{Bool, ◌↔◌, IsTrue, sym, subst}
-use Rattle.cv_apkver.specs.Written.{IsVersion}
+use Rattle.cv_apkver.specs.Grammar.{IsVersion}
 use Rattle.cv_apkver.proofs.ReadBack.{is_version_iff}
 use Rattle.cv_apkver.proofs.grammar.is_version.Goals as goal
 

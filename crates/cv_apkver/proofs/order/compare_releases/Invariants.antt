@@ -2,8 +2,10 @@ use Rattle.std.proofs.Common.{◌≡◌}
 use Rattle.std.specs.Cmp.Lexicographic.{slice_cmp}
 use Rattle.std.specs.Option.{option_copied}
 use Rattle.cv_order.specs.Digits.{number_cmp}
+use Rattle.cv_apkver.specs.Grammar.{DOT}
 use Rattle.cv_apkver.specs.Order.{digits_of}
-use Rattle.cv_apkver.specs.Parts.{DOT, left_len, pieces, pieces_behind}
+use Rattle.cv_apkver.specs.Parts.{pieces, pieces_behind}
+use Rattle.cv_apkver.specs.Walk.{left_len}
 use Rattle.cv_apkver.proofs.order.compare_releases.Given as goal
 
 -- what is left of both compares as the whole

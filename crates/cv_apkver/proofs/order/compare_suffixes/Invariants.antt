@@ -1,7 +1,9 @@
 use Rattle.std.proofs.Common.{◌≡◌, ◌+◌, map}
 use Rattle.std.specs.Option.{option_copied}
+use Rattle.cv_apkver.specs.Grammar.{UNDERSCORE}
 use Rattle.cv_apkver.specs.Order.{suffix_of, suffixes_cmp}
-use Rattle.cv_apkver.specs.Parts.{UNDERSCORE, left_len, pieces_behind}
+use Rattle.cv_apkver.specs.Parts.{pieces_behind}
+use Rattle.cv_apkver.specs.Walk.{left_len}
 use Rattle.cv_apkver.proofs.order.compare_suffixes.Given as goal
 
 -- what is left of both compares as the whole
