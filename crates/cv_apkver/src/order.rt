@@ -3,6 +3,7 @@ ghost use Rattle.std.specs.Cmp.{IsTotalOrder};
 ghost use Rattle.std.specs.Cmp.Lexicographic.{slice_cmp};
 ghost use Rattle.std.specs.Option.{option_copied};
 ghost use Rattle.cv_order.specs.Digits.{front_digits, number_cmp};
+ghost use Rattle.cv_order.specs.Laws.{IsTotalPreorder};
 ghost use Rattle.cv_apkver.specs.Grammar.{DOT, IsWellWritten, UNDERSCORE, Written, is_letter, text_of};
 ghost use Rattle.cv_apkver.specs.Order.{build_digits, digits_of, key_of, suffix_of, suffixes_cmp, version_cmp, written_key};
 ghost use Rattle.cv_apkver.specs.Parts.{pieces, pieces_behind};
@@ -16,10 +17,12 @@ use std::cmp::Ordering;
 /// The rank of the end of the suffixes among the suffixes.
 const END_RANK: u8 = 4;
 
-/// Any two versions compare; the order is transitive, the other way round it is the reverse, and versions that compare equal
-/// compare alike with every third.
+/// The three laws of the order, `laws`: any two versions compare, the order is transitive, and `compare(b, a)` is the reverse of
+/// `compare(a, b)`. `order` says them in the form that std's sorts and maps ask for: versions that compare equal compare alike
+/// with every third.
 pub fn version_order_laws()
-    ensures { IsTotalOrder version_cmp }
+    ensures laws { IsTotalPreorder version_cmp }
+    ensures order { IsTotalOrder version_cmp }
 {}
 
 /// The key by which a version compares is that of the parts that its text is written from.
@@ -33,13 +36,16 @@ pub fn version_key_law()
 pub fn compare(a: &[u8], b: &[u8]) -> Ordering
     ensures { result ≡ version_cmp a.now b.now }
 {
-    let left = Parts::of(a);
-    let right = Parts::of(b);
-    let builds = compare_numbers(build_digits(left.build), build_digits(right.build));
-    compare_releases(left.release, right.release)
-        .then(letter(left.release).cmp(&letter(right.release)))
-        .then(compare_suffixes(left.suffixes, right.suffixes))
-        .then(builds.ordering)
+    let a = Parts::of(a);
+    let b = Parts::of(b);
+    let numbers = compare_releases(a.release, b.release);
+    if numbers.is_ne() {
+        return numbers;
+    }
+    letter(a.release)
+        .cmp(&letter(b.release))
+        .then(compare_suffixes(a.suffixes, b.suffixes))
+        .then(compare_builds(a.build, b.build))
 }
 
 #[tactic(auto, using(crate::proofs::Places::number_place, crate::proofs::Places::numbers_left, crate::proofs::Places::numbers_right, crate::proofs::Pieces::behind_len))]
@@ -136,7 +142,13 @@ fn next_suffix(text: Option<&[u8]>) -> NextSuffix<'_>
     }
 }
 
-fn build_digits(build: Option<&[u8]>) -> &[u8]
+fn compare_builds(a: Option<&[u8]>, b: Option<&[u8]>) -> Ordering
+    ensures { result ≡ number_cmp (build_digits (option_copied a.entry)) (build_digits (option_copied b.entry)) }
+{
+    compare_numbers(digits_behind_mark(a), digits_behind_mark(b)).ordering
+}
+
+fn digits_behind_mark(build: Option<&[u8]>) -> &[u8]
     ensures { front_digits result.now ≡ build_digits (option_copied build.entry) }
 {
     match build {
