@@ -1,4 +1,4 @@
--- The order of versions of Alpine packages, by keys, after apk-tools. A key is read from any text. Where the text is a version
+-- The order of versions of Alpine packages, by keys, after apk. A key is read from any text. Where the text is a version
 -- it is that of the parts from which the version is written. Unlike in apk itself, leading zeros never count.
 use Rattle.std.specs.Prelude.{ℕ, List, [], ◌∷◌, map, find, Option, Some, None, unwrap_or}
 use Rattle.std.specs.declared.cmp.Ordering.{Ordering}

@@ -8,8 +8,8 @@ ghost use Rattle.cv_apkver.specs.Parts.{is_build, is_last_number, is_letter_or_n
 use crate::parts::{Parts, cut, split_word};
 use cv_order::skip_digits;
 
-/// Whether a text is a version: `number{.number}[letter]{_suffix[number]}[-rnumber]`. A number is one or more digits, the
-/// letter is one of a to z, and the suffix is one of alpha, beta, pre, rc, cvs, svn, git, hg and p.
+/// Whether a text is a version: `number{.number}[letter]{_suffix[number]}[-rnumber]`. A number is one or more digits, however
+/// many; the letter is one of a to z; the suffix is one of alpha, beta, pre, rc, cvs, svn, git, hg and p.
 pub fn is_version(text: &[u8]) -> bool
     ensures grammar { IsTrue result ↔ IsVersion text.now }
     ensures value { result ≡ is_version text.now }
