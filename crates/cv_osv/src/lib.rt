@@ -1,0 +1,12 @@
+//! Reads records of the OSV schema from JSON values into advisories.
+//!
+//! ```text
+//! let value = Value::from_str(alloc, text)?;
+//! let advisory = read_advisory(alloc, &value)?;
+//! assert_eq!(advisory.id.as_str(), "DSA-5417-1");
+//! ```
+#![tactic(auto)]
+
+mod error;
+
+pub use error::{AdvisoryError, OsvError, RecordWhat};
