@@ -47,3 +47,8 @@ each f (item d ds) = f d >>= λ x. each f ds >>= λ xs. Ok (x ∷ xs)
 abbrev pub each_joined : {A E : Type 0} → (Data → Result (List A) E) → Items → Result (List A) E
 each_joined f no_items = Ok []
 each_joined f (item d ds) = f d >>= λ x. each_joined f ds >>= λ xs. Ok (x ++ xs)
+
+-- what is read stands behind what was read before
+abbrev pub onto : {A E : Type 0} → List A → Result (List A) E → Result (List A) E
+onto front (Ok xs) = Ok (front ++ xs)
+onto front (Err e) = Err e

@@ -23,19 +23,21 @@ abbrev pub full_or : RecordWhat → List ℕ → Result (List ℕ) RecordWhat
 full_or bad [] = Err bad
 full_or bad (c ∷ cs) = Ok (c ∷ cs)
 
--- the turn that a member gives: none where it is absent
-abbrev pub turn_of : (List ℕ → Turn) → Option (List ℕ) → List Turn
-turn_of make version = option_to_list (option_map make version)
+-- the turn that a member of an event gives: none where it is absent
+abbrev pub turn_of : List ℕ → (List ℕ → Turn) → Data → Result (List Turn) RecordWhat
+turn_of name make d = do
+  version ← optional_text_or BadEvent (member_at name d)
+  Ok (option_to_list (option_map make version))
 
 -- an event: a turn for each of its known members, in this order
 unfoldable pub turns_of : Data → Result (List Turn) RecordWhat
 turns_of d = do
   _ ← object_or BadEvent d
-  introduced ← optional_text_or BadEvent (member_at (codes "introduced") d)
-  fixed ← optional_text_or BadEvent (member_at (codes "fixed") d)
-  last_affected ← optional_text_or BadEvent (member_at (codes "last_affected") d)
-  limit ← optional_text_or BadEvent (member_at (codes "limit") d)
-  Ok (turn_of Introduced introduced ++ turn_of Fixed fixed ++ turn_of LastAffected last_affected ++ turn_of Limit limit)
+  introduced ← turn_of (codes "introduced") Introduced d
+  fixed ← turn_of (codes "fixed") Fixed d
+  last_affected ← turn_of (codes "last_affected") LastAffected d
+  limit ← turn_of (codes "limit") Limit d
+  Ok (introduced ++ fixed ++ last_affected ++ limit)
 
 -- the type of a range: every other one, as GIT, is Other
 unfoldable pub kind_of : List ℕ → RangeKind

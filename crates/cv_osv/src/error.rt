@@ -1,3 +1,5 @@
+use cv_base::NoMemory;
+use std::alloc::AllocFailed;
 use thiserror::Error;
 
 /// What is wrong with a record. A member with the value null counts as absent.
@@ -32,6 +34,40 @@ pub enum AdvisoryError {
     Bad(RecordWhat),
     #[error("out of memory")]
     NoMemory,
+}
+
+impl From<RecordWhat> for AdvisoryError {
+    ghost use Rattle.std.specs.Prelude.{◌≡◌};
+    ghost use Rattle.cv_osv.specs.declared.error.AdvisoryError.TheVariants.{Bad};
+
+    ghost from_gives = { λ what e. e ≡ Bad what };
+
+    fn from(what: RecordWhat) -> AdvisoryError {
+        AdvisoryError::Bad(what)
+    }
+}
+
+impl From<NoMemory> for AdvisoryError {
+    ghost use Rattle.std.specs.Prelude.{◌≡◌};
+    ghost use Rattle.cv_osv.specs.declared.error.AdvisoryError.TheVariants as advisory;
+
+    ghost from_gives = { λ _ e. e ≡ advisory.NoMemory };
+
+    fn from(_error: NoMemory) -> AdvisoryError {
+        AdvisoryError::NoMemory
+    }
+}
+
+/// The value that found no place is dropped.
+impl<T: Drop> From<AllocFailed<T>> for AdvisoryError {
+    ghost use Rattle.std.specs.Prelude.{◌≡◌};
+    ghost use Rattle.cv_osv.specs.declared.error.AdvisoryError.TheVariants as advisory;
+
+    ghost from_gives = { λ _ e. e ≡ advisory.NoMemory };
+
+    fn from(_failed: AllocFailed<T>) -> AdvisoryError {
+        AdvisoryError::NoMemory
+    }
 }
 
 /// Why a list of records was not read. Indices count from 0.

@@ -8,5 +8,10 @@
 #![tactic(auto)]
 
 mod error;
+mod json;
+mod part;
+mod range;
+mod record;
 
 pub use error::{AdvisoryError, OsvError, RecordWhat};
+pub use record::read_advisory;
