@@ -31,7 +31,10 @@ pub(crate) fn text_or(found: Option<&Value>, bad: RecordWhat) -> Result<&str, Re
 }
 
 /// A text that may be absent.
-pub(crate) fn optional_text_or(found: Option<&Value>, bad: RecordWhat) -> Result<Option<&str>, RecordWhat>
+pub(crate) fn optional_text_or(
+    found: Option<&Value>,
+    bad: RecordWhat,
+) -> Result<Option<&str>, RecordWhat>
     ensures { Tells (λ text. option_map (λ t. t.now) text) result
         (optional_text_or bad (option_map (λ v. view v.now) found.entry)) }
 {

@@ -96,7 +96,12 @@ fn push_turns(alloc: Global, event: &Value, turns: &mut Vec<Turn>) -> Result<(),
     push_turn(alloc, event, EventMember::Limit, turns)
 }
 
-fn push_turn(alloc: Global, event: &Value, member: EventMember, turns: &mut Vec<Turn>) -> Result<(), AdvisoryError>
+fn push_turn(
+    alloc: Global,
+    event: &Value,
+    member: EventMember,
+    turns: &mut Vec<Turn>,
+) -> Result<(), AdvisoryError>
     ensures { Reads (λ _. turns.new.items) result
         (onto turns.old.items (turn_of (name_of member) (make_of member) (view event.now))) }
 {

@@ -48,8 +48,14 @@ impl Part for Affected {
     fn read(alloc: Global, value: &Value) -> Result<Affected, AdvisoryError> {
         object_or(value, RecordWhat::BadEntry)?;
         let package = read_package(alloc, member_at(value, "package"))?;
-        let ranges = read_each(alloc, items_or(member_at(value, "ranges"), RecordWhat::BadRange)?)?;
-        let versions = read_each(alloc, items_or(member_at(value, "versions"), RecordWhat::BadVersions)?)?;
+        let ranges = read_each(
+            alloc,
+            items_or(member_at(value, "ranges"), RecordWhat::BadRange)?,
+        )?;
+        let versions = read_each(
+            alloc,
+            items_or(member_at(value, "versions"), RecordWhat::BadVersions)?,
+        )?;
         Ok(Affected {
             package,
             ranges,
@@ -85,3 +91,6 @@ impl Part for Text {
         Ok(Text::of(alloc, version)?)
     }
 }
+
+#[cfg(test)]
+mod tests;
