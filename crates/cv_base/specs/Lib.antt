@@ -2,5 +2,6 @@ pub mod Answer
 pub mod Digest
 pub mod Path
 pub mod PathText
+pub mod Place
 pub mod Reading
 pub mod Texts

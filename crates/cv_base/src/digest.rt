@@ -1,5 +1,9 @@
 ghost use Rattle.std.specs.Prelude.{◌≡◌, IfOk, MatchResult, Some, None};
-ghost use Rattle.cv_base.specs.Digest.{digest_of, digest_text, is_lower_digit};
+ghost use Rattle.std.specs.List.{list_all};
+ghost use Rattle.std.specs.Option.{option_map};
+ghost use Rattle.std.specs.Result.{result_ok};
+ghost use Rattle.hex.specs.Hex.{decode_sized};
+ghost use Rattle.cv_base.specs.Digest.{digest_of, digest_text, digits_of, is_lower_digit};
 
 use cv_seq::{NoMemory, Text};
 use hex::FromHex;
@@ -46,15 +50,12 @@ impl Digest {
     pub fn read(text: &[u8]) -> Result<Digest, BadDigest>
         ensures { MatchResult result (λ d. digest_of text.now ≡ Some d) (λ _. digest_of text.now ≡ None) }
     {
-        let Some(digits) = text.strip_prefix(b"sha256:") else {
+        let Some(digits) = digits_of(text) else {
             return Err(BadDigest);
         };
-        if !digits.iter().all(|digit| is_lower_digit(*digit)) {
-            return Err(BadDigest);
-        }
-        match <[u8; 32] as FromHex>::from_hex(digits) {
-            Ok(inner) => Ok(Digest { inner }),
-            Err(_) => Err(BadDigest),
+        match decoded(digits) {
+            Some(inner) => Ok(Digest { inner }),
+            None => Err(BadDigest),
         }
     }
 
@@ -68,9 +69,63 @@ impl Digest {
     }
 }
 
+/// The encoded part of a text, where the algorithm is SHA-256 and there are digits alone.
+fn digits_of(text: &[u8]) -> Option<&[u8]>
+    ensures { option_map (λ digits. digits.now) result ≡ digits_of text.now }
+{
+    let digits = text.strip_prefix(b"sha256:")?;
+    if are_lower_digits(digits) {
+        Some(digits)
+    } else {
+        None
+    }
+}
+
+/// The bytes that 64 digits spell.
+fn decoded(digits: &[u8]) -> Option<[u8; 32]>
+    ensures { result ≡ result_ok (decode_sized digits.now 32) }
+{
+    <[u8; 32] as FromHex>::from_hex(digits).ok()
+}
+
+fn are_lower_digits(text: &[u8]) -> bool
+    ensures { result ≡ list_all is_lower_digit text.now }
+{
+    text.iter().all(|byte| is_lower_digit(*byte))
+}
+
 /// Whether a byte is a digit of `0-9a-f`.
 fn is_lower_digit(byte: u8) -> bool
     ensures { result ≡ is_lower_digit byte }
 {
     byte.is_ascii_digit() || (b'a'..=b'f').contains(&byte)
+}
+
+#[cfg(test)]
+mod tests {
+    use super::*;
+    use std::test::Fail;
+
+    #[test]
+    fn a_digest_is_written_as_it_is_read(rt: HostRuntime) -> Result<(), Fail> {
+        let text = "sha256:00ff0123456789abcdef00112233445566778899aabbccddeeff010203040506";
+        let digest = Digest::read(text.as_bytes())?;
+        assert_eq!(rt; digest.bytes()[1], 255);
+        assert_eq!(rt; digest.text(rt.alloc())?.as_str(), text);
+        Ok(())
+    }
+
+    #[test]
+    fn other_texts_are_no_digests(rt: HostRuntime) {
+        for text in [
+            "",
+            "sha256:",
+            "sha512:00ff0123456789abcdef00112233445566778899aabbccddeeff010203040506",
+            "sha256:00FF0123456789abcdef00112233445566778899aabbccddeeff010203040506",
+            "sha256:00ff0123456789abcdef00112233445566778899aabbccddeeff0102030405",
+            "sha256:00ff0123456789abcdef00112233445566778899aabbccddeeff01020304050600",
+        ] {
+            assert!(rt; Digest::read(text.as_bytes()).is_err(), "{text}");
+        }
+    }
 }

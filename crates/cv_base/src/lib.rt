@@ -2,7 +2,7 @@
 //!
 //! ```text
 //! let path = RelPath::read(alloc, "var/lib/dpkg/status")?;
-//! assert_eq!(place_of(&path), Some(Place::Status));
+//! assert_eq!(place(&path), Some(Place::Status));
 //! ```
 #![tactic(auto)]
 
@@ -12,7 +12,10 @@ mod fault;
 mod finding;
 mod manifest;
 mod package;
+mod package_files;
 mod path;
+mod places;
+mod steps;
 mod tree;
 
 pub use advisory::{Advisory, Affected, Range, RangeKind, Turn};
@@ -22,5 +25,8 @@ pub use fault::{FileBad, ReadBad, What};
 pub use finding::{Finding, Reason, Row};
 pub use manifest::Manifest;
 pub use package::{Package, PackageKind, PackageName};
+pub use package_files::place;
 pub use path::{MAX_PATH_LEN, PathError, RelPath};
+pub use places::Place;
+pub use steps::Steps;
 pub use tree::{Content, Kind, ListEntry, Node, PACKAGE_FILE_LIMIT, Tree, TreeEntry};
