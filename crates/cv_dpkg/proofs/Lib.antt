@@ -1,1 +1,6 @@
+pub mod Cuts
+pub mod Ends
 mod Examples
+pub mod Printing
+pub mod SameNames
+pub mod States

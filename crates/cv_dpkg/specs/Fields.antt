@@ -82,9 +82,13 @@ is_open byte = byte == 40
 abbrev pub is_close : ℕ → Bool
 is_close byte = byte == 41
 
+-- a byte that prints and is no round bracket
+abbrev pub is_word_byte : ℕ → Bool
+is_word_byte byte = is_printing byte && (not (is_open byte) && not (is_close byte))
+
 -- a name or version of a source: printing bytes without round brackets, at least one
 abbrev pub is_word : List ℕ → Bool
-is_word text = not (is_nil text) && list_all (λ b. is_printing b && not (is_open b || is_close b)) text
+is_word text = not (is_nil text) && list_all is_word_byte text
 
 -- a name, and a version with nothing behind its bracket
 abbrev pub versioned : List ℕ → Option (List ℕ × List ℕ) → Option Origin

@@ -10,6 +10,8 @@
 mod field;
 mod package;
 mod rule;
+mod text;
+mod value;
 
 pub use package::DebPackage;
 pub use rule::StatusRule;
