@@ -4,3 +4,4 @@ mod Examples
 pub mod Printing
 pub mod SameNames
 pub mod States
+pub mod Told

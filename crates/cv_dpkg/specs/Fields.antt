@@ -27,9 +27,13 @@ pub record Pair : Type 0 where
   pub name : List ℕ
   pub value : List ℕ
 
+-- the field that a line with a colon is
+abbrev pub pair_in : List ℕ → Option Pair
+pair_in text = option_map (λ p. record { name = p.0; value = without_front p.1 }) (cut is_colon text)
+
 -- a line as a field, unless it goes on with another one or has no colon
 abbrev pub field_of : List ℕ → Option Pair
-field_of text = if is_continuation text then None else option_map (λ p. record { name = p.0; value = without_front p.1 }) (cut is_colon text)
+field_of text = if is_continuation text then None else pair_in text
 
 -- two names are the same but for the case of ASCII letters
 abbrev pub same_name : List ℕ → List ℕ → Bool

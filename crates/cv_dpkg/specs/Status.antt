@@ -36,7 +36,7 @@ value_fault Unused v = None
 
 -- whether a field with this name stands among lines, used or not
 abbrev pub stands : List ℕ → List Line → Bool
-stands name ls = list_any (λ l. option_map_or (λ f. same_name name f.name) (field_of l.text) false) ls
+stands name ls = list_any (λ l. option_map_or (λ f. same_name f.name name) (field_of l.text) false) ls
 
 -- the fault of a field, where these lines stand before it in its paragraph: a bad name, then a name that stood before, then a bad value
 abbrev pub field_fault : List Line → Option Pair → Option What
@@ -116,11 +116,14 @@ faults rule p = line_faults [] p ++ end_faults rule p
 
 -- a package with its name and version. Its source is Source's name, and else its own; the source's version is the one in
 -- brackets, and else its own. An absent architecture is the empty text.
+abbrev pub package_of : List ℕ → List ℕ → Facts → DebPackage
+package_of n v f = record { name = n; version = v; source = unwrap_or f.source n; source_version = unwrap_or f.source_version v; arch = unwrap_or f.arch [] }
+
+-- a package that has a name and a version, which each one that counts has where there is no fault
 abbrev pub package_by : Option (List ℕ) → Option (List ℕ) → Facts → List DebPackage
 package_by None version f = []
 package_by (Some n) None f = []
-package_by (Some n) (Some v) f =
-    record { name = n; version = v; source = unwrap_or f.source n; source_version = unwrap_or f.source_version v; arch = unwrap_or f.arch [] } ∷ []
+package_by (Some n) (Some v) f = package_of n v f ∷ []
 
 -- the package that is told, if it counts
 abbrev pub package_in : Facts → List DebPackage

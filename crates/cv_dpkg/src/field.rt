@@ -2,8 +2,8 @@
 ghost use Rattle.std.specs.Prelude.{◌≡◌};
 ghost use Rattle.std.specs.List.{list_all};
 ghost use Rattle.std.specs.Option.{option_map};
-ghost use Rattle.cv_dpkg.specs.Fields.{Pair, is_name, is_printing, named, same_name};
-ghost use Rattle.cv_dpkg.specs.Names.{entry_of, name_cmp, pair_in};
+ghost use Rattle.cv_dpkg.specs.Fields.{is_name, is_printing, named, pair_in, same_name};
+ghost use Rattle.cv_dpkg.specs.Names.{entry_of, name_cmp};
 
 use crate::text::{cut_at, trim_front};
 use std::cmp::Ordering;

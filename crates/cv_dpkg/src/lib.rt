@@ -7,11 +7,16 @@
 //! ```
 #![tactic(auto)]
 
+mod facts;
 mod field;
+mod names;
 mod package;
+mod paragraph;
 mod rule;
+mod status;
 mod text;
 mod value;
 
 pub use package::DebPackage;
 pub use rule::StatusRule;
+pub use status::read_status;

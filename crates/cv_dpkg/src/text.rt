@@ -1,5 +1,5 @@
 //! Pieces of texts, all of them borrowed.
-ghost use Rattle.std.specs.Prelude.{◌≡◌, ◌==◌, ◌||◌, List, ℕ, None, Some};
+ghost use Rattle.std.specs.Prelude.{◌≡◌, ◌==◌, ◌<◌, IfSome, length};
 ghost use Rattle.std.specs.List.{position};
 ghost use Rattle.std.specs.Option.{option_map};
 ghost use Rattle.cv_dpkg.specs.Fields.{cut};
@@ -9,7 +9,8 @@ ghost use Rattle.cv_dpkg.specs.Lines.{is_blank, is_continuation, is_trailing, wi
 /// What stands before the first of these bytes, and what behind it.
 #[tactic(auto, using(crate::proofs::Cuts::cut_is))]
 pub fn cut_at(text: &[u8], byte: u8) -> Option<(&[u8], &[u8])>
-    ensures { option_map (λ p. (p.0.now, p.1.now)) result ≡ cut (λ b. b == byte) text.now }
+    ensures parts { option_map (λ p. (p.0.now, p.1.now)) result ≡ cut (λ b. b == byte) text.now }
+    ensures shorter { IfSome result (λ p. length p.1.now < length text.now) }
 {
     let Some(at) = find(text, byte) else {
         return None;
