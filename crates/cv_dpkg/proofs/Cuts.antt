@@ -29,9 +29,9 @@ step x xs q n = let e : 1 + q ≡ suc q = omega arith in rw (e, next q n) (step_
 pub cut_is : (p : ℕ → Bool) (xs : List ℕ) → cut p xs ≡ option_map (λ i. (take i xs, drop 1 (drop i xs))) (position p xs)
 cut_is p [] = refl
 cut_is p (x ∷ xs) = by (p x) refl (cut_is p xs) where
-    by : (b : Bool) → p x ≡ b → cut p xs ≡ option_map (parts xs) (position p xs) → cut p (x ∷ xs) ≡ option_map (parts (x ∷ xs)) (position p (x ∷ xs))
-    by true e h = simp e (rw (first (length xs)) refl)
-    by false e h = simp e (ap (onto x) h ∙ step x xs (position_or_len p xs) (length xs))
+  by : (b : Bool) → p x ≡ b → cut p xs ≡ option_map (parts xs) (position p xs) → cut p (x ∷ xs) ≡ option_map (parts (x ∷ xs)) (position p (x ∷ xs))
+  by true e h = simp e (rw (first (length xs)) refl)
+  by false e h = simp e (ap (onto x) h ∙ step x xs (position_or_len p xs) (length xs))
 
 -- the parts of a text follow from its first cut
 abbrev pub pieces : (ℕ → Bool) → List ℕ → Option (List ℕ × List ℕ) → List (List ℕ)
@@ -45,6 +45,6 @@ pieces_onto p x xs (Some c) = refl
 pub split_cut : (p : ℕ → Bool) (xs : List ℕ) → slice_split p xs ≡ pieces p xs (cut p xs)
 split_cut p [] = refl
 split_cut p (x ∷ xs) = by (p x) refl (split_cut p xs) where
-    by : (b : Bool) → p x ≡ b → slice_split p xs ≡ pieces p xs (cut p xs) → slice_split p (x ∷ xs) ≡ pieces p (x ∷ xs) (cut p (x ∷ xs))
-    by true e h = simp e
-    by false e h = simp e (ap (onto_first x) h ∙ pieces_onto p x xs (cut p xs))
+  by : (b : Bool) → p x ≡ b → slice_split p xs ≡ pieces p xs (cut p xs) → slice_split p (x ∷ xs) ≡ pieces p (x ∷ xs) (cut p (x ∷ xs))
+  by true e h = simp e
+  by false e h = simp e (ap (onto_first x) h ∙ pieces_onto p x xs (cut p xs))

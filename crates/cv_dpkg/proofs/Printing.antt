@@ -30,8 +30,8 @@ printing_utf8 bs h = IsUtf8-from_ascii bs (ascii bs h)
 prints : (bs : List ℕ) → list_all is_word_byte bs ≡ true → list_all is_printing bs ≡ true
 prints [] h = refl
 prints (x ∷ xs) h = both (is_printing x) _ (front (is_printing x) _ (front (is_word_byte x) _ h)) (prints xs (back (is_word_byte x) _ h)) where
-    both : (a b : Bool) → a ≡ true → b ≡ true → (a && b) ≡ true
-    both a b p q = cc
+  both : (a b : Bool) → a ≡ true → b ≡ true → (a && b) ≡ true
+  both a b p q = cc
 
 -- and so are words
 pub word_utf8 : (bs : List ℕ) → is_word bs ≡ true → IsUtf8 bs

@@ -18,9 +18,9 @@ is_long w = not (is_nil w)
 trimmed_words : (t : List ℕ) → words (without_front t) ≡ words t
 trimmed_words [] = refl
 trimmed_words (x ∷ xs) = by (is_blank x) refl (trimmed_words xs) where
-    by : (b : Bool) → is_blank x ≡ b → words (without_front xs) ≡ words xs → words (without_front (x ∷ xs)) ≡ words (x ∷ xs)
-    by true e h = simp e h
-    by false e h = simp e refl
+  by : (b : Bool) → is_blank x ≡ b → words (without_front xs) ≡ words xs → words (without_front (x ∷ xs)) ≡ words (x ∷ xs)
+  by true e h = simp e h
+  by false e h = simp e refl
 
 first_by : (x : ℕ) (xs : List ℕ) (c : Option (List ℕ × List ℕ)) → filter is_long (pieces is_blank (x ∷ xs) (option_map (λ p. (x ∷ p.0, p.1)) c))
     ≡ words_by (Some (word_by (x ∷ xs) (option_map (λ p. (x ∷ p.0, p.1)) c)))
@@ -34,9 +34,9 @@ first_word x xs e = ap (filter is_long) (split_cut is_blank (x ∷ xs)) ∙ simp
 next_words : (t : List ℕ) → words t ≡ words_by (next_word t)
 next_words [] = refl
 next_words (x ∷ xs) = by (is_blank x) refl (next_words xs) where
-    by : (b : Bool) → is_blank x ≡ b → words xs ≡ words_by (next_word xs) → words (x ∷ xs) ≡ words_by (next_word (x ∷ xs))
-    by true e h = simp e h
-    by false e h = first_word x xs e ∙ simp e refl
+  by : (b : Bool) → is_blank x ≡ b → words xs ≡ words_by (next_word xs) → words (x ∷ xs) ≡ words_by (next_word (x ∷ xs))
+  by true e h = simp e h
+  by false e h = first_word x xs e ∙ simp e refl
 
 third_none : (c : List ℕ × List ℕ) (n : Option (List ℕ × List ℕ)) (a b : List ℕ) → (if not (is_some n) && is_state c.0 then Some c.0 else None) ≡ third (a ∷ b ∷ c.0 ∷ words_by n)
 third_none c None a b = refl

@@ -12,7 +12,7 @@ use Rattle.cv_base.specs.declared.fault.What.{What}
 use Rattle.cv_base.specs.declared.fault.What.TheVariants.{LooseContinuation, BadField, RepeatedField}
 use Rattle.cv_dpkg.specs.Fields.{Facts, Pair, field_of, join, named, nothing, pair_in, same_name, tells, told_by, is_name}
 use Rattle.cv_dpkg.specs.Lines.{Line, is_continuation, is_gap, is_nil, is_trailing, numbered, without_end}
-use Rattle.cv_dpkg.specs.Reader.{State, and_then, as_read, bad, close, continuation_step, end_step, field_step, line_step, lines_left, opening, told, value_step, with_name}
+use Rattle.cv_dpkg.specs.Reader.{State, and_then, as_read, bad, close, continuation_step, end_step, field_step, given, field_after, line_step, lines_left, opening, plain_after, told, with_name}
 use Rattle.cv_dpkg.specs.Status.{answer, at, end_faults, facts, faults, field_fault, is_first, last_number, line_fault, line_faults, package_in, packages, stands, status, value_fault, whole_fault}
 use Rattle.cv_dpkg.specs.declared.package.DebPackage.{DebPackage}
 use Rattle.cv_dpkg.specs.declared.rule.StatusRule.{StatusRule}
@@ -33,23 +33,23 @@ option_end (Some x) = refl
 
 join_assoc : (a b c : Facts) → join (join a b) c ≡ join a (join b c)
 join_assoc a b c = λ i. record {
-    name = option_assoc a.name b.name c.name i;
-    state = option_assoc a.state b.state c.state i;
-    version = option_assoc a.version b.version c.version i;
-    source = option_assoc a.source b.source c.source i;
-    source_version = option_assoc a.source_version b.source_version c.source_version i;
-    arch = option_assoc a.arch b.arch c.arch i
-  }
+  name = option_assoc a.name b.name c.name i;
+  state = option_assoc a.state b.state c.state i;
+  version = option_assoc a.version b.version c.version i;
+  source = option_assoc a.source b.source c.source i;
+  source_version = option_assoc a.source_version b.source_version c.source_version i;
+  arch = option_assoc a.arch b.arch c.arch i;
+}
 
 join_end : (a : Facts) → join a nothing ≡ a
 join_end a = λ i. record {
-    name = option_end a.name i;
-    state = option_end a.state i;
-    version = option_end a.version i;
-    source = option_end a.source i;
-    source_version = option_end a.source_version i;
-    arch = option_end a.arch i
-  }
+  name = option_end a.name i;
+  state = option_end a.state i;
+  version = option_end a.version i;
+  source = option_end a.source i;
+  source_version = option_end a.source_version i;
+  arch = option_end a.arch i;
+}
 
 facts_snoc : (p : List Line) (l : Line) → facts (p ++ l ∷ []) ≡ join (told_by l.text) (facts p)
 facts_snoc [] l = sym (join_end (told_by l.text))
@@ -78,12 +78,6 @@ stands_snoc q [] l = alone (names q (field_of l.text))
 stands_snoc q (x ∷ p) l = ap (λ b. names q (field_of x.text) || b) (stands_snoc q p l) ∙ either_by (names q (field_of x.text)) (stands q p) (names q (field_of l.text))
 
 -- the state after a line that is no field, and after one that is
-abbrev plain_after : State → ℕ → State
-plain_after s n = record { stood = s.stood; told = s.told; last = Some n }
-
-abbrev field_after : State → ℕ → Pair → State
-field_after s n f = record { stood = with_name f.name s.stood; told = join (tells (named f.name) f.value) s.told; last = Some n }
-
 abbrev after : State → ℕ → Option Pair → State
 after s n None = plain_after s n
 after s n (Some f) = field_after s n f
@@ -97,23 +91,14 @@ state_snoc p l = (λ i. record { stood = λ q. stands_snoc q p l i; told = facts
 
 -- The fault of a line.
 
--- a fault, or the state
-abbrev pub given : ℕ → Option What → State → Result State ReadBad
-given n None k = Ok k
-given n (Some w) k = bad n w
-
-value_given : (n : ℕ) (w : Option What) (k : State) → value_step n w k ≡ given n w k
-value_given n None k = refl
-value_given n (Some w) k = refl
-
 field_given : (p : List Line) (n : ℕ) (f : Option Pair) → field_step (state_of p) n f ≡ given n (field_fault p f) (after (state_of p) n f)
 field_given p n None = refl
 field_given p n (Some f) = by (is_name f.name) (stands f.name p) where
-    by : (a b : Bool) → (if not a then bad n BadField else (if b then bad n RepeatedField else value_step n (value_fault (named f.name) f.value) (field_after (state_of p) n f)))
-        ≡ given n (if not a then Some BadField else (if b then Some RepeatedField else value_fault (named f.name) f.value)) (field_after (state_of p) n f)
-    by false b = refl
-    by true true = refl
-    by true false = value_given n (value_fault (named f.name) f.value) (field_after (state_of p) n f)
+  by : (a b : Bool) → (if not a then bad n BadField else (if b then bad n RepeatedField else given n (value_fault (named f.name) f.value) (field_after (state_of p) n f)))
+      ≡ given n (if not a then Some BadField else (if b then Some RepeatedField else value_fault (named f.name) f.value)) (field_after (state_of p) n f)
+  by false b = refl
+  by true true = refl
+  by true false = refl
 
 some_or : (a : Option ℕ) (n : ℕ) → is_some (option_or a (Some n)) ≡ true
 some_or None n = refl
@@ -129,11 +114,11 @@ continuation_given (l ∷ ls) n = going_on (state_of (l ∷ ls)) n (last_number 
 
 line_given : (p : List Line) (l : Line) → line_step (state_of p) l.number l.text ≡ given l.number (line_fault p l.text) (state_of (p ++ l ∷ []))
 line_given p l = by (is_continuation l.text) ∙ ap (given l.number (line_fault p l.text)) (sym (state_snoc p l)) where
-    by : (b : Bool) → (if b then continuation_step (state_of p) l.number (last_number p) else field_step (state_of p) l.number (pair_in l.text))
-        ≡ given l.number (if b then (if is_first p then Some LooseContinuation else None) else field_fault p (if b then None else pair_in l.text))
-        (after (state_of p) l.number (if b then None else pair_in l.text))
-    by true = continuation_given p l.number
-    by false = field_given p l.number (pair_in l.text)
+  by : (b : Bool) → (if b then continuation_step (state_of p) l.number (last_number p) else field_step (state_of p) l.number (pair_in l.text))
+      ≡ given l.number (if b then (if is_first p then Some LooseContinuation else None) else field_fault p (if b then None else pair_in l.text))
+      (after (state_of p) l.number (if b then None else pair_in l.text))
+  by true = continuation_given p l.number
+  by false = field_given p l.number (pair_in l.text)
 
 -- Faults of a paragraph.
 
@@ -191,9 +176,9 @@ glue_onto l (h ∷ t) = refl
 glue_nil : (ls : List Line) → glue [] (slice_split is_gap ls) ≡ slice_split is_gap ls
 glue_nil [] = refl
 glue_nil (l ∷ ls) = by (is_gap l) where
-    by : (b : Bool) → glue [] (cond b ([] ∷ slice_split is_gap ls) (onto_first l (slice_split is_gap ls))) ≡ cond b ([] ∷ slice_split is_gap ls) (onto_first l (slice_split is_gap ls))
-    by true = refl
-    by false = glue_onto l (slice_split is_gap ls)
+  by : (b : Bool) → glue [] (cond b ([] ∷ slice_split is_gap ls) (onto_first l (slice_split is_gap ls))) ≡ cond b ([] ∷ slice_split is_gap ls) (onto_first l (slice_split is_gap ls))
+  by true = refl
+  by false = glue_onto l (slice_split is_gap ls)
 
 glue_first : (p : List Line) (l : Line) (s : List (List Line)) → glue p (onto_first l s) ≡ glue (p ++ l ∷ []) s
 glue_first p l [] = refl
@@ -218,9 +203,9 @@ line_case : (rule : StatusRule) (p : List Line) (l : Line) (s : List (List Line)
     → (line_faults [] (p ++ l ∷ []) ≡ [] → k (state_of (p ++ l ∷ [])) ≡ answer_all rule found (glue (p ++ l ∷ []) s))
     → and_then (line_step (state_of p) l.number l.text) k ≡ answer_all rule found (glue p (onto_first l s))
 line_case rule p l s found k e h = ap (λ r. and_then r k) (line_given p l) ∙ by (line_fault p l.text) refl where
-    by : (w : Option What) → line_fault p l.text ≡ w → and_then (given l.number w (state_of (p ++ l ∷ []))) k ≡ answer_all rule found (glue p (onto_first l s))
-    by None q = h (none_yet p l e q) ∙ ap (answer_all rule found) (sym (glue_first p l s))
-    by (Some w) q = sym (glue_bad rule p l s found w e q)
+  by : (w : Option What) → line_fault p l.text ≡ w → and_then (given l.number w (state_of (p ++ l ∷ []))) k ≡ answer_all rule found (glue p (onto_first l s))
+  by None q = h (none_yet p l e q) ∙ ap (answer_all rule found) (sym (glue_first p l s))
+  by (Some w) q = sym (glue_bad rule p l s found w e q)
 
 -- reading on after these lines of a paragraph, none of which has a fault, answers what the paragraphs say
 told_is : (rule : StatusRule) (p : List Line) (n : ℕ) (found : List DebPackage) (ts : List (List ℕ)) → line_faults [] p ≡ []

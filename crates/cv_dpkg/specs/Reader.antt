@@ -31,15 +31,18 @@ bad n w = Err (Bad (record { line = n; what = w }))
 abbrev pub with_name : List ℕ → (List ℕ → Bool) → List ℕ → Bool
 with_name name stood q = if same_name name q then true else stood q
 
--- a fault, or what is told with it
-abbrev pub told_value : Option What → Facts → Result Facts What
-told_value None f = Ok f
-told_value (Some w) f = Err w
+-- a fault of a line, or else the state after it
+abbrev pub given : ℕ → Option What → State → Result State ReadBad
+given n None k = Ok k
+given n (Some w) k = bad n w
 
--- a fault of a value, or the state with it
-abbrev pub value_step : ℕ → Option What → State → Result State ReadBad
-value_step n None k = Ok k
-value_step n (Some w) k = bad n w
+-- the state after a field
+abbrev pub field_after : State → ℕ → Pair → State
+field_after s n f = record { stood = with_name f.name s.stood; told = join (tells (named f.name) f.value) s.told; last = Some n }
+
+-- the state after a line that is no field
+abbrev pub plain_after : State → ℕ → State
+plain_after s n = record { stood = s.stood; told = s.told; last = Some n }
 
 -- a field, or a line without a colon
 abbrev pub field_step : State → ℕ → Option Pair → Result State ReadBad
@@ -47,12 +50,12 @@ field_step s n None = bad n NoColon
 field_step s n (Some f) =
     if not (is_name f.name) then bad n BadField
     else (if s.stood f.name then bad n RepeatedField
-    else value_step n (value_fault (named f.name) f.value) (record { stood = with_name f.name s.stood; told = join (tells (named f.name) f.value) s.told; last = Some n }))
+    else given n (value_fault (named f.name) f.value) (field_after s n f))
 
 -- a line that goes on with a field, if there is one
 abbrev pub continuation_step : State → ℕ → Option ℕ → Result State ReadBad
 continuation_step s n None = bad n LooseContinuation
-continuation_step s n (Some m) = Ok (record { stood = s.stood; told = s.told; last = Some n })
+continuation_step s n (Some m) = Ok (plain_after s n)
 
 -- one more line of a paragraph
 abbrev pub line_step : State → ℕ → List ℕ → Result State ReadBad

@@ -1,12 +1,10 @@
 //! What the lines of a paragraph tell of its package.
-ghost use Rattle.std.specs.Prelude.{◌≡◌, ◌++◌, IfOk, codes, false, unwrap_or};
+ghost use Rattle.std.specs.Prelude.{◌≡◌, ◌++◌, IfOk, codes, unwrap_or};
 ghost use Rattle.std.specs.Option.{option_map};
-ghost use Rattle.cv_base.specs.Answer.{Gives};
 ghost use Rattle.cv_base.specs.Texts.{same};
-ghost use Rattle.cv_dpkg.specs.Fields.{join, nothing, tells};
-ghost use Rattle.cv_dpkg.specs.Held.{facts_view};
-ghost use Rattle.cv_dpkg.specs.Reader.{told_value};
-ghost use Rattle.cv_dpkg.specs.Status.{counts, is_gone, is_missing, package_in, package_of, value_fault, whole_fault};
+ghost use Rattle.cv_dpkg.specs.Fields.{nothing};
+ghost use Rattle.cv_dpkg.specs.Held.{Tells, facts_view};
+ghost use Rattle.cv_dpkg.specs.Status.{counts, is_gone, is_missing, package_in, package_of, whole_fault};
 ghost use Rattle.cv_dpkg.specs.declared.field.Field.TheVariants as field;
 
 use crate::field::Field;
@@ -45,7 +43,7 @@ impl<'a> Facts<'a> {
 
     /// Takes the value of a field, or tells what is wrong with it.
     pub fn tell(&mut self, field: Field, value: &'a [u8]) -> Result<(), What>
-        ensures { Gives (λ _. false) (λ _. facts_view self.new) result (told_value (value_fault field value.now) (join (tells field value.now) (facts_view self.old))) }
+        ensures { Tells field value.now (facts_view self.old) (facts_view self.new) result }
     {
         match field {
             Field::Package => self.tell_name(value),
@@ -58,7 +56,7 @@ impl<'a> Facts<'a> {
     }
 
     fn tell_name(&mut self, value: &'a [u8]) -> Result<(), What>
-        ensures { Gives (λ _. false) (λ _. facts_view self.new) result (told_value (value_fault field.Package value.now) (join (tells field.Package value.now) (facts_view self.old))) }
+        ensures { Tells field.Package value.now (facts_view self.old) (facts_view self.new) result }
     {
         if value.is_empty() {
             return Err(What::BadValue);
@@ -71,7 +69,7 @@ impl<'a> Facts<'a> {
     }
 
     fn tell_state(&mut self, value: &'a [u8]) -> Result<(), What>
-        ensures { Gives (λ _. false) (λ _. facts_view self.new) result (told_value (value_fault field.Status value.now) (join (tells field.Status value.now) (facts_view self.old))) }
+        ensures { Tells field.Status value.now (facts_view self.old) (facts_view self.new) result }
     {
         let Some(state) = state_of(value) else {
             return Err(What::BadStatus);
@@ -81,7 +79,7 @@ impl<'a> Facts<'a> {
     }
 
     fn tell_version(&mut self, value: &'a [u8]) -> Result<(), What>
-        ensures { Gives (λ _. false) (λ _. facts_view self.new) result (told_value (value_fault field.Version value.now) (join (tells field.Version value.now) (facts_view self.old))) }
+        ensures { Tells field.Version value.now (facts_view self.old) (facts_view self.new) result }
     {
         let Some(version) = printing(value) else {
             return Err(What::BadValue);
@@ -91,7 +89,7 @@ impl<'a> Facts<'a> {
     }
 
     fn tell_source(&mut self, value: &'a [u8]) -> Result<(), What>
-        ensures { Gives (λ _. false) (λ _. facts_view self.new) result (told_value (value_fault field.Source value.now) (join (tells field.Source value.now) (facts_view self.old))) }
+        ensures { Tells field.Source value.now (facts_view self.old) (facts_view self.new) result }
     {
         let Some(source) = origin_of(value) else {
             return Err(What::BadValue);
@@ -102,7 +100,7 @@ impl<'a> Facts<'a> {
     }
 
     fn tell_arch(&mut self, value: &'a [u8]) -> Result<(), What>
-        ensures { Gives (λ _. false) (λ _. facts_view self.new) result (told_value (value_fault field.Architecture value.now) (join (tells field.Architecture value.now) (facts_view self.old))) }
+        ensures { Tells field.Architecture value.now (facts_view self.old) (facts_view self.new) result }
     {
         let Some(arch) = printing(value) else {
             return Err(What::BadValue);
@@ -160,10 +158,7 @@ impl<'a> Facts<'a> {
             return Ok(());
         };
         let package = self.package(alloc, name, version)?;
-        match found.push(package) {
-            Ok(()) => Ok(()),
-            Err(_) => Err(NoMemory),
-        }
+        Ok(found.push(package)?)
     }
 
     fn package(&self, alloc: Global, name: &str, version: &str) -> Result<DebPackage, NoMemory>

@@ -74,8 +74,5 @@ pub fn note<'a>(names: &mut BTreeSet<FieldName<'a>>, name: &'a [u8]) -> Result<b
     ensures told { IfOk result (λ fresh. fresh ≡ not (stood_in names.old name.now)) }
     ensures kept { OnOk result (stood_in names.new ≡ with_name name.now (stood_in names.old)) }
 {
-    match names.insert(FieldName { text: name }) {
-        Ok(fresh) => Ok(fresh),
-        Err(_) => Err(NoMemory),
-    }
+    Ok(names.insert(FieldName { text: name })?)
 }

@@ -2,10 +2,10 @@
 ghost use Rattle.std.specs.Prelude.{◌≡◌, Some};
 ghost use Rattle.cv_base.specs.Answer.{Gives};
 ghost use Rattle.cv_base.specs.Reading.{is_read_memory};
-ghost use Rattle.cv_dpkg.specs.Fields.{join, named, tells};
-ghost use Rattle.cv_dpkg.specs.Held.{facts_view, state_view, stood_in};
+ghost use Rattle.cv_dpkg.specs.Fields.{named};
+ghost use Rattle.cv_dpkg.specs.Held.{state_view, value_after};
 ghost use Rattle.cv_dpkg.specs.Names.{entry_of};
-ghost use Rattle.cv_dpkg.specs.Reader.{close, continuation_step, field_step, line_step, opening, value_step};
+ghost use Rattle.cv_dpkg.specs.Reader.{close, continuation_step, field_step, given, line_step, opening};
 ghost use Rattle.cv_dpkg.specs.Status.{value_fault};
 ghost use Rattle.cv_base.specs.declared.fault.ReadBad.TheVariants as reading;
 
@@ -69,16 +69,15 @@ impl<'a> Paragraph<'a> {
         if !is_name(entry.name) {
             return Err(bad(number, What::BadField));
         }
-        match note(&mut self.names, entry.name) {
-            Err(_) => Err(ReadBad::NoMemory),
-            Ok(false) => Err(bad(number, What::RepeatedField)),
-            Ok(true) => self.take_value(entry, number),
+        if !note(&mut self.names, entry.name)? {
+            return Err(bad(number, What::RepeatedField));
         }
+        self.take_value(entry, number)
     }
 
     fn take_value(&mut self, entry: Entry<'a>, number: u64) -> Result<(), ReadBad>
-        ensures { Gives is_read_memory (λ _. state_view self.new) result (value_step number (value_fault (named (entry_of entry.entry).name) (entry_of entry.entry).value)
-            (record { stood = stood_in self.old.names; told = join (tells (named (entry_of entry.entry).name) (entry_of entry.entry).value) (facts_view self.old.facts); last = Some number })) }
+        ensures { Gives is_read_memory (λ _. state_view self.new) result
+            (given number (value_fault (named entry.entry.name.now) entry.entry.value.now) (value_after self.old number (entry_of entry.entry))) }
     {
         match self.facts.tell(named(entry.name), entry.value) {
             Err(what) => Err(bad(number, what)),
@@ -90,7 +89,12 @@ impl<'a> Paragraph<'a> {
     }
 
     /// Ends the paragraph: adds its package, or tells what is wrong with it.
-    pub fn close(&self, alloc: Global, rule: StatusRule, found: &mut Vec<DebPackage>) -> Result<(), ReadBad>
+    pub fn close(
+        &self,
+        alloc: Global,
+        rule: StatusRule,
+        found: &mut Vec<DebPackage>,
+    ) -> Result<(), ReadBad>
         ensures { Gives is_read_memory (λ _. found.new.items) result (close rule (state_view self.now) found.old.items) }
     {
         let Some(line) = self.last else {
@@ -98,10 +102,7 @@ impl<'a> Paragraph<'a> {
         };
         match self.facts.fault(rule) {
             Some(what) => Err(bad(line, what)),
-            None => match self.facts.push_package(alloc, found) {
-                Ok(()) => Ok(()),
-                Err(_) => Err(ReadBad::NoMemory),
-            },
+            None => Ok(self.facts.push_package(alloc, found)?),
         }
     }
 }

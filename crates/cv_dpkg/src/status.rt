@@ -20,13 +20,14 @@ use std::alloc::Global;
 /// One pass over the bytes, linear but for the names of a paragraph, which are found again in n log n. Only what counts
 /// is copied.
 #[tactic(auto, using(crate::proofs::Told::told_status))]
-pub fn read_status(alloc: Global, bytes: &[u8], rule: StatusRule) -> Result<Seq<DebPackage>, ReadBad>
+pub fn read_status(
+    alloc: Global,
+    bytes: &[u8],
+    rule: StatusRule,
+) -> Result<Seq<DebPackage>, ReadBad>
     ensures { Gives is_read_memory (λ packages. packages) result (as_read (status bytes.now rule)) }
 {
-    match read_all(alloc, bytes, rule) {
-        Ok(found) => Ok(Seq::of(found)),
-        Err(bad) => Err(bad),
-    }
+    Ok(Seq::of(read_all(alloc, bytes, rule)?))
 }
 
 #[tactic(auto, using(crate::proofs::Told::stopped))]
@@ -67,3 +68,6 @@ fn next_line(bytes: &[u8]) -> (&[u8], Option<&[u8]>)
         None => (trim_line(bytes), None),
     }
 }
+
+#[cfg(test)]
+mod tests;
