@@ -7,8 +7,12 @@
 //! ```
 #![tactic(auto)]
 
+mod check;
+mod cut;
 mod fault;
 mod mark;
+mod outline;
 
+pub use check::check_tree;
 pub use fault::{OverlayError, TreeFault};
-pub use mark::Mark;
+pub use mark::{Mark, mark_of};
