@@ -76,15 +76,15 @@ step x y s p false false h k m n = heads x y s p h k
 order_split : (t u : List ℕ) → HasNoNul t → HasNoNul u → text_cmp t u ≡ path_cmp (slice_split is_slash t) (slice_split is_slash u)
 order_split [] [] m n = refl
 order_split [] (y ∷ ys) m n = nil_less y (slice_split is_slash ys) (is_slash y) (split_cons ys) where
-    nil_less : (y : ℕ) (s : Path) (c : Bool) → is_cons s ≡ true → Less ≡ path_cmp ([] ∷ []) (cond c ([] ∷ s) (onto_first y s))
-    nil_less y s true h = sym (first_less s h)
-    nil_less y [] false h = refl
-    nil_less y (d ∷ ds) false h = refl
+  nil_less : (y : ℕ) (s : Path) (c : Bool) → is_cons s ≡ true → Less ≡ path_cmp ([] ∷ []) (cond c ([] ∷ s) (onto_first y s))
+  nil_less y s true h = sym (first_less s h)
+  nil_less y [] false h = refl
+  nil_less y (d ∷ ds) false h = refl
 order_split (x ∷ xs) [] m n = nil_greater x (slice_split is_slash xs) (is_slash x) (split_cons xs) where
-    nil_greater : (x : ℕ) (s : Path) (c : Bool) → is_cons s ≡ true → Greater ≡ path_cmp (cond c ([] ∷ s) (onto_first x s)) ([] ∷ [])
-    nil_greater x s true h = sym (first_greater s h)
-    nil_greater x [] false h = refl
-    nil_greater x (d ∷ ds) false h = refl
+  nil_greater : (x : ℕ) (s : Path) (c : Bool) → is_cons s ≡ true → Greater ≡ path_cmp (cond c ([] ∷ s) (onto_first x s)) ([] ∷ [])
+  nil_greater x s true h = sym (first_greater s h)
+  nil_greater x [] false h = refl
+  nil_greater x (d ∷ ds) false h = refl
 order_split (x ∷ xs) (y ∷ ys) m n =
     ap (ordering_then (nat_cmp (rank x) (rank y))) (order_split xs ys m.1 n.1)
     ∙ step x y (slice_split is_slash xs) (slice_split is_slash ys) (is_slash x) (is_slash y) (split_cons xs) (split_cons ys) m.0 n.0
@@ -143,13 +143,13 @@ above_step x y s p false false e f h k = above_heads x y s p h k
 above_split : (t u : List ℕ) → goes_on t u ≡ is_above (slice_split is_slash t) (slice_split is_slash u)
 above_split [] [] = refl
 above_split [] (y ∷ ys) = at_end y (slice_split is_slash ys) (is_slash y) (split_cons ys) where
-    at_end : (y : ℕ) (s : Path) (c : Bool) → is_cons s ≡ true → c ≡ is_above ([] ∷ []) (cond c ([] ∷ s) (onto_first y s))
-    at_end y s true h = sym (top_above s h)
-    at_end y s false h = differ_left y [] s
+  at_end : (y : ℕ) (s : Path) (c : Bool) → is_cons s ≡ true → c ≡ is_above ([] ∷ []) (cond c ([] ∷ s) (onto_first y s))
+  at_end y s true h = sym (top_above s h)
+  at_end y s false h = differ_left y [] s
 above_split (x ∷ xs) [] = past_end x (slice_split is_slash xs) (is_slash x) (split_cons xs) where
-    past_end : (x : ℕ) (s : Path) (c : Bool) → is_cons s ≡ true → false ≡ is_above (cond c ([] ∷ s) (onto_first x s)) ([] ∷ [])
-    past_end x s true h = sym (none_above s h)
-    past_end x s false h = differ_right x s []
+  past_end : (x : ℕ) (s : Path) (c : Bool) → is_cons s ≡ true → false ≡ is_above (cond c ([] ∷ s) (onto_first x s)) ([] ∷ [])
+  past_end x s true h = sym (none_above s h)
+  past_end x s false h = differ_right x s []
 above_split (x ∷ xs) (y ∷ ys) =
     ap (λ b. (x == y) && b) (above_split xs ys)
     ∙ above_step x y (slice_split is_slash xs) (slice_split is_slash ys) (is_slash x) (is_slash y) refl refl (split_cons xs) (split_cons ys)
@@ -201,10 +201,10 @@ onto_no_nul x (c ∷ cs) h =
 split_no_nul : (t : List ℕ) → list_all no_nul (slice_split is_slash t) ≡ true → HasNoNul t
 split_no_nul [] h = tt
 split_no_nul (x ∷ xs) h = by_slash (is_slash x) refl h (λ k. split_no_nul xs k) where
-    by_slash : (b : Bool) → is_slash x ≡ b → list_all no_nul (cond b ([] ∷ slice_split is_slash xs) (onto_first x (slice_split is_slash xs))) ≡ true
-        → (list_all no_nul (slice_split is_slash xs) ≡ true → HasNoNul xs) → HasNoNul (x ∷ xs)
-    by_slash true e k others = (slash_positive x e, others k)
-    by_slash false e k others = let parts = onto_no_nul x (slice_split is_slash xs) k in (parts.0, others parts.1)
+  by_slash : (b : Bool) → is_slash x ≡ b → list_all no_nul (cond b ([] ∷ slice_split is_slash xs) (onto_first x (slice_split is_slash xs))) ≡ true
+      → (list_all no_nul (slice_split is_slash xs) ≡ true → HasNoNul xs) → HasNoNul (x ∷ xs)
+  by_slash true e k others = (slash_positive x e, others k)
+  by_slash false e k others = let parts = onto_no_nul x (slice_split is_slash xs) k in (parts.0, others parts.1)
 
 pub components_no_nul : (t : List ℕ) → list_all is_component (slice_split is_slash t) ≡ true → HasNoNul t
 components_no_nul t h = split_no_nul t (all_no_nul (slice_split is_slash t) h)

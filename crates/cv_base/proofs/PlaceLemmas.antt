@@ -21,11 +21,11 @@ split_whole (x ∷ xs) h = none_step x xs (is_slash x) h (λ k. split_whole xs k
 within : (t : List ℕ) → nat_lt (position_or_len is_slash t) (length t) ≡ false → position_or_len is_slash t ≡ length t
 within [] h = refl
 within (x ∷ xs) h = by_slash (is_slash x) h (λ k. within xs k) where
-    by_slash : (b : Bool) → nat_lt (cond (not b) (1 + position_or_len is_slash xs) 0) (length (x ∷ xs)) ≡ false
-        → (nat_lt (position_or_len is_slash xs) (length xs) ≡ false → position_or_len is_slash xs ≡ length xs)
-        → cond (not b) (1 + position_or_len is_slash xs) 0 ≡ length (x ∷ xs)
-    by_slash true k others = grind (arith, nat_tests)
-    by_slash false k others = let e : nat_lt (position_or_len is_slash xs) (length xs) ≡ false = grind (arith, nat_tests) in let f = others e in omega arith
+  by_slash : (b : Bool) → nat_lt (cond (not b) (1 + position_or_len is_slash xs) 0) (length (x ∷ xs)) ≡ false
+      → (nat_lt (position_or_len is_slash xs) (length xs) ≡ false → position_or_len is_slash xs ≡ length xs)
+      → cond (not b) (1 + position_or_len is_slash xs) 0 ≡ length (x ∷ xs)
+  by_slash true k others = grind (arith, nat_tests)
+  by_slash false k others = let e : nat_lt (position_or_len is_slash xs) (length xs) ≡ false = grind (arith, nat_tests) in let f = others e in omega arith
 
 none_by : (t : List ℕ) (b : Bool) → nat_lt (position_or_len is_slash t) (length t) ≡ b → cond b (Some (position_or_len is_slash t)) None ≡ None → slice_split is_slash t ≡ t ∷ []
 none_by t true e h = cc

@@ -1,5 +1,6 @@
 use crate::package::PackageName;
 use cv_seq::{Seq, Text};
+use std::alloc::AllocError;
 
 /// An event of a range, after the OSV schema: at this version the flaw comes in or is gone.
 #[derive(Clone, Debug, PartialEq, Eq, PartialOrd, Ord, Drop)]
@@ -20,14 +21,14 @@ pub enum RangeKind {
 }
 
 /// A range of versions, told by its events.
-#[derive(Clone, Debug, PartialEq, Eq, PartialOrd, Ord, Drop)]
+#[derive(Debug, PartialEq, Eq, PartialOrd, Ord, Drop)]
 pub struct Range {
     pub kind: RangeKind,
     pub turns: Seq<Turn>,
 }
 
 /// One affected entry of an advisory: a package, with the versions that have the flaw.
-#[derive(Clone, Debug, PartialEq, Eq, PartialOrd, Ord, Drop)]
+#[derive(Debug, PartialEq, Eq, PartialOrd, Ord, Drop)]
 pub struct Affected {
     pub package: Option<PackageName>,
     pub ranges: Seq<Range>,
@@ -41,4 +42,31 @@ pub struct Advisory {
     pub modified: Text,
     pub withdrawn: bool,
     pub affected: Seq<Affected>,
+}
+
+impl Clone for Range {
+    ghost use Rattle.std.specs.Prelude.{◌≡◌};
+
+    ghost is_clone = { λ x y. y ≡ x };
+
+    fn clone(&self) -> Result<Range, AllocError> {
+        Ok(Range {
+            kind: self.kind,
+            turns: self.turns.clone()?,
+        })
+    }
+}
+
+impl Clone for Affected {
+    ghost use Rattle.std.specs.Prelude.{◌≡◌};
+
+    ghost is_clone = { λ x y. y ≡ x };
+
+    fn clone(&self) -> Result<Affected, AllocError> {
+        Ok(Affected {
+            package: self.package.clone()?,
+            ranges: self.ranges.clone()?,
+            versions: self.versions.clone()?,
+        })
+    }
 }

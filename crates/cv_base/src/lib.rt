@@ -15,6 +15,7 @@ mod package;
 mod package_files;
 mod path;
 mod places;
+mod steps;
 mod tree;
 
 pub use advisory::{Advisory, Affected, Range, RangeKind, Turn};
@@ -27,4 +28,5 @@ pub use package::{Package, PackageKind, PackageName};
 pub use package_files::place;
 pub use path::{MAX_PATH_LEN, PathError, RelPath};
 pub use places::Place;
+pub use steps::Steps;
 pub use tree::{Content, Kind, ListEntry, Node, PACKAGE_FILE_LIMIT, Tree, TreeEntry};

@@ -127,7 +127,8 @@ fn is_above_text(upper: &[u8], lower: &[u8]) -> bool
 fn are_components(text: &str) -> bool
     ensures { result ≡ list_all is_component (slice_split is_slash text.now) }
 {
-    text.split('/').all(|component| is_component(component.as_bytes()))
+    text.split('/')
+        .all(|component| is_component(component.as_bytes()))
 }
 
 /// Whether a text may stand between two slashes.
@@ -246,9 +247,7 @@ impl PartialOrd for RelPath {
 
     ghost partial_cmp = { λ x y. Some (slice_cmp (slice_cmp nat_cmp) x y) };
 
-    ghost laws = {
-        partial_order_from_agreeing_total (slice_cmp (slice_cmp nat_cmp)) (lists_total nat_list_cmp_total) (λ x y. refl) (lists_ties (slice_cmp nat_cmp) texts_ties)
-    };
+    ghost laws = { partial_order_from_agreeing_total (slice_cmp (slice_cmp nat_cmp)) (lists_total nat_list_cmp_total) (λ x y. refl) (lists_ties (slice_cmp nat_cmp) texts_ties) };
 
     fn partial_cmp(&self, other: &RelPath) -> Option<Ordering> {
         Some(self.cmp(other))
