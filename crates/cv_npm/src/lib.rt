@@ -1,0 +1,10 @@
+//! Reads npm's package.json into the package that it tells of.
+//!
+//! ```text
+//! let package = read_package(alloc, bytes)?;
+//! ```
+#![tactic(auto)]
+
+mod package;
+
+pub use package::NpmPackage;
