@@ -5,6 +5,8 @@
 //! ```
 #![tactic(auto)]
 
+mod file;
 mod package;
 
+pub use file::read_package;
 pub use package::NpmPackage;
