@@ -80,3 +80,6 @@ fn read_at(alloc: Global, item: &Value, index: u32) -> Result<Advisory, OsvError
         Err(AdvisoryError::NoMemory) => Err(OsvError::NoMemory),
     }
 }
+
+#[cfg(test)]
+mod tests;

@@ -13,5 +13,5 @@ returns-clause-indexed c =
     let index : c.len-index.result ≡ length c.args.records.now.items = search rules in
     let fresh : get (slice_cmp nat_cmp) c.args.places.now c.in_ok-record.record.id ≡ None = rw (← key) (sym c.in_ok-first.ensures.old ∙ c.in_default.is) in
     let updated : (id : List ℕ) → get (slice_cmp nat_cmp) c.insert.new.self id ≡ cond (is_eq (slice_cmp nat_cmp c.in_ok-record.record.id id)) (Some (length c.args.records.now.items)) (get (slice_cmp nat_cmp) c.args.places.now id) =
-      λ id. rw (← key, ← index) (c.in_ok-first.ensures.updates.0 id) in
+    λ id. rw (← key, ← index) (c.in_ok-first.ensures.updates.0 id) in
     rw c.in_ok-push.ensures.items (indexes_more c.args.places.now c.insert.new.self c.args.records.now.items c.in_ok-record.record c.requires.indexed fresh updated)
