@@ -1,12 +1,14 @@
 -- The index of each id, as records come behind others.
-use Rattle.std.specs.Prelude.{◌≡◌, ℕ, ◌+◌, Bool, true, false, cond, ◌==◌, List, [], ◌∷◌, ◌++◌, length, Option, Some, None, refl}
+use Rattle.std.specs.Prelude.{◌≡◌, ℕ, ◌+◌, Bool, true, false, cond, ◌==◌, List, [], ◌∷◌, ◌++◌, length, map, Option, Some, None, refl}
 use Rattle.std.specs.BTreeMap.{BTreeMap, get}
 use Rattle.std.specs.Cmp.Lexicographic.{bytes_decides, nat_list_eq_equiv, slice_cmp, texts_ties}
-use Rattle.std.specs.List.{position_from}
+use Rattle.std.specs.List.{AllByRecursion, IsDistinct, position_from}
 use Rattle.std.specs.Ordering.{is_eq, nat_cmp}
 use Rattle.std.proofs.Common.{◌∙◌, sym, ap, arith}
+use Rattle.std.proofs.lemmas.Option.{none-some}
 use Rattle.cv_base.specs.Texts.{same}
 use Rattle.cv_base.specs.declared.advisory.Advisory.{Advisory}
+use Rattle.cv_osv.specs.Records.{HasDistinctIds}
 use Rattle.cv_osv.specs.Told.{index_of, Indexes}
 
 -- the first of two that is there
@@ -23,6 +25,29 @@ position_snoc p i (y ∷ ys) x = by_test (p y) (position_snoc p (i + 1) ys x)
         → cond found (Some i) (position_from p (i + 1) (ys ++ x ∷ [])) ≡ or_else (cond found (Some i) (position_from p (i + 1) ys)) (cond (p x) (Some (i + length (y ∷ ys))) None)
     by_test true more = refl
     by_test false more = more ∙ ap (λ n. or_else (position_from p (i + 1) ys) (cond (p x) (Some n) None)) (omega arith)
+
+-- no records
+pub distinct_none : HasDistinctIds []
+unfolding IsDistinct
+distinct_none = tt
+
+-- what holds of each record's id, and of one more
+all_snoc : (P : List ℕ → Type 0) (records : List Advisory) (here : Advisory) → AllByRecursion P (map (λ there. there.id) records) → P here.id → AllByRecursion P (map (λ there. there.id) (records ++ here ∷ []))
+all_snoc P [] here held last = (last, tt)
+all_snoc P (first ∷ records) here held last = (held.0, all_snoc P records here held.1 last)
+
+-- a record whose id no other record has
+pub distinct_more : (i : ℕ) (records : List Advisory) (here : Advisory) → HasDistinctIds records → position_from (λ there. same here.id there.id) i records ≡ None → HasDistinctIds (records ++ here ∷ [])
+unfolding IsDistinct
+distinct_more i [] here distinct fresh = (tt, tt)
+distinct_more i (first ∷ records) here distinct fresh = by_test (same here.id first.id) refl fresh (distinct_more (i + 1) records here distinct.1)
+  where
+    by_test : (found : Bool) → same here.id first.id ≡ found → cond found (Some i) (position_from (λ there. same here.id there.id) (i + 1) records) ≡ None
+        → (position_from (λ there. same here.id there.id) (i + 1) records ≡ None → HasDistinctIds (records ++ here ∷ []))
+        → HasDistinctIds (first ∷ records ++ here ∷ [])
+    by_test true e fresh_there more = absurd (none-some i (sym fresh_there))
+    by_test false e fresh_there more =
+        (all_snoc (λ y. same first.id y ≡ false) records here distinct.0 (nat_list_eq_equiv.symm first.id here.id ∙ e), more fresh_there)
 
 -- the same id is one id to the order of the map
 found_by_order : (x y : List ℕ) → is_eq (slice_cmp nat_cmp x y) ≡ same y x

@@ -2,7 +2,7 @@
 -- gives the advisories in their order, or what stands at the first index at which something stands: the record's own
 -- fault, or an id that an earlier record has. Indices count from 0.
 use Rattle.std.specs.Prelude.{ℕ, Bool, false, nat_lt, if◌then◌else◌, List, [], ◌∷◌, ◌++◌, length, map, Option, Some, option_map, Result, Ok, Err}
-use Rattle.std.specs.List.{flat_map, position_from}
+use Rattle.std.specs.List.{IsDistinct, flat_map, position_from}
 use Rattle.std.specs.Option.{ok_or, option_to_list}
 use Rattle.std.specs.Result.{result_ok}
 use Rattle.cv_base.specs.Texts.{same}
@@ -52,3 +52,7 @@ unfoldable pub records_of : Data → Result (List Advisory) OsvError
 records_of d = do
   items ← ok_or (as_array d) NotList
   if nat_lt 200000 (length (items_list items)) then Err TooMany else listed (items_list items)
+
+-- no two records have one id
+abbrev pub HasDistinctIds : List Advisory → Type 0
+HasDistinctIds records = IsDistinct same (map (λ here. here.id) records)

@@ -1,7 +1,7 @@
-ghost use Rattle.std.specs.Prelude.{◌<◌, ◌≤◌, [], length, map, OnOk};
+ghost use Rattle.std.specs.Prelude.{◌≡◌, ◌+◌, ◌<◌, ◌≤◌, [], length, map, IfOk, OnOk};
 ghost use Rattle.cv_base.specs.Answer.{Gives};
 ghost use Rattle.cv_osv.specs.Answer.{is_osv_memory};
-ghost use Rattle.cv_osv.specs.Records.{records_of};
+ghost use Rattle.cv_osv.specs.Records.{HasDistinctIds, records_of};
 ghost use Rattle.cv_osv.specs.Record.{advisory_of};
 ghost use Rattle.cv_osv.specs.Told.{at_index, Indexes, one_more, told};
 ghost use Rattle.serde_json.specs.View.{view};
@@ -20,7 +20,9 @@ pub const MAX_RECORDS: usize = 200_000;
 /// something stands is told: the record's own fault, or an id that an earlier record has.
 #[tactic(auto, using(crate::proofs::Told::records_none, crate::proofs::Told::records_over, crate::proofs::Told::records_told))]
 pub fn read_records(alloc: Global, value: &Value) -> Result<Seq<Advisory>, OsvError>
-    ensures { Gives is_osv_memory (λ records. records) result (records_of (view value.now)) }
+    ensures value { Gives is_osv_memory (λ records. records) result (records_of (view value.now)) }
+    ensures distinct { IfOk result HasDistinctIds }
+    ensures within { IfOk result (λ records. length records ≤ 200000) }
 {
     let Some(items) = value.as_array() else {
         return Err(OsvError::NotList);
@@ -31,9 +33,12 @@ pub fn read_records(alloc: Global, value: &Value) -> Result<Seq<Advisory>, OsvEr
     read_all(alloc, items.as_slice())
 }
 
+#[tactic(auto, using(crate::proofs::Places::distinct_none))]
 fn read_all(alloc: Global, items: &[Value]) -> Result<Seq<Advisory>, OsvError>
     requires { length items.now ≤ 200000 }
-    ensures { Gives is_osv_memory (λ records. records) result (told [] (map view items.now)) }
+    ensures value { Gives is_osv_memory (λ records. records) result (told [] (map view items.now)) }
+    ensures distinct { IfOk result HasDistinctIds }
+    ensures count { IfOk result (λ records. length records ≡ length items.now) }
 {
     let mut records = Vec::new(alloc);
     let mut places = BTreeMap::new(alloc);
@@ -54,9 +59,12 @@ fn push_record(
 ) -> Result<(), OsvError>
     requires room { length records.old.items < 200000 }
     requires indexed { Indexes places.old records.old.items }
+    requires distinct { HasDistinctIds records.old.items }
     ensures told { Gives is_osv_memory (λ _. records.new.items) result
         (one_more records.old.items (advisory_of (view item.now))) }
     ensures indexed { OnOk result (Indexes places.new records.new.items) }
+    ensures distinct { OnOk result (HasDistinctIds records.new.items) }
+    ensures count { OnOk result (length records.new.items ≡ length records.old.items + 1) }
 {
     let index = records.len() as u32;
     let record = read_at(alloc, item, index)?;
