@@ -38,6 +38,11 @@ abbrev pub items_or : {E : Type 0} → E → Option Data → Result Items E
 items_or bad None = Ok no_items
 items_or bad (Some d) = ok_or (as_array d) bad
 
+-- the items as a list
+abbrev pub items_list : Items → List Data
+items_list no_items = []
+items_list (item d ds) = d ∷ items_list ds
+
 -- what each item is read as, in order
 abbrev pub each : {A E : Type 0} → (Data → Result A E) → Items → Result (List A) E
 each f no_items = Ok []
