@@ -1,4 +1,5 @@
 pub mod Bools
+pub mod CoverWords
 mod Examples
 pub mod ParentWords
 pub mod PathWords

@@ -11,6 +11,7 @@ use Rattle.cv_base.specs.Texts.{same}
 use Rattle.cv_base.proofs.PathLemmas.{above_components}
 use Rattle.cv_overlay.specs.Fault.{needs_parent}
 use Rattle.cv_overlay.specs.Mark.{same_path, parent_of, name_of, is_reserved_name, mark_of}
+use Rattle.cv_overlay.specs.Cover.{is_some_text}
 use Rattle.cv_overlay.specs.Text.{is_within, mark_by}
 use Rattle.cv_overlay.proofs.Bools.{both_ways}
 use Rattle.cv_overlay.proofs.PathWords.{is_cons, same_is, same_self, path_is, path_self, needs_parent_last, parent_of_last, name_of_last, mark_told}
@@ -66,9 +67,6 @@ parent_needed a b h = rw (components_last a b h) (needs_parent_last (slice_split
 
 -- Being within a directory.
 
-abbrev pub is_some_text : List ℕ → Bool
-is_some_text [] = false
-is_some_text (y ∷ ys) = true
 
 swapped : (x y : ℕ) → (x == y) ≡ (y == x)
 swapped x y = grind (arith, nat_tests)
@@ -87,7 +85,7 @@ other true dir = refl
 other false true = refl
 other false false = refl
 
-within_text : (a b : List ℕ) (dir : Bool) → is_within a b dir ≡ (goes_on a b || (dir && same b a))
+pub within_text : (a b : List ℕ) (dir : Bool) → is_within a b dir ≡ (goes_on a b || (dir && same b a))
 within_text [] [] dir = own dir
 within_text [] (y ∷ ys) dir = other (is_slash y) dir
 within_text (x ∷ xs) [] dir = other false dir
@@ -114,7 +112,7 @@ above_at_end y (d ∷ ds) true h = refl
 above_at_end y [] false h = refl
 above_at_end y (d ∷ ds) false h = refl
 
-above_split : (a b : List ℕ) → is_some_text b ≡ true → is_above (slice_split is_slash a) (components b) ≡ goes_on a b
+pub above_split : (a b : List ℕ) → is_some_text b ≡ true → is_above (slice_split is_slash a) (components b) ≡ goes_on a b
 above_split a [] h = cc
 above_split [] (y ∷ ys) h = above_at_end y (slice_split is_slash ys) (is_slash y) (split_cons ys)
 above_split (x ∷ xs) (y ∷ ys) h = sym (above_components (x ∷ xs) (y ∷ ys))

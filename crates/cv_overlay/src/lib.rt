@@ -8,6 +8,7 @@
 #![tactic(auto)]
 
 mod check;
+mod cover;
 mod cut;
 mod fault;
 mod mark;

@@ -1,18 +1,9 @@
 use Rattle.std.proofs.Common.{◌≡◌, ℕ, Bool, true, false, ◌==◌, List, [], ◌∷◌, ◌++◌, length, refl, sym, ap, ◌∙◌, arith}
 use Rattle.std.proofs.lemmas.Bool.{eqb-true}
 use Rattle.cv_base.specs.Path.{components}
-use Rattle.cv_overlay.proofs.TextWords.{is_some_text, parent_needed, stands_in, stands_in_none}
+use Rattle.cv_overlay.proofs.CoverWords.{empty_text, some_text}
+use Rattle.cv_overlay.proofs.TextWords.{parent_needed, stands_in, stands_in_none}
 use Rattle.cv_overlay.proofs.check.stands_by_parent.Goals as goal
-
-empty_text : (t : List ℕ) (b : Bool) → b ≡ (length t == 0) → b ≡ true → is_some_text t ≡ false
-empty_text [] b h k = refl
-empty_text (x ∷ xs) b h k =
-    let none : length (x ∷ xs) ≡ 0 = eqb-true (length (x ∷ xs)) 0 (sym h ∙ k) in
-    absurd (omega (arith, none))
-
-some_text : (t : List ℕ) (b : Bool) → b ≡ (length t == 0) → b ≡ false → is_some_text t ≡ true
-some_text [] b h k = cc
-some_text (x ∷ xs) b h k = refl
 
 pub returns-in_default-before : goal.returns-in_default-before
 returns-in_default-before g c =
