@@ -8,7 +8,7 @@ use Rattle.std.specs.List.{list_all, slice_split}
 use Rattle.std.specs.Option.{option_map, option_or}
 use Rattle.std.specs.Str.{is_utf8}
 use Rattle.cv_base.specs.Texts.{same}
-use Rattle.cv_osrel.specs.Value.{is_blank, value_of}
+use Rattle.cv_osrel.specs.Value.{cut, is_blank, value_of}
 use Rattle.cv_osrel.specs.declared.name.OsName.{OsName}
 
 -- the byte at the end of a line
@@ -58,11 +58,6 @@ is_name (x ∷ xs) = is_name_start x && list_all is_name_byte xs
 -- the byte between a name and its value
 abbrev pub is_equals : ℕ → Bool
 is_equals byte = byte == 61
-
--- what stands before the first byte that passes, and what behind it
-abbrev pub cut : (ℕ → Bool) → List ℕ → Option (List ℕ × List ℕ)
-cut passes [] = None
-cut passes (x ∷ xs) = if passes x then Some ([], xs) else option_map (λ p. (x ∷ p.0, p.1)) (cut passes xs)
 
 -- an assignment
 pub record Assignment : Type 0 where
