@@ -1,6 +1,7 @@
 ghost use Rattle.std.specs.Prelude.{◌≡◌, IfNone, IfSome, true, [], ◌∷◌};
 ghost use Rattle.std.specs.Cmp.{IsTotalOrder};
 ghost use Rattle.cv_order.specs.Digits.{after_digits, front_digits, is_digit, number_cmp, run_cmp, without_zeros};
+ghost use Rattle.cv_order.specs.Laws.{IsTotalPreorder};
 
 use std::cmp::Ordering;
 
@@ -14,10 +15,10 @@ pub struct Compared<'a> {
     pub right: &'a [u8],
 }
 
-/// Any two runs of digits compare, and as numbers do: the order is transitive, the other way round it is the reverse, and
-/// runs that compare equal compare alike with every third. Leading zeros do not count, and no run is too long.
+/// Runs of digits are ordered as numbers: any two compare, transitively, and the other way round the answer is the reverse.
 pub fn number_order_laws()
-    ensures { IsTotalOrder number_cmp }
+    ensures laws { IsTotalPreorder number_cmp }
+    ensures order { IsTotalOrder number_cmp }
 {}
 
 /// The text without the zeros that lead it.
@@ -99,4 +100,13 @@ fn split_digit(text: &[u8]) -> Option<(u8, &[u8])>
         [byte, rest @ ..] if byte.is_ascii_digit() => Some((*byte, rest)),
         _ => None,
     }
+}
+
+/// Compares two whole runs of digits as numbers of any length; the empty run is 0.
+pub fn compare_digits(a: &[u8], b: &[u8]) -> Ordering
+    ensures { result ≡ number_cmp a.now b.now }
+{
+    let left = significant(a);
+    let right = significant(b);
+    left.len().cmp(&right.len()).then_with(|| left.cmp(right))
 }

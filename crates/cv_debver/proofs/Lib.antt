@@ -1,0 +1,3 @@
+mod Examples
+pub mod Hyphens
+pub mod Pairs
