@@ -1,6 +1,7 @@
 pub mod Bools
 pub mod CoverWords
 mod Examples
+pub mod MergeWords
 pub mod ParentWords
 pub mod PathWords
 pub mod TextWords
