@@ -4,4 +4,5 @@ mod Examples
 pub mod MergeWords
 pub mod ParentWords
 pub mod PathWords
+pub mod SearchWords
 pub mod TextWords

@@ -3,7 +3,7 @@ use Rattle.std.specs.Prelude.{◌≡◌, List, [], ◌∷◌, Option, Some, None
 use Rattle.std.specs.declared.cmp.Ordering.{Ordering}
 use Rattle.std.specs.declared.cmp.Ordering.TheVariants.{Less, Equal, Greater}
 use Rattle.std.specs.List.{AllByRecursion}
-use Rattle.cv_base.specs.Path.{Path, path_cmp}
+use Rattle.cv_base.specs.Path.{path_cmp}
 use Rattle.cv_base.specs.declared.tree.TreeEntry.{TreeEntry}
 
 -- entries that rise strictly by their paths

@@ -19,7 +19,11 @@ pub fn put(room: &mut Vec<TreeEntry>, entry: TreeEntry)
 }
 
 /// Two lists in path order in one. At a path of both the upper entry stands.
-pub fn merge(mut room: Vec<TreeEntry>, lower: Vec<TreeEntry>, upper: Vec<TreeEntry>) -> Vec<TreeEntry>
+pub fn merge(
+    mut room: Vec<TreeEntry>,
+    lower: Vec<TreeEntry>,
+    upper: Vec<TreeEntry>,
+) -> Vec<TreeEntry>
     requires empty { room.items ≡ [] }
     requires room { vec_len room + (length lower.items + length upper.items) ≤ vec_capacity room }
     ensures { result.items ≡ merged lower.items upper.items }
@@ -44,7 +48,12 @@ fn order_of_fronts(low: &VecDeque<TreeEntry>, high: &VecDeque<TreeEntry>) -> Opt
 }
 
 /// Moves the first entry of two queues to the end of a list, or drops a lower one in whose place an upper one stands.
-fn take_first(order: Ordering, room: &mut Vec<TreeEntry>, low: &mut VecDeque<TreeEntry>, high: &mut VecDeque<TreeEntry>)
+fn take_first(
+    order: Ordering,
+    room: &mut Vec<TreeEntry>,
+    low: &mut VecDeque<TreeEntry>,
+    high: &mut VecDeque<TreeEntry>,
+)
     requires order { order_of_fronts low.old.items high.old.items ≡ Some order }
     requires room { vec_len room.old + (length low.old.items + length high.old.items) ≤ vec_capacity room.old }
     ensures told { room.new.items ++ merged low.new.items high.new.items ≡ room.old.items ++ merged low.old.items high.old.items }

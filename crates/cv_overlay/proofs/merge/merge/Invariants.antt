@@ -6,7 +6,8 @@ use Rattle.cv_overlay.proofs.merge.merge.Given as goal
 abbrev pub invariant-loop-order : goal.invariant-loop-order
 invariant-loop-order l = record {
   told : l.room.items ++ merged l.low.items l.high.items ≡ merged l.fn.lower.items l.fn.upper.items;
-  room : vec_len l.room + (length l.low.items + length l.high.items) ≤ vec_capacity l.room }
+  room : vec_len l.room + (length l.low.items + length l.high.items) ≤ vec_capacity l.room;
+}
 
 abbrev pub decreases-loop-order : goal.decreases-loop-order
 decreases-loop-order l = length l.low.items + length l.high.items

@@ -1,5 +1,4 @@
-use Rattle.std.proofs.Common.{◌≡◌, List, None, not, filter, map, subst, sym, ap, ◌∙◌}
-use Rattle.cv_base.specs.Path.{Path}
+use Rattle.std.proofs.Common.{◌≡◌, List, None, not, filter, subst, sym, ap, ◌∙◌}
 use Rattle.cv_base.specs.declared.tree.TreeEntry.{TreeEntry}
 use Rattle.cv_overlay.specs.Fault.{tree_fault}
 use Rattle.cv_overlay.specs.Lay.{hides, is_plain, lay, node_at}
@@ -14,8 +13,8 @@ made : (c : goal.After-drop-covers-3)
 made c =
     let tree : List TreeEntry = c.as_slice-entries.result.now in
     let kept : c.keep.result.items ≡ filter (λ (e : TreeEntry). not (hides tree e.path)) c.self.inside.list.items =
-        c.keep.ensures.told (hides tree) c.in_ok-covers.ensures.told
-        ∙ ap (λ v. filter (λ (e : TreeEntry). not (hides tree e.path)) v.items) c.replace-lower.ensures.value in
+    c.keep.ensures.told (hides tree) c.in_ok-covers.ensures.told
+    ∙ ap (λ v. filter (λ (e : TreeEntry). not (hides tree e.path)) v.items) c.replace-lower.ensures.value in
     c.merge.ensures ∙ ap (λ (l : List TreeEntry). merged l c.in_ok-upper.upper.items) kept
     ∙ ap (merged (filter (λ (e : TreeEntry). not (hides tree e.path)) c.self.inside.list.items)) c.in_ok-upper.ensures
 
