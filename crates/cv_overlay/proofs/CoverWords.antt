@@ -1,13 +1,12 @@
 -- What a tree hides, told by texts: each entry's part, and the look-up of the fronts of a text.
-use Rattle.std.specs.Prelude.{◌≡◌, ℕ, ◌<◌, ◌≤◌, Bool, true, false, ◌&&◌, ◌||◌, ◌==◌, not, if◌then◌else◌, List, [], ◌∷◌, ◌++◌, length, map, take, drop, MatchResult, Result, Ok, Err, refl}
+use Rattle.std.specs.Prelude.{◌≡◌, ℕ, ◌<◌, ◌≤◌, Bool, true, false, ◌&&◌, ◌||◌, ◌==◌, not, if◌then◌else◌, List, [], ◌∷◌, ◌++◌, length, map, take, drop, Result, Ok, Err, refl}
 use Rattle.std.specs.Cmp.Lexicographic.{slice_cmp, nat_list_cmp_total, texts_ties}
 use Rattle.std.specs.List.{list_any, slice_split}
 use Rattle.std.specs.List.Sorted.{IsSortedBy, IsSearchInRange, IsBinarySearchResult, IsPermutation}
 use Rattle.std.specs.Ordering.{nat_cmp, is_lt}
 use Rattle.std.specs.Result.{is_ok}
-use Rattle.std.specs.declared.cmp.Ordering.{Ordering}
 use Rattle.std.specs.declared.cmp.Ordering.TheVariants.{Less, Equal, Greater}
-use Rattle.std.proofs.Common.{zero, suc, ap, sym, ◌∙◌, ◌⊎◌, inl, inr, get_or, drop-cons, arith}
+use Rattle.std.proofs.Common.{zero, suc, ap, sym, ◌∙◌, inl, inr, get_or, drop-cons, arith}
 use Rattle.std.proofs.lemmas.Grind.{common_steps}
 use Rattle.std.proofs.lemmas.Bool.{cases_lt, eqb-true}
 use Rattle.std.proofs.lemmas.List.Folds.{list_any_at, list_any_none}
@@ -124,9 +123,9 @@ goes_none (x ∷ xs) = refl
 -- the directory of a path of more than one component, and what is below it
 pub directory_is : (a n t : List ℕ) → list_any is_slash n ≡ false → goes_on a t ≡ is_above (parent_of (components (a ++ 47 ∷ n))) (components t)
 directory_is a n t h = rw (components_last a n h, parent_of_last (slice_split is_slash a) n) (at_text t) where
-    at_text : (t : List ℕ) → goes_on a t ≡ is_above (slice_split is_slash a) (components t)
-    at_text [] = goes_none a ∙ sym (above_none (slice_split is_slash a))
-    at_text (y ∷ ys) = sym (above_split a (y ∷ ys) refl)
+  at_text : (t : List ℕ) → goes_on a t ≡ is_above (slice_split is_slash a) (components t)
+  at_text [] = goes_none a ∙ sym (above_none (slice_split is_slash a))
+  at_text (y ∷ ys) = sym (above_split a (y ∷ ys) refl)
 
 top_above : (s : Path) → is_cons s ≡ true → true ≡ is_above [] s
 top_above [] h = cc
@@ -157,9 +156,9 @@ any_drop : (n : ℕ) (t : List ℕ) → list_any is_slash t ≡ false → list_a
 any_drop zero t h = h
 any_drop (suc n) [] h = refl
 any_drop (suc n) (x ∷ xs) h = any_drop n xs (rest (is_slash x) (list_any is_slash xs) h) where
-    rest : (a b : Bool) → (a || b) ≡ false → b ≡ false
-    rest true b h = cc
-    rest false b h = h
+  rest : (a b : Bool) → (a || b) ≡ false → b ≡ false
+  rest true b h = cc
+  rest false b h = h
 
 some_name : (x : List ℕ) → not (is_special x) ≡ true → is_some_text x ≡ true
 some_name [] h = cc
@@ -193,8 +192,8 @@ target_cons (x ∷ xs) c = refl
 -- the text of a target is not empty
 pub target_some : (c : List ℕ) (p : Path) → components c ≡ target_of p → is_some_text c ≡ true
 target_some [] p e = absurd (differ ([]) (target_of p) e refl (target_cons (parent_of p) (drop 4 (name_of p)))) where
-    differ : (q r : Path) → q ≡ r → is_cons q ≡ false → is_cons r ≡ true → ⊥
-    differ q r e h k = cc
+  differ : (q r : Path) → q ≡ r → is_cons q ≡ false → is_cons r ≡ true → ⊥
+  differ q r e h k = cc
 target_some (x ∷ xs) p e = refl
 
 -- Fronts.
@@ -209,9 +208,9 @@ after_end : (b c : List ℕ) → false ≡ after b c []
 after_end [] c = sym (goes_none c)
 after_end (x ∷ b) [] = refl
 after_end (x ∷ b) (z ∷ c) = by_head (z == x) (after b c []) (after_end b c) where
-    by_head : (h r : Bool) → false ≡ r → false ≡ (h && r)
-    by_head true r e = e
-    by_head false r e = refl
+  by_head : (h r : Bool) → false ≡ r → false ≡ (h && r)
+  by_head true r e = e
+  by_head false r e = refl
 
 end_here : (s : Bool) → ((s && true) || false) ≡ s
 end_here true = refl
@@ -323,9 +322,10 @@ searched_text key xs t (Ok i) sorted bound found =
 searched_text key xs t (Err i) sorted bound found =
     let point = found (searchable_from_sorted nat_list_cmp_total key xs t sorted) in
     sym (list_any_none (λ x. same (key x) t) xs
-        (λ k d h. elim (cases_lt k i) [
-            inl l ↦ less_differs (key (get_or xs k d)) t (point.0 k d (omega arith) l)
-            | inr g ↦ greater_differs (key (get_or xs k d)) t (point.1 k d g h) ]))
+    (λ k d h. elim (cases_lt k i) [
+      | inl l ↦ less_differs (key (get_or xs k d)) t (point.0 k d (omega arith) l)
+      | inr g ↦ greater_differs (key (get_or xs k d)) t (point.1 k d g h)
+    ]))
     ∙ any_key key xs t
 
 -- What the entries hide.

@@ -24,10 +24,10 @@ use Rattle.cv_overlay.proofs.PathWords.{same_is, same_self, path_is, path_self}
 
 -- The order of paths.
 
-path_total : IsTotalOrder path_cmp
+pub path_total : IsTotalOrder path_cmp
 path_total = lists_total nat_list_cmp_total
 
-less_is : (o : Ordering) → is_less o ≡ true → o ≡ Less
+pub less_is : (o : Ordering) → is_less o ≡ true → o ≡ Less
 less_is Less h = refl
 less_is Equal h = cc
 less_is Greater h = cc

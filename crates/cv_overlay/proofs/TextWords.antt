@@ -67,7 +67,6 @@ parent_needed a b h = rw (components_last a b h) (needs_parent_last (slice_split
 
 -- Being within a directory.
 
-
 swapped : (x y : ℕ) → (x == y) ≡ (y == x)
 swapped x y = grind (arith, nat_tests)
 

@@ -1,9 +1,9 @@
 -- Two lists of entries in path order laid on one another, as lists.
-use Rattle.std.specs.Prelude.{◌≡◌, Bool, List, [], ◌∷◌}
+use Rattle.std.specs.Prelude.{◌≡◌, List, [], ◌∷◌, Option, Some, None}
 use Rattle.std.specs.declared.cmp.Ordering.{Ordering}
 use Rattle.std.specs.declared.cmp.Ordering.TheVariants.{Less, Equal, Greater}
 use Rattle.std.specs.List.{AllByRecursion}
-use Rattle.cv_base.specs.Path.{Path, path_cmp}
+use Rattle.cv_base.specs.Path.{path_cmp}
 use Rattle.cv_base.specs.declared.tree.TreeEntry.{TreeEntry}
 
 -- entries that rise strictly by their paths
@@ -23,3 +23,9 @@ abbrev pub merged : List TreeEntry → List TreeEntry → List TreeEntry
 merged [] ys = ys
 merged (x ∷ xs) [] = x ∷ xs
 merged (x ∷ xs) (y ∷ ys) = first_of_two (path_cmp x.path y.path) x y (merged xs (y ∷ ys)) (merged xs (y ∷ ys)) (merged (x ∷ xs) ys)
+
+-- the order of the first entries, if both lists have one
+abbrev pub order_of_fronts : List TreeEntry → List TreeEntry → Option Ordering
+order_of_fronts [] ys = None
+order_of_fronts (x ∷ xs) [] = None
+order_of_fronts (x ∷ xs) (y ∷ ys) = Some (path_cmp x.path y.path)

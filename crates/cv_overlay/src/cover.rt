@@ -144,7 +144,8 @@ fn has_whole(list: &[Vec<u8>], text: &[u8]) -> bool
     requires { IsSortedBy (λ x y. is_lt (slice_cmp nat_cmp x.items y.items)) list.now }
     ensures { result ≡ has_text (map (λ w. w.items) list.now) text.now }
 {
-    list.binary_search_by(|cover| cover.as_slice().cmp(text)).is_ok()
+    list.binary_search_by(|cover| cover.as_slice().cmp(text))
+        .is_ok()
 }
 
 /// Whether a sorted list has a text.

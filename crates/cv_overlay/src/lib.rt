@@ -8,12 +8,16 @@
 #![tactic(auto)]
 
 mod check;
+mod copy;
 mod cover;
 mod cut;
 mod fault;
 mod mark;
+mod merge;
 mod outline;
+mod root;
 
 pub use check::check_tree;
 pub use fault::{OverlayError, TreeFault};
 pub use mark::{Mark, mark_of};
+pub use root::Root;

@@ -1,5 +1,4 @@
-use Rattle.std.proofs.Common.{◌≡◌, ℕ, Bool, true, false, ◌==◌, List, [], ◌∷◌, ◌++◌, length, refl, sym, ap, ◌∙◌, arith}
-use Rattle.std.proofs.lemmas.Bool.{eqb-true}
+use Rattle.std.proofs.Common.{◌≡◌, ◌∷◌, ◌++◌, refl, sym, ap, ◌∙◌}
 use Rattle.cv_base.specs.Path.{components}
 use Rattle.cv_overlay.proofs.CoverWords.{empty_text, some_text}
 use Rattle.cv_overlay.proofs.TextWords.{parent_needed, stands_in, stands_in_none}

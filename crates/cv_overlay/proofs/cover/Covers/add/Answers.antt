@@ -1,4 +1,4 @@
-use Rattle.std.proofs.Common.{◌≡◌, ℕ, List, [], ◌∷◌, ◌++◌, ◌||◌, ◌&&◌, not, true, Bor, Vec, Global, map, sym, ap, ◌∙◌, subst}
+use Rattle.std.proofs.Common.{ℕ, List, ◌||◌, ◌&&◌, not, Bor, Vec, Global, map, sym, ap, ◌∙◌}
 use Rattle.cv_base.specs.Path.{Path, components, is_above}
 use Rattle.cv_overlay.specs.Cover.{hides_text}
 use Rattle.cv_overlay.specs.Mark.{is_whiteout_name, name_of}

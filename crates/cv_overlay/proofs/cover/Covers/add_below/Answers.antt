@@ -10,7 +10,7 @@ returns-in_ok-push c = λ t.
     let whole : List (List ℕ) = map (λ (w : Vec ℕ Global). w.items) covers.whole.items in
     let below : List (List ℕ) = map (λ (b : Bor (List ℕ)). b.now) covers.below.items in
     let more : map (λ (b : Bor (List ℕ)). b.now) c.push.new.self.items ≡ below ++ c.args.text.now ∷ [] =
-        ap (map (λ (b : Bor (List ℕ)). b.now)) c.in_ok-push.ensures.items ∙ map-append (λ (b : Bor (List ℕ)). b.now) covers.below.items (c.args.text ∷ []) in
+    ap (map (λ (b : Bor (List ℕ)). b.now)) c.in_ok-push.ensures.items ∙ map-append (λ (b : Bor (List ℕ)). b.now) covers.below.items (c.args.text ∷ []) in
     ap (λ (b : List (List ℕ)). hides_text whole b covers.all t) more
     ∙ told_below whole below covers.all t c.args.text.now
     ∙ ap (λ h. hides_text whole below covers.all t || h) (below_is c.args.text.now t (some_text c.args.text.now c.is_empty.result c.is_empty.ensures c.if-is_empty.false))

@@ -12,7 +12,7 @@ returns-in_ok-push-in-Some c = λ t.
     let whole : List (List ℕ) = map (λ (w : Vec ℕ Global). w.items) covers.whole.items in
     let below : List (List ℕ) = map (λ (b : Bor (List ℕ)). b.now) covers.below.items in
     let more : map (λ (b : Bor (List ℕ)). b.now) c.push.new.self.items ≡ below ++ c.in-Some.directory.now ∷ [] =
-        ap (map (λ (b : Bor (List ℕ)). b.now)) c.in_ok-push-in-Some.ensures.items ∙ map-append (λ (b : Bor (List ℕ)). b.now) covers.below.items (c.in-Some.directory ∷ []) in
+    ap (map (λ (b : Bor (List ℕ)). b.now)) c.in_ok-push-in-Some.ensures.items ∙ map-append (λ (b : Bor (List ℕ)). b.now) covers.below.items (c.in-Some.directory ∷ []) in
     ap (λ (b : List (List ℕ)). hides_text whole b covers.all t) more
     ∙ told_below whole below covers.all t c.in-Some.directory.now
     ∙ ap (λ h. hides_text whole below covers.all t || h) (directory_is c.in-Some.directory.now c.in-Some.field-0-1.now t c.in-Some.ensures.last)

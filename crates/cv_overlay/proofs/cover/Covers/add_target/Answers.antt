@@ -1,4 +1,4 @@
-use Rattle.std.proofs.Common.{◌≡◌, ℕ, List, [], ◌∷◌, ◌++◌, ◌||◌, Bor, Vec, Global, map, sym, ap, ◌∙◌}
+use Rattle.std.proofs.Common.{◌≡◌, ℕ, List, [], ◌∷◌, ◌++◌, ◌||◌, Bor, Vec, Global, map, ap, ◌∙◌}
 use Rattle.std.proofs.lemmas.List.{map-append}
 use Rattle.cv_base.specs.Path.{components}
 use Rattle.cv_overlay.specs.Cover.{hides_text}
@@ -13,7 +13,7 @@ returns c = λ t.
     let below : List (List ℕ) = map (λ (b : Bor (List ℕ)). b.now) covers.below.items in
     let target : List ℕ = c.in_ok-target_text.field-0.items in
     let more : map (λ (w : Vec ℕ Global). w.items) c.push.new.self.items ≡ whole ++ target ∷ [] =
-        ap (map (λ (w : Vec ℕ Global). w.items)) c.in_ok-push.ensures.items ∙ map-append (λ (w : Vec ℕ Global). w.items) covers.whole.items (c.in_ok-target_text.field-0 ∷ []) in
+    ap (map (λ (w : Vec ℕ Global). w.items)) c.in_ok-push.ensures.items ∙ map-append (λ (w : Vec ℕ Global). w.items) covers.whole.items (c.in_ok-target_text.field-0 ∷ []) in
     let parts = c.in_ok-target_text.ensures c.requires in
     ap (λ (w : List (List ℕ)). hides_text w below covers.all t) more
     ∙ told_whole whole below covers.all t target
