@@ -32,11 +32,11 @@ or_none (Some x) = refl
 
 join_assoc : (a b c : Facts) → join (join a b) c ≡ join a (join b c)
 join_assoc a b c = λ i. record {
-    name = or_assoc a.name b.name c.name i;
-    version = or_assoc a.version b.version c.version i;
-    arch = or_assoc a.arch b.arch c.arch i;
-    origin = or_assoc a.origin b.origin c.origin i
-  }
+  name = or_assoc a.name b.name c.name i;
+  version = or_assoc a.version b.version c.version i;
+  arch = or_assoc a.arch b.arch c.arch i;
+  origin = or_assoc a.origin b.origin c.origin i;
+}
 
 join_nothing : (a : Facts) → join a nothing ≡ a
 join_nothing a = λ i. record { name = or_none a.name i; version = or_none a.version i; arch = or_none a.arch i; origin = or_none a.origin i }
@@ -85,7 +85,7 @@ faults_snoc : (b p : List Line) (l : Line) (h : List Line) → line_faults b (p 
 faults_snoc b [] l h = ap (λ q. at l.number (line_fault q l.text) ++ line_faults (q ++ l ∷ []) h) (sym (append-nil b))
 faults_snoc b (x ∷ p) l h =
     ap (λ r. at x.number (line_fault b x.text) ++ r)
-        (faults_snoc (b ++ x ∷ []) p l h ∙ ap (λ q. line_faults (b ++ x ∷ []) p ++ (at l.number (line_fault q l.text) ++ line_faults (q ++ l ∷ []) h)) (append_assoc b (x ∷ []) p))
+    (faults_snoc (b ++ x ∷ []) p l h ∙ ap (λ q. line_faults (b ++ x ∷ []) p ++ (at l.number (line_fault q l.text) ++ line_faults (q ++ l ∷ []) h)) (append_assoc b (x ∷ []) p))
     ∙ sym (append_assoc (at x.number (line_fault b x.text)) (line_faults (b ++ x ∷ []) p) (at l.number (line_fault (b ++ x ∷ p) l.text) ++ line_faults ((b ++ x ∷ p) ++ l ∷ []) h))
 
 -- lines without a fault, and then one
@@ -121,7 +121,7 @@ faulty : (found : List ApkPackage) (p : List Line) (l : Line) (h : List Line) (p
     → answer_all found ((p ++ l ∷ h) ∷ ps) ≡ bad l.number w
 faulty found p l h ps w e f =
     ap (λ r. as_read (answer ((r ++ end_faults (p ++ l ∷ h)) ++ flat_map faults ps) (found ++ (packages (p ++ l ∷ h) ++ flat_map packages ps))))
-        (first_fault p l h e ∙ ap (λ o. at l.number o ++ line_faults (p ++ l ∷ []) h) f)
+    (first_fault p l h e ∙ ap (λ o. at l.number o ++ line_faults (p ++ l ∷ []) h) f)
 
 -- The whole file.
 
@@ -133,10 +133,10 @@ glue p (h ∷ t) = (p ++ h) ∷ t
 glue_none : (ls : List Line) → glue [] (slice_split is_gap ls) ≡ slice_split is_gap ls
 glue_none [] = refl
 glue_none (l ∷ ls) = by (is_gap l) (slice_split is_gap ls) where
-    by : (b : Bool) (r : List (List Line)) → glue [] (cond b ([] ∷ r) (onto_first l r)) ≡ cond b ([] ∷ r) (onto_first l r)
-    by true r = refl
-    by false [] = refl
-    by false (h ∷ t) = refl
+  by : (b : Bool) (r : List (List Line)) → glue [] (cond b ([] ∷ r) (onto_first l r)) ≡ cond b ([] ∷ r) (onto_first l r)
+  by true r = refl
+  by false [] = refl
+  by false (h ∷ t) = refl
 
 glue_first : (p : List Line) (l : Line) (r : List (List Line)) → glue (p ++ l ∷ []) r ≡ glue p (onto_first l r)
 glue_first p l [] = refl
@@ -154,9 +154,9 @@ Tells ts = (p : List Line) (n : ℕ) (found : List ApkPackage) → line_faults [
 
 told_none : Tells []
 told_none p n found e = sym (answer_cons found p [] e ∙ last (close (state_of p) found)) ∙ ap (λ q. answer_all found (q ∷ [])) (sym (append-nil p)) where
-    last : (r : Result (List ApkPackage) ReadBad) → and_then r (λ o. answer_all o []) ≡ r
-    last (Ok o) = ap Ok (append-nil o)
-    last (Err bad) = refl
+  last : (r : Result (List ApkPackage) ReadBad) → and_then r (λ o. answer_all o []) ≡ r
+  last (Ok o) = ap Ok (append-nil o)
+  last (Err bad) = refl
 
 told_gap : (ts : List (List ℕ)) → Tells ts → Tells ([] ∷ ts)
 told_gap ts more p n found e =
@@ -167,13 +167,15 @@ told_gap ts more p n found e =
 told_line : (x : ℕ) (xs : List ℕ) (ts : List (List ℕ)) → Tells ts → Tells ((x ∷ xs) ∷ ts)
 told_line x xs ts more p n found e =
     ap (λ r. and_then r (λ k. told (n + 1) k found ts)) (line_given p l) ∙ by (line_fault p (x ∷ xs)) refl where
-    l : Line
-    l = record { number = n + 1; text = x ∷ xs }
-    rest : List (List Line)
-    rest = slice_split is_gap (numbered (n + 1 + 1) ts)
-    by : (w : Option What) → line_fault p (x ∷ xs) ≡ w → and_then (given (n + 1) w (state_of (p ++ l ∷ []))) (λ k. told (n + 1) k found ts) ≡ answer_all found (glue p (onto_first l rest))
-    by None h = more (p ++ l ∷ []) (n + 1) found (first_fault p l [] e ∙ ap (λ o. at (n + 1) o ++ []) h) ∙ ap (answer_all found) (glue_first p l rest)
-    by (Some w) h = faulty_first found p l rest w e h
+      l : Line
+      l = record { number = n + 1; text = x ∷ xs }
+
+      rest : List (List Line)
+      rest = slice_split is_gap (numbered (n + 1 + 1) ts)
+
+      by : (w : Option What) → line_fault p (x ∷ xs) ≡ w → and_then (given (n + 1) w (state_of (p ++ l ∷ []))) (λ k. told (n + 1) k found ts) ≡ answer_all found (glue p (onto_first l rest))
+      by None h = more (p ++ l ∷ []) (n + 1) found (first_fault p l [] e ∙ ap (λ o. at (n + 1) o ++ []) h) ∙ ap (answer_all found) (glue_first p l rest)
+      by (Some w) h = faulty_first found p l rest w e h
 
 told_is : (ts : List (List ℕ)) → Tells ts
 told_is [] = told_none

@@ -14,11 +14,11 @@ entry_view e = record { letter = e.letter; value = e.value.now }
 -- what the lines tell
 abbrev pub facts_view : held.Facts → Facts
 facts_view f = record {
-    name = option_map (λ x. x.now) f.name;
-    version = option_map (λ x. x.now) f.version;
-    arch = option_map (λ x. x.now) f.arch;
-    origin = option_map (λ x. x.now) f.origin
-  }
+  name = option_map (λ x. x.now) f.name;
+  version = option_map (λ x. x.now) f.version;
+  arch = option_map (λ x. x.now) f.arch;
+  origin = option_map (λ x. x.now) f.origin;
+}
 
 -- the lines of a package so far
 abbrev pub state_view : Block → State

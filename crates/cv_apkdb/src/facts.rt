@@ -160,16 +160,10 @@ fn new_value<'a>(before: Option<&str>, value: &'a [u8]) -> Result<&'a str, What>
 fn new_filled_value<'a>(before: Option<&str>, value: &'a [u8]) -> Result<&'a str, What>
     ensures { Gives (λ _. false) (λ text. text.now) result (taken letter.Name (option_map (λ s. s.now) before.entry) value.now) }
 {
-    if before.is_some() {
-        return Err(What::Repeated);
-    }
-    if value.is_empty() {
+    if before.is_none() && value.is_empty() {
         return Err(What::BadValue);
     }
-    match printing(value) {
-        Some(text) => Ok(text),
-        None => Err(What::BadValue),
-    }
+    new_value(before, value)
 }
 
 /// A text that is not empty, or else the other one, whose bytes are then shared.

@@ -46,8 +46,11 @@ fn read_all(alloc: Global, bytes: &[u8]) -> Result<Vec<ApkPackage>, ReadBad>
         }
         left = after;
     }
-    if let Err(bad) = block.close(alloc, &mut found) {
-        return Err(bad);
+    match block.close(alloc, &mut found) {
+        Ok(()) => Ok(found),
+        Err(bad) => Err(bad),
     }
-    Ok(found)
 }
+
+#[cfg(test)]
+mod tests;

@@ -12,10 +12,10 @@ low x h = grind (arith, nat_tests)
 ascii : (t : List ℕ) (i : ℕ) → get_or (digits t) i 0 < 128
 ascii [] i = omega arith
 ascii (x ∷ xs) i = by (is_digit x) refl (ascii xs) i where
-    by : (b : Bool) → is_digit x ≡ b → ((k : ℕ) → get_or (digits xs) k 0 < 128) → (j : ℕ) → get_or (digits (x ∷ xs)) j 0 < 128
-    by true e h zero = simp e (low x e)
-    by true e h (suc j) = simp e (h j)
-    by false e h j = simp e (omega arith)
+  by : (b : Bool) → is_digit x ≡ b → ((k : ℕ) → get_or (digits xs) k 0 < 128) → (j : ℕ) → get_or (digits (x ∷ xs)) j 0 < 128
+  by true e h zero = simp e (low x e)
+  by true e h (suc j) = simp e (h j)
+  by false e h j = simp e (omega arith)
 
 -- digits are UTF-8
 pub digits_utf8 : (d t : List ℕ) → d ≡ digits t → IsUtf8 d
@@ -56,14 +56,14 @@ back_more x xs q n = let e : 1 + q ≡ suc q = omega arith in rw (e, next q n) (
 pub front_is : (t : List ℕ) → digits t ≡ front_by t (position (λ b. not (is_digit b)) t)
 front_is [] = refl
 front_is (x ∷ xs) = by (is_digit x) refl (front_is xs) where
-    by : (b : Bool) → is_digit x ≡ b → digits xs ≡ front_by xs (position no_digit xs) → digits (x ∷ xs) ≡ front_by (x ∷ xs) (position no_digit (x ∷ xs))
-    by true e h = simp e (ap (λ r. x ∷ r) h ∙ front_more x xs (position_or_len no_digit xs) (length xs))
-    by false e h = simp e (rw (first (length xs)) refl)
+  by : (b : Bool) → is_digit x ≡ b → digits xs ≡ front_by xs (position no_digit xs) → digits (x ∷ xs) ≡ front_by (x ∷ xs) (position no_digit (x ∷ xs))
+  by true e h = simp e (ap (λ r. x ∷ r) h ∙ front_more x xs (position_or_len no_digit xs) (length xs))
+  by false e h = simp e (rw (first (length xs)) refl)
 
 -- and the rest begins there
 pub back_is : (t : List ℕ) → after_digits t ≡ back_by t (position (λ b. not (is_digit b)) t)
 back_is [] = refl
 back_is (x ∷ xs) = by (is_digit x) refl (back_is xs) where
-    by : (b : Bool) → is_digit x ≡ b → after_digits xs ≡ back_by xs (position no_digit xs) → after_digits (x ∷ xs) ≡ back_by (x ∷ xs) (position no_digit (x ∷ xs))
-    by true e h = simp e (h ∙ back_more x xs (position_or_len no_digit xs) (length xs))
-    by false e h = simp e (rw (first (length xs)) refl)
+  by : (b : Bool) → is_digit x ≡ b → after_digits xs ≡ back_by xs (position no_digit xs) → after_digits (x ∷ xs) ≡ back_by (x ∷ xs) (position no_digit (x ∷ xs))
+  by true e h = simp e (h ∙ back_more x xs (position_or_len no_digit xs) (length xs))
+  by false e h = simp e (rw (first (length xs)) refl)

@@ -42,8 +42,8 @@ escaped_more v left xs x y ys e f p q = onto_onto v (unescaped y) (double_quoted
 -- a backslash with nothing behind it
 pub loose : (v left xs : List ℕ) (x : ℕ) → left ≡ x ∷ xs → xs ≡ [] → (x ≡ 34 → ⊥) → onto v (double_quoted left) ≡ None
 loose v left xs x e f p = ap (λ l. onto v (double_quoted l)) (e ∙ ap (λ r. x ∷ r) f) ∙ by (unlike x 34 p) where
-    by : is_double_quote x ≡ false → onto v (double_quoted (x ∷ [])) ≡ None
-    by h = simp h
+  by : is_double_quote x ≡ false → onto v (double_quoted (x ∷ [])) ≡ None
+  by h = simp h
 
 closing_by : (v : List ℕ) (x : ℕ) (xs : List ℕ) → is_double_quote x ≡ true → onto v (double_quoted (x ∷ xs)) ≡ (if is_nil xs then Some v else None)
 closing_by v x [] h = simp h (ap Some (append-nil v))

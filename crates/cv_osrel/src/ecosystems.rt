@@ -65,3 +65,53 @@ fn alpine(alloc: Global, version: Option<&Text>) -> Result<Text, NoMemory>
     text.push_str(branch.minor)?;
     Text::of(alloc, text.as_str())
 }
+
+#[cfg(test)]
+mod tests {
+    use super::*;
+    use std::test::Fail;
+
+    #[test]
+    fn ecosystems_have_the_form_of_osv(rt: HostRuntime) -> Result<(), Fail> {
+        let alloc = rt.alloc();
+        for (id, version, want) in [
+            ("debian", Some("12"), "Debian:12"),
+            ("debian", None, "Debian"),
+            ("alpine", Some("3.18.4"), "Alpine:v3.18"),
+            ("alpine", Some("3.19"), "Alpine:v3.19"),
+            ("alpine", Some("3.20_alpha20240329"), "Alpine:v3.20"),
+            ("alpine", Some("edge"), "Alpine"),
+            ("alpine", Some("3"), "Alpine"),
+            ("alpine", Some("3."), "Alpine"),
+            ("alpine", Some(".18"), "Alpine"),
+            ("alpine", Some("v3.18"), "Alpine"),
+            ("alpine", None, "Alpine"),
+            ("ubuntu", Some("22.04"), "ubuntu:22.04"),
+            ("Debian", Some("12"), "Debian:12"),
+            ("arch", None, "arch"),
+        ] {
+            let version = match version {
+                Some(version) => Some(Text::of(alloc, version)?),
+                None => None,
+            };
+            let id = Text::of(alloc, id)?;
+            let os = OsName { id, version };
+            let deb = ecosystem(alloc, Some(&os), PackageKind::Deb)?;
+            assert_eq!(rt; deb.as_str(), want);
+            let apk = ecosystem(alloc, Some(&os), PackageKind::Apk)?;
+            assert_eq!(rt; apk.as_str(), want);
+            let npm = ecosystem(alloc, Some(&os), PackageKind::Npm)?;
+            assert_eq!(rt; npm.as_str(), "npm");
+        }
+        assert_eq!(rt;
+            ecosystem(alloc, None, PackageKind::Deb)?.as_str(),
+            "unknown"
+        );
+        assert_eq!(rt;
+            ecosystem(alloc, None, PackageKind::Apk)?.as_str(),
+            "unknown"
+        );
+        assert_eq!(rt; ecosystem(alloc, None, PackageKind::Npm)?.as_str(), "npm");
+        Ok(())
+    }
+}
