@@ -1,1 +1,2 @@
+pub mod OneLayer
 pub mod Ordered
