@@ -1,2 +1,4 @@
+pub mod Keyed
 pub mod Root
 pub mod Scan
+pub mod Unmarked
