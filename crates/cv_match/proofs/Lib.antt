@@ -1,1 +1,4 @@
 mod Examples
+pub mod Fixes
+pub mod Introductions
+pub mod EventsRead
