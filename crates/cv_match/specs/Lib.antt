@@ -1,5 +1,7 @@
 pub mod Affects
+pub mod Answer
 pub mod Findings
+pub mod Hit
 pub mod Order
 pub mod Ready
 pub mod Walk

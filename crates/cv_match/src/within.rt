@@ -1,9 +1,10 @@
-ghost use Rattle.std.specs.Prelude.{◌≡◌, ℕ, None, option_map};
+ghost use Rattle.std.specs.Prelude.{◌≡◌, ℕ, None, map, option_map};
 ghost use Rattle.std.specs.List.{list_any, position_from};
 ghost use Rattle.std.specs.Option.{option_copied};
 ghost use Rattle.std.specs.Ordering.{on};
 ghost use Rattle.cv_match.specs.Affects.{is_least_fix};
 ghost use Rattle.cv_match.specs.Order.{version_cmp_of};
+ghost use Rattle.cv_match.specs.Ready.{event_text};
 ghost use Rattle.cv_match.specs.Walk.{last_start, lasts, later_of, later_start, least_place, lesser_fix, lesser_of, numbered};
 ghost use Rattle.cv_match.specs.Within.{bound_cmp, brings, ends, holds, is_below_limits, is_limit, is_limit_above};
 
@@ -13,6 +14,12 @@ use std::cmp::Ordering;
 
 /// Whether the events have the version within. The time is linear in the events.
 pub(crate) fn holds<V: Version>(events: &[Placed<V>], version: &V) -> bool
+    ensures { result ≡ holds (version_cmp_of V.kind) (map (event_text V.text) events.now) (V.text version.now) }
+{
+    have_within(events, version)
+}
+
+fn have_within<V: Version>(events: &[Placed<V>], version: &V) -> bool
     ensures { result ≡ holds (on V.text (version_cmp_of V.kind)) events.now version.now }
 {
     is_below_limits(events, version) && is_brought(events, version)
@@ -148,7 +155,7 @@ fn compare_bounds<V: Version>(a: &Bound<V>, b: &Bound<V>) -> Ordering
 
 /// The place of the least fix above the version, from 0: the first one, where several are equal.
 pub(crate) fn least_fix<V: Version>(events: &[Placed<V>], version: &V) -> Option<usize>
-    ensures { result ≡ position_from (is_least_fix (on V.text (version_cmp_of V.kind)) events.now version.now) 0 events.now }
+    ensures { let all = map (event_text V.text) events.now in result ≡ position_from (is_least_fix (version_cmp_of V.kind) all (V.text version.now)) 0 all }
 {
     least_place(events, version)
 }
