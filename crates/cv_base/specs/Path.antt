@@ -2,7 +2,7 @@
 -- two of them, and none at the two ends. cvwatch's own: a path has at most 4,096 bytes, and no component
 -- is empty, `.` or `..`, or has a NUL.
 use Rattle.std.specs.Prelude.{ℕ, Bool, true, false, ◌&&◌, ◌==◌, nat_lt, if◌then◌else◌, not, List, [], ◌∷◌, length, codes, Result, Ok, Err}
-use Rattle.std.specs.Cmp.Lexicographic.{slice_cmp}
+use Rattle.std.specs.Cmp.Lexicographic.{pointwise, slice_cmp}
 use Rattle.std.specs.List.{list_all, list_any, slice_split}
 use Rattle.std.specs.Ordering.{nat_cmp}
 use Rattle.std.specs.declared.cmp.Ordering.{Ordering}
@@ -13,6 +13,10 @@ use Rattle.cv_base.specs.declared.path.PathError.TheVariants.{Empty, TooLong, Ba
 -- a path is the list of its components; that of the top is empty
 abbrev pub Path : Type 0
 Path = List (List ℕ)
+
+-- whether two paths are the same
+abbrev pub same_path : Path → Path → Bool
+same_path = pointwise same
 
 -- the byte between two components
 abbrev pub is_slash : ℕ → Bool

@@ -1,6 +1,7 @@
 ghost use Rattle.std.specs.Prelude.{◌≡◌, IfNone, IfSome, true, [], ◌∷◌};
 ghost use Rattle.std.specs.Cmp.{IsTotalOrder};
 ghost use Rattle.cv_order.specs.Digits.{after_digits, front_digits, is_digit, number_cmp, run_cmp, without_zeros};
+ghost use Rattle.cv_order.specs.Laws.{IsTotalPreorder};
 
 use std::cmp::Ordering;
 
@@ -14,10 +15,10 @@ pub struct Compared<'a> {
     pub right: &'a [u8],
 }
 
-/// Any two runs of digits compare, and as numbers do: the order is transitive, the other way round it is the reverse, and
-/// runs that compare equal compare alike with every third. Leading zeros do not count, and no run is too long.
+/// Runs of digits are ordered as numbers: any two compare, transitively, and the other way round the answer is the reverse.
 pub fn number_order_laws()
-    ensures { IsTotalOrder number_cmp }
+    ensures laws { IsTotalPreorder number_cmp }
+    ensures order { IsTotalOrder number_cmp }
 {}
 
 /// The text without the zeros that lead it.
@@ -98,5 +99,48 @@ fn split_digit(text: &[u8]) -> Option<(u8, &[u8])>
     match text {
         [byte, rest @ ..] if byte.is_ascii_digit() => Some((*byte, rest)),
         _ => None,
+    }
+}
+
+/// Compares two whole runs of digits as numbers of any length; the empty run is 0.
+pub fn compare_digits(a: &[u8], b: &[u8]) -> Ordering
+    ensures { result ≡ number_cmp a.now b.now }
+{
+    let left = significant(a);
+    let right = significant(b);
+    left.len().cmp(&right.len()).then_with(|| left.cmp(right))
+}
+
+#[cfg(test)]
+mod tests {
+    use super::*;
+
+    #[test]
+    fn runs_of_digits_compare_as_numbers(rt: HostRuntime) {
+        for (a, b, want) in [
+            ("9", "10", Ordering::Less),
+            ("007", "7", Ordering::Equal),
+            ("", "000", Ordering::Equal),
+            ("4294967296", "1", Ordering::Greater),
+            (
+                "18446744073709551616",
+                "18446744073709551615",
+                Ordering::Greater,
+            ),
+        ] {
+            assert_eq!(rt;
+                compare_digits(a.as_bytes(), b.as_bytes()),
+                want,
+                "{a} and {b}"
+            );
+        }
+    }
+
+    #[test]
+    fn the_rests_stand_behind_the_digits(rt: HostRuntime) {
+        let found = compare_numbers(b"010-a", b"9+b");
+        assert_eq!(rt; found.ordering, Ordering::Greater);
+        assert_eq!(rt; found.left, b"-a".as_slice());
+        assert_eq!(rt; found.right, b"+b".as_slice());
     }
 }

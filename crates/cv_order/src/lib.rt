@@ -6,4 +6,6 @@
 
 mod digits;
 
-pub use digits::{Compared, compare_numbers, number_order_laws, significant, skip_digits};
+pub use digits::{
+    Compared, compare_digits, compare_numbers, number_order_laws, significant, skip_digits,
+};

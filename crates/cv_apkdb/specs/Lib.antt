@@ -1,0 +1,3 @@
+pub mod Installed
+pub mod Lines
+pub mod Package

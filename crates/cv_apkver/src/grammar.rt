@@ -1,0 +1,178 @@
+ghost use Rattle.std.specs.Prelude.{◌≡◌, ◌↔◌, IsTrue};
+ghost use Rattle.std.specs.List.{list_all};
+ghost use Rattle.std.specs.Option.{option_copied};
+ghost use Rattle.cv_order.specs.Digits.{is_digit};
+ghost use Rattle.cv_apkver.specs.Grammar.{DOT, IsVersion, UNDERSCORE, is_number, rank_of};
+ghost use Rattle.cv_apkver.specs.Parts.{is_build, is_last_number, is_letter_or_nothing, is_release, is_suffix, is_version, pieces, pieces_behind};
+
+use crate::parts::{Parts, cut, split_word};
+use cv_order::skip_digits;
+
+/// Whether a text is a version: `number{.number}[letter]{_suffix[number]}[-rnumber]`. A number is one or more digits, however
+/// many; the letter is one of a to z; the suffix is one of alpha, beta, pre, rc, cvs, svn, git, hg and p.
+pub fn is_version(text: &[u8]) -> bool
+    ensures grammar { IsTrue result ↔ IsVersion text.now }
+    ensures value { result ≡ is_version text.now }
+{
+    has_version_parts(text)
+}
+
+fn has_version_parts(text: &[u8]) -> bool
+    ensures { result ≡ is_version text.now }
+{
+    let parts = Parts::of(text);
+    is_release(parts.release) && are_suffixes(parts.suffixes) && is_build(parts.build)
+}
+
+#[tactic(auto, using(crate::proofs::Pieces::release_last, crate::proofs::Pieces::release_more, crate::proofs::Pieces::release_bad, crate::proofs::Pieces::shorter))]
+fn is_release(text: &[u8]) -> bool
+    ensures { result ≡ is_release (pieces DOT text.now) }
+{
+    let mut left = text;
+    loop {
+        match cut(left, b'.') {
+            (last, None) => return is_last_number(last),
+            (number, Some(rest)) => {
+                if !is_number(number) {
+                    return false;
+                }
+                left = rest;
+            }
+        }
+    }
+}
+
+#[tactic(auto, using(crate::proofs::Pieces::pieces_cut, crate::proofs::Pieces::behind_len))]
+fn are_suffixes(text: Option<&[u8]>) -> bool
+    ensures { result ≡ list_all is_suffix (pieces_behind UNDERSCORE (option_copied text.entry)) }
+{
+    let mut left = text;
+    while let Some(rest) = left {
+        let (suffix, more) = cut(rest, b'_');
+        if !is_suffix(suffix) {
+            return false;
+        }
+        left = more;
+    }
+    true
+}
+
+fn is_build(text: Option<&[u8]>) -> bool
+    ensures { result ≡ is_build (option_copied text.entry) }
+{
+    match text {
+        None => true,
+        Some([b'r', number @ ..]) => is_number(number),
+        Some(_) => false,
+    }
+}
+
+fn is_suffix(text: &[u8]) -> bool
+    ensures { result ≡ is_suffix text.now }
+{
+    let (word, number) = split_word(text);
+    rank(word).is_some() && are_digits(number)
+}
+
+#[tactic(auto, using(crate::proofs::Numbers::last_number))]
+fn is_last_number(text: &[u8]) -> bool
+    ensures { result ≡ is_last_number text.now }
+{
+    match text {
+        [first, ..] if first.is_ascii_digit() => is_letter_or_nothing(skip_digits(text)),
+        _ => false,
+    }
+}
+
+fn is_letter_or_nothing(text: &[u8]) -> bool
+    ensures { result ≡ is_letter_or_nothing text.now }
+{
+    match text {
+        [] => true,
+        [letter] => letter.is_ascii_lowercase(),
+        _ => false,
+    }
+}
+
+#[tactic(auto, using(crate::proofs::Numbers::number_some))]
+fn is_number(text: &[u8]) -> bool
+    ensures { result ≡ is_number text.now }
+{
+    !text.is_empty() && are_digits(text)
+}
+
+fn are_digits(text: &[u8]) -> bool
+    ensures { result ≡ list_all is_digit text.now }
+{
+    text.iter().all(|byte| byte.is_ascii_digit())
+}
+
+/// The rank of a suffix by its word. Their end has the rank 4.
+pub(crate) fn rank(word: &[u8]) -> Option<u8>
+    ensures { result ≡ rank_of word.now }
+{
+    match word {
+        b"alpha" => Some(0),
+        b"beta" => Some(1),
+        b"pre" => Some(2),
+        b"rc" => Some(3),
+        b"cvs" => Some(5),
+        b"svn" => Some(6),
+        b"git" => Some(7),
+        b"hg" => Some(8),
+        b"p" => Some(9),
+        _ => None,
+    }
+}
+
+#[cfg(test)]
+mod tests {
+    use super::*;
+    use std::test::Fail;
+
+    #[test]
+    fn tells_versions_from_other_texts(rt: HostRuntime) -> Result<(), Fail> {
+        for version in [
+            "0",
+            "1.2",
+            "1.2.0-r1",
+            "3.1.1-r1",
+            "1.2a",
+            "1.2_p",
+            "2.0.1z_alpha_beta1_pre2_rc3_cvs4_svn5_git20240101_hg7_p8-r12",
+            "00.00-r00",
+            "340282366920938463463374607431768211456.1",
+        ] {
+            assert!(rt; is_version(version.as_bytes()), "{version}");
+        }
+        for text in [
+            "",
+            "a",
+            ".1",
+            "1.",
+            "1..2",
+            "1.2ab",
+            "1.2A",
+            "1a.2",
+            "1a1",
+            "1.2~ab",
+            "1.2_",
+            "1.2_foo",
+            "1.2_alph",
+            "1.2_alphab",
+            "1.2_p1a",
+            "1.2_p1.2",
+            "1.2-",
+            "1.2-1",
+            "1.2-r",
+            "1.2-r1a",
+            "1.2-r1-r2",
+            "1.2-r1_p1",
+            "1.2 ",
+            "1:2",
+        ] {
+            assert!(rt; !is_version(text.as_bytes()), "{text}");
+        }
+        Ok(())
+    }
+}

@@ -1,0 +1,93 @@
+use super::*;
+use std::test::Fail;
+
+// each is less than all behind it
+const SUFFIXES: [&str; 10] = [
+    "3_alpha", "3_beta", "3_pre", "3_rc", "3", "3_cvs", "3_svn", "3_git", "3_hg", "3_p",
+];
+
+// the same by every part of a version
+const RISING: [&str; 32] = [
+    "0",
+    "0-r1",
+    "0.0",
+    "0.9",
+    "0.10",
+    "0.18446744073709551615",
+    "0.18446744073709551616",
+    "0.18446744073709551617",
+    "0.99999999999999999999",
+    "0.100000000000000000000",
+    "1_alpha_alpha",
+    "1_alpha",
+    "1_alpha-r1",
+    "1_alpha_p",
+    "1_alpha1_beta",
+    "1_alpha1",
+    "1_alpha9",
+    "1_alpha10",
+    "1_alpha18446744073709551616",
+    "1_beta",
+    "1",
+    "1-r1",
+    "1-r2",
+    "1-r10",
+    "1-r18446744073709551616",
+    "1_p",
+    "1_p1-r3",
+    "1a_pre2",
+    "1a",
+    "1z",
+    "1.0_alpha",
+    "1.0",
+];
+
+const EQUAL: [(&str, &str); 12] = [
+    ("1.2", "1.2"),
+    ("01.2", "1.2"),
+    ("1.02", "1.2"),
+    ("1.000", "1.0"),
+    ("1.00018446744073709551616", "1.18446744073709551616"),
+    ("1.2_rc", "1.2_rc0"),
+    ("1.2_rc01", "1.2_rc1"),
+    ("1.2_rc_p00", "1.2_rc_p"),
+    ("1.2-r0", "1.2"),
+    ("1.2-r010", "1.2-r10"),
+    ("1.2b_git-r00", "1.2b_git"),
+    ("007.00_alpha00-r00", "7.0_alpha"),
+];
+
+#[test]
+fn orders_by_every_part(rt: HostRuntime) -> Result<(), Fail> {
+    for (i, a) in SUFFIXES.iter().enumerate() {
+        for (j, b) in SUFFIXES.iter().enumerate() {
+            assert_eq!(rt;
+                compare(a.as_bytes(), b.as_bytes()),
+                i.cmp(&j),
+                "{a} and {b}"
+            );
+        }
+    }
+    for (i, a) in RISING.iter().enumerate() {
+        for (j, b) in RISING.iter().enumerate() {
+            assert_eq!(rt;
+                compare(a.as_bytes(), b.as_bytes()),
+                i.cmp(&j),
+                "{a} and {b}"
+            );
+        }
+    }
+    for (a, b) in EQUAL {
+        assert_eq!(rt;
+            compare(a.as_bytes(), b.as_bytes()),
+            Ordering::Equal,
+            "{a} and {b}"
+        );
+        assert_eq!(rt;
+            compare(b.as_bytes(), a.as_bytes()),
+            Ordering::Equal,
+            "{b} and {a}"
+        );
+    }
+    Ok(())
+}

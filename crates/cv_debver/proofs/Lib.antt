@@ -1,0 +1,4 @@
+mod Examples
+pub mod Hyphens
+pub mod Pairs
+pub mod Written

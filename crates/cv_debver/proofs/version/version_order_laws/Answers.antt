@@ -1,0 +1,6 @@
+use Rattle.cv_order.specs.Laws.{total_preorder}
+use Rattle.cv_debver.specs.Version.{version_total}
+use Rattle.cv_debver.proofs.version.version_order_laws.Goals as goal
+
+pub returns : goal.returns
+returns c = record { laws = total_preorder version_total; order = version_total }

@@ -1,0 +1,98 @@
+-- A layer that is loaded by its listing and its reads is the layer as it is loaded.
+use Rattle.std.proofs.Common.{◌≡◌, ℕ, Bool, true, false, ◌&&◌, ◌||◌, not, cond, nat_eq, ◌==◌, nat_lt, List, [], ◌∷◌, ◌++◌, map, length, Option, Some, None, is_none, refl, sym, ◌∙◌, ap}
+use Rattle.std.specs.Prelude.{IfOk, IfSome, Result, Ok, Err}
+use Rattle.std.specs.Option.{option_map}
+use Rattle.std.specs.Cmp.Lexicographic.{pointwise, nat_list_eq_equiv, lists_equiv}
+use Rattle.std.specs.List.{AllByRecursion, list_all, list_any}
+use Rattle.cv_base.specs.Path.{Path, same_path}
+use Rattle.cv_base.specs.Place.{place_of}
+use Rattle.cv_base.specs.Texts.{same}
+use Rattle.cv_base.specs.declared.tree.Content.{Content}
+use Rattle.cv_base.specs.declared.tree.Content.TheVariants.{Bytes, TooLarge, Unread}
+use Rattle.cv_base.specs.declared.tree.ListEntry.{ListEntry}
+use Rattle.cv_base.specs.declared.tree.Node.{Node}
+use Rattle.cv_base.specs.declared.tree.Node.TheVariants as node
+use Rattle.cv_base.specs.declared.tree.Tree.{Tree}
+use Rattle.cv_base.specs.declared.tree.TreeEntry.{TreeEntry}
+use Rattle.cv_desk.specs.declared.desk.DeskFault.{DeskFault}
+use Rattle.cv_desk.specs.Loaded.{answered, content_of, is_read, loaded, loaded_by, loaded_file, loaded_kind, node_of}
+use Rattle.cv_desk.specs.Stored.{Item, Dir, File, Other, Stored, IsDistinctIn, file_read, is_distinct, item_at, item_in, kind_of, listed}
+
+-- each of these entries is found at its path
+abbrev AreFound : List Stored → List Stored → Type 0
+AreFound all es = AllByRecursion (λ e. item_at all e.path ≡ Some e.item) es
+
+or_left : (a b : Bool) → a || b ≡ false → a ≡ false
+or_left true b h = h
+or_left false b h = refl
+
+or_right : (a b : Bool) → a || b ≡ false → b ≡ false
+or_right true b h = cc
+or_right false b h = h
+
+-- an entry of another path in front hides none
+behind : (e : Stored) (all es : List Stored) → list_any (λ f. same_path e.path f.path) es ≡ false → AreFound all es → AreFound (e ∷ all) es
+behind e all [] h found = tt
+behind e all (f ∷ fs) h found =
+    (
+        rw (or_left (same_path e.path f.path) (list_any (λ g. same_path e.path g.path) fs) h) found.0,
+        behind e all fs (or_right (same_path e.path f.path) (list_any (λ g. same_path e.path g.path) fs) h) found.1,
+    )
+
+not_false : (b c : Bool) → not b && c ≡ true → (b ≡ false) × (c ≡ true)
+not_false true c h = cc
+not_false false c h = (refl, h)
+
+same_itself : (p : Path) → same_path p p ≡ true
+same_itself p = (lists_equiv nat_list_eq_equiv).refl p
+
+found_all : (es : List Stored) → is_distinct es ≡ true → AreFound es es
+found_all [] h = tt
+found_all (e ∷ es) h =
+    let parts = not_false (list_any (λ f. same_path e.path f.path) es) (is_distinct es) h in
+    (rw (same_itself e.path) refl, behind e es es parts.0 (found_all es parts.1))
+
+file_by : (path : Path) (bytes : List ℕ) (none large : Bool)
+    → cond none (node.File Unread) (answered (cond large Rattle.cv_desk.specs.declared.desk.FileRead.TheVariants.TooLarge (Rattle.cv_desk.specs.declared.desk.FileRead.TheVariants.Bytes bytes)))
+    ≡ node.File (cond none Unread (cond large TooLarge (Bytes bytes)))
+file_by path bytes true large = refl
+file_by path bytes false true = refl
+file_by path bytes false false = refl
+
+item_loaded : (path : Path) (item : Item) → loaded_kind path (kind_of item) (Some item) ≡ node_of path item
+item_loaded path Dir = refl
+item_loaded path (File bytes) = file_by path bytes (is_none (place_of path)) (nat_lt 33554432 (length bytes))
+item_loaded path Other = refl
+
+entry_loaded : (all : List Stored) (e : Stored) → item_at all e.path ≡ Some e.item → loaded_by (Some all) (listed e) ≡ loaded e
+entry_loaded all e h =
+    let is : loaded_kind e.path (kind_of e.item) (item_at all e.path) ≡ node_of e.path e.item = rw h (item_loaded e.path e.item) in
+    λ i. record { path = e.path; node = is i }
+
+entries_loaded : (all es : List Stored) → AreFound all es → map (loaded_by (Some all)) (map listed es) ≡ map loaded es
+entries_loaded all [] h = refl
+entries_loaded all (e ∷ es) h = λ i. entry_loaded all e h.0 i ∷ entries_loaded all es h.1 i
+
+-- the whole layer
+pub loaded_whole : (es : List Stored) → is_distinct es ≡ true → map (loaded_by (Some es)) (map listed es) ≡ map loaded es
+loaded_whole es h = entries_loaded es es (found_all es h)
+
+pub all_snoc : {X : Type 0} (p : X → Bool) (xs : List X) (x : X) → list_all p xs ≡ true → p x ≡ true → list_all p (xs ++ x ∷ []) ≡ true
+all_snoc p [] x h k = rw k refl
+all_snoc p (y ∷ ys) x h k = by_test (p y) h (λ g. all_snoc p ys x g k) where
+    by_test : (b : Bool) → b && list_all p ys ≡ true → (list_all p ys ≡ true → list_all p (ys ++ x ∷ []) ≡ true) → b && list_all p (ys ++ x ∷ []) ≡ true
+    by_test true h others = others h
+    by_test false h others = cc
+
+-- the entries of what was loaded
+abbrev entries_in : Option Tree → Option (List TreeEntry)
+entries_in found = option_map (λ tree. tree.entries) found
+
+-- what is loaded of a layer, if there is one
+pub load_told : (tree : Option (Option (List Stored))) → IsDistinctIn tree → (found : Option (List ListEntry)) (r : Result (Option Tree) DeskFault)
+    → IfSome tree (λ t. found ≡ option_map (map listed) t) → IfSome tree (λ t. IfOk r (λ out. entries_in out ≡ option_map (map (loaded_by t)) found))
+    → IfSome tree (λ t. IfOk r (λ out. entries_in out ≡ option_map (map loaded) t))
+load_told None d found r h k = tt
+load_told (Some t) d found (Err e) h k = tt
+load_told (Some None) d found (Ok out) h k = k ∙ ap (option_map (map (loaded_by None))) h
+load_told (Some (Some es)) d found (Ok out) h k = k ∙ ap (option_map (map (loaded_by (Some es)))) h ∙ ap Some (loaded_whole es d)

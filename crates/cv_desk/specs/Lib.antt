@@ -1,0 +1,6 @@
+pub mod Fault
+pub mod Loaded
+pub mod Row
+pub mod Stored
+pub mod Table
+pub mod TableRow

@@ -1,0 +1,70 @@
+-- A layer as it is loaded (cvwatch's own): the bytes of package files alone are read, up to their limit.
+use Rattle.std.specs.Prelude.{ℕ, Bool, true, nat_lt, is_none, if◌then◌else◌, List, length, Option}
+use Rattle.cv_base.specs.Path.{Path}
+use Rattle.cv_base.specs.Place.{place_of}
+use Rattle.cv_base.specs.declared.tree.Content.{Content}
+use Rattle.cv_base.specs.declared.tree.Content.TheVariants.{Bytes, TooLarge, Unread}
+use Rattle.cv_base.specs.declared.tree.Kind.{Kind}
+use Rattle.cv_base.specs.declared.tree.Kind.TheVariants as kind
+use Rattle.cv_base.specs.declared.tree.ListEntry.{ListEntry}
+use Rattle.cv_base.specs.declared.tree.Node.{Node}
+use Rattle.cv_base.specs.declared.tree.Node.TheVariants as node
+use Rattle.cv_base.specs.declared.tree.TreeEntry.{TreeEntry}
+use Rattle.cv_desk.specs.Stored.{Item, Dir, File, Other, Stored, file_read, item_in}
+use Rattle.cv_desk.specs.declared.desk.FileRead.{FileRead}
+use Rattle.cv_desk.specs.declared.desk.FileRead.TheVariants as read
+
+-- what is kept of a file
+abbrev pub content_of : Path → List ℕ → Content
+content_of path bytes =
+    if is_none (place_of path) then Unread else (if nat_lt 33554432 (length bytes) then TooLarge else Bytes bytes)
+
+abbrev pub node_of : Path → Item → Node
+node_of path Dir = node.Dir
+node_of path (File bytes) = node.File (content_of path bytes)
+node_of path Other = node.Other
+
+-- an entry as it is loaded
+abbrev pub loaded : Stored → TreeEntry
+loaded e = record { path = e.path; node = node_of e.path e.item }
+
+-- what an answer to a read makes of a file
+abbrev pub answered : FileRead → Node
+answered (read.Bytes bytes) = node.File (Bytes bytes)
+answered read.TooLarge = node.File TooLarge
+answered read.NotFile = node.Other
+
+-- a file as it is loaded, where this stands at its path
+abbrev pub loaded_file : Path → Option Item → Node
+loaded_file path found = if is_none (place_of path) then node.File Unread else answered (file_read found 33554432)
+
+-- a listed entry as it is loaded
+abbrev pub loaded_kind : Path → Kind → Option Item → Node
+loaded_kind path kind.Dir found = node.Dir
+loaded_kind path kind.File found = loaded_file path found
+loaded_kind path kind.Other found = node.Other
+
+-- the same, from a layer's listing and its reads
+abbrev pub loaded_by : Option (List Stored) → ListEntry → TreeEntry
+loaded_by tree entry = record { path = entry.path; node = loaded_kind entry.path entry.kind (item_in tree entry.path) }
+
+-- a file at a place of package files was read, or is above the limit
+abbrev pub is_read_node : Path → Node → Bool
+is_read_node path node.Dir = true
+is_read_node path (node.File (Bytes bytes)) = true
+is_read_node path (node.File TooLarge) = true
+is_read_node path (node.File Unread) = is_none (place_of path)
+is_read_node path node.Other = true
+
+abbrev pub is_read : TreeEntry → Bool
+is_read entry = is_read_node entry.path entry.node
+
+-- an item with all that is stored of it
+abbrev pub whole_node : Item → Node
+whole_node Dir = node.Dir
+whole_node (File bytes) = node.File (Bytes bytes)
+whole_node Other = node.Other
+
+-- an entry with all bytes of its file
+abbrev pub whole : Stored → TreeEntry
+whole e = record { path = e.path; node = whole_node e.item }

@@ -1,0 +1,22 @@
+//! Where layers come from: listings and reads of the trees that a desk's type names.
+//!
+//! ```text
+//! let mut desk = FolderDesk::new(rt.clone()?);
+//! let tree = load(alloc, &mut desk, &digest)?;
+//! ```
+#![tactic(auto)]
+
+mod desk;
+mod faulty;
+mod folder;
+mod loading;
+mod table;
+mod walk;
+
+
+pub use desk::{Desk, DeskFault, FileRead};
+pub use faulty::Faulty;
+pub use folder::FolderDesk;
+pub use loading::load;
+pub use table::{Table, TableDesk, TableEntry};
+

@@ -1,0 +1,190 @@
+ghost use Rattle.std.specs.Prelude.{◌≡◌, ℕ, List, Option, map, IfOk, OnOk, Some};
+ghost use Rattle.std.specs.Option.{option_map};
+ghost use Rattle.cv_desk.specs.Row.{Row};
+ghost use Rattle.cv_desk.specs.Stored.{file_read, item_at, listed};
+ghost use Rattle.cv_desk.specs.Table.{item_of, stands, tree_of_rows, with_entry, with_row};
+ghost use Rattle.cv_desk.specs.TableRow.{row_of, stored_of};
+
+use crate::desk::{Desk, DeskFault, FileRead};
+use cv_base::{Digest, Kind, ListEntry, PathError, RelPath};
+use cv_seq::{NoMemory, Seq};
+use std::alloc::Global;
+use std::marker::PhantomData;
+
+/// A row of a table of layers.
+#[derive(Clone, Copy)]
+pub struct TableEntry {
+    pub path: &'static str,
+    pub kind: Kind,
+    pub bytes: &'static [u8],
+}
+
+/// A fixed table of layers. Its rows are told once more as plain data, which its clause holds it to.
+pub trait Table {
+    /// The rows of each digest that has a layer.
+    ghost rows: { List ℕ → Option (List Row) };
+
+    /// The rows of a digest, or that it has no layer.
+    fn layer(digest: &Digest) -> Option<&'static [TableEntry]>
+        ensures { option_map (λ found. map row_of found.now) result ≡ rows digest.now };
+}
+
+/// A desk over a fixed table, which never fails. A row whose text is no path, or whose path an earlier row
+/// has, is no entry.
+#[derive(Drop)]
+pub struct TableDesk<T: Table> {
+    listings: u64,
+    of: PhantomData<T>,
+}
+
+impl<T: Table> TableDesk<T> {
+    /// A desk over the table `T`.
+    pub fn new() -> TableDesk<T>
+        ensures { ⟦<TableDesk<T> as Desk>⟧.listings result ≡ 0 }
+    {
+        TableDesk {
+            listings: 0,
+            of: PhantomData,
+        }
+    }
+}
+
+impl<T: Table> Desk for TableDesk<T> {
+    ghost use Rattle.std.specs.Prelude.{Some};
+    ghost use Rattle.std.specs.Option.{option_map};
+    ghost use Rattle.cv_desk.specs.Table.{table_distinct, tree_of_rows};
+
+    ghost tree = { λ d. Some (option_map tree_of_rows (T.rows d)) };
+
+    ghost faults = { λ s. 0 };
+
+    ghost listings = { λ s. s.listings };
+
+    ghost distinct = { λ d. table_distinct (T.rows d) };
+
+    fn list(&mut self, alloc: Global, layer: &Digest) -> Result<Option<Seq<ListEntry>>, DeskFault> {
+        self.listings += 1;
+        match T::layer(layer) {
+            None => Ok(None),
+            Some(rows) => Ok(Some(Seq::of(listed(alloc, entries(alloc, rows)?)?))),
+        }
+    }
+
+    fn read(&mut self, alloc: Global, layer: &Digest, path: &RelPath, limit: u32) -> Result<FileRead, DeskFault> {
+        match T::layer(layer) {
+            None => Ok(FileRead::NotFile),
+            Some(rows) => Ok(file_read(alloc, entries(alloc, rows)?.as_slice(), path, limit)?),
+        }
+    }
+}
+
+/// A row whose text was read.
+#[derive(Drop)]
+struct Entry {
+    path: RelPath,
+    kind: Kind,
+    bytes: &'static [u8],
+}
+
+/// The entries that rows make.
+fn entries(alloc: Global, rows: &[TableEntry]) -> Result<Vec<Entry>, NoMemory>
+    ensures { IfOk result (λ out. map stored_of out.items ≡ tree_of_rows (map row_of rows.now)) }
+{
+    let mut out = Vec::new(alloc);
+    for row in rows {
+        add_row(alloc, &mut out, row)?;
+    }
+    Ok(out)
+}
+
+/// Adds the entry of one more row, if it makes one.
+fn add_row(alloc: Global, out: &mut Vec<Entry>, row: &TableEntry) -> Result<(), NoMemory>
+    ensures { OnOk result (map stored_of out.new.items ≡ with_row (map stored_of out.old.items) (row_of row.now)) }
+{
+    match RelPath::read(alloc, row.path) {
+        Ok(path) => add_entry(out, path, row),
+        Err(PathError::NoMemory) => Err(NoMemory),
+        Err(PathError::Empty | PathError::TooLong | PathError::BadComponent) => Ok(()),
+    }
+}
+
+fn add_entry(out: &mut Vec<Entry>, path: RelPath, row: &TableEntry) -> Result<(), NoMemory>
+    ensures {
+        OnOk result (map stored_of out.new.items ≡ with_entry (map stored_of out.old.items) (record { path = path; item = item_of row.now.kind row.now.bytes.now }))
+    }
+{
+    if stands(out.as_slice(), &path) {
+        return Ok(());
+    }
+    out.push(Entry {
+        path,
+        kind: row.kind,
+        bytes: row.bytes,
+    })?;
+    Ok(())
+}
+
+fn stands(entries: &[Entry], path: &RelPath) -> bool
+    ensures { result ≡ stands (map stored_of entries.now) path.now }
+{
+    for entry in entries {
+        if entry.path == *path {
+            return true;
+        }
+    }
+    false
+}
+
+/// The entries as a listing tells them.
+fn listed(alloc: Global, entries: Vec<Entry>) -> Result<Vec<ListEntry>, NoMemory>
+    ensures { IfOk result (λ out. out.items ≡ map listed (map stored_of entries.items)) }
+{
+    let mut out = Vec::new(alloc);
+    for entry in entries {
+        let Entry { path, kind, bytes } = entry;
+        let size = match kind {
+            Kind::Dir => 0,
+            Kind::File => bytes.len() as u64,
+            Kind::Other => 0,
+        };
+        out.push(ListEntry { path, kind, size })?;
+    }
+    Ok(out)
+}
+
+/// What reading a path gives.
+fn file_read(alloc: Global, entries: &[Entry], path: &RelPath, limit: u32) -> Result<FileRead, NoMemory>
+    ensures { IfOk result (λ found. found ≡ file_read (item_at (map stored_of entries.now) path.now) limit) }
+{
+    match find(entries, path) {
+        None => Ok(FileRead::NotFile),
+        Some(entry) => entry_read(alloc, entry, limit),
+    }
+}
+
+fn find<'a>(entries: &'a [Entry], path: &RelPath) -> Option<&'a Entry>
+    ensures { option_map (λ e. (stored_of e.now).item) result ≡ item_at (map stored_of entries.now) path.now }
+{
+    for entry in entries {
+        if entry.path == *path {
+            return Some(entry);
+        }
+    }
+    None
+}
+
+fn entry_read(alloc: Global, entry: &Entry, limit: u32) -> Result<FileRead, NoMemory>
+    ensures { IfOk result (λ found. found ≡ file_read (Some (item_of entry.now.kind entry.now.bytes.now)) limit) }
+{
+    match entry.kind {
+        Kind::Dir => Ok(FileRead::NotFile),
+        Kind::File => {
+            if entry.bytes.len() > limit as usize {
+                Ok(FileRead::TooLarge)
+            } else {
+                Ok(FileRead::Bytes(Seq::of(entry.bytes.to_vec(alloc)?)))
+            }
+        }
+        Kind::Other => Ok(FileRead::NotFile),
+    }
+}

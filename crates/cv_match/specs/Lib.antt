@@ -1,0 +1,4 @@
+pub mod Affects
+pub mod Findings
+pub mod Order
+pub mod Within

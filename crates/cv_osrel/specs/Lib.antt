@@ -1,0 +1,3 @@
+pub mod Ecosystem
+pub mod System
+pub mod Value

@@ -1,0 +1,14 @@
+//! Writes what cvwatch answers as lines of JSON.
+//!
+//! ```text
+//! {"findings":[],"image":"sha256:11..","reply":"good"}
+//! ```
+#![tactic(auto)]
+
+mod finding;
+mod line;
+mod object;
+
+pub use finding::findings_value;
+pub use line::line_of;
+pub use object::Object;
