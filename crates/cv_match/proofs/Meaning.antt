@@ -17,6 +17,7 @@ use Rattle.cv_match.specs.declared.answer.FixedAt.{FixedAt}
 use Rattle.cv_match.specs.declared.answer.Hit.{Hit}
 use Rattle.cv_match.specs.declared.answer.Hit.TheVariants.{No, Yes}
 use Rattle.cv_match.specs.declared.entry.ReadyEntry.{ReadyEntry}
+use Rattle.cv_match.specs.declared.key.PackageKey.{PackageKey}
 use Rattle.cv_match.specs.declared.placed.Placed.{Placed}
 use Rattle.cv_match.specs.declared.placed.Placed.TheVariants.{Introduced, Fixed, LastAffected, Limit}
 use Rattle.cv_match.specs.Affects.{affects, fix_text, fixed, has_within, is_affected_by, is_least_fix, least_fix, lists, matched_version, matches, matching_ranges}
@@ -170,7 +171,7 @@ affected_is : (p : Package) (xs : List Affected) → list_any (is_affected_by p)
 affected_is p [] = refl
 affected_is p (x ∷ xs) =
     rw (affected_is p xs, and_or (matches p x.«package») (lists p x) (list_any (has_within p) x.ranges))
-        (or_swap (matches p x.«package» && lists p x) (matches p x.«package» && list_any (has_within p) x.ranges) (list_any (entry_has_listed p) xs) (list_any (entry_has p) xs))
+    (or_swap (matches p x.«package» && lists p x) (matches p x.«package» && list_any (has_within p) x.ranges) (list_any (entry_has_listed p) xs) (list_any (entry_has p) xs))
 
 -- ---- the first range that has the version within
 
@@ -201,6 +202,7 @@ first_is p (x ∷ xs) = by_match (matches p x.«package») refl (first_is p xs) 
       ≡ option_and_then (λ entry. find (has_within p) entry.ranges) (if s then Some x else find (entry_has p) xs)
   within_it true e later = find_some (has_within p) x.ranges (find (has_within p) (matching_ranges p xs)) e
   within_it false e later = find_other (has_within p) x.ranges (find (has_within p) (matching_ranges p xs)) e ∙ later
+
   by_match : (s : Bool) → matches p x.«package» ≡ s
       → find (has_within p) (matching_ranges p xs) ≡ option_and_then (λ entry. find (has_within p) entry.ranges) (find (entry_has p) xs)
       → find (has_within p) (flat_map (λ entry. entry.ranges) (if s then x ∷ filter (λ entry. matches p entry.«package») xs else filter (λ entry. matches p entry.«package») xs))
@@ -242,9 +244,10 @@ range_tells p r (Some i) e =
     let here = locate (is_least_fix (version_cmp_of p.kind) (map placed r.turns) (matched_version p)) (map placed r.turns) 0 i e in
     let at : i ≡ here.place = omega (arith, here.is) in
     let turned : option_map placed (slice_get r.turns i) ≡ Some here.item =
-        sym (get_map placed r.turns i) ∙ (ap (λ n. slice_get (map placed r.turns) n) at ∙ here.located.at) in
-    (rw here.located.first (fix_there (version_cmp_of p.kind) (map placed r.turns) (matched_version p) here.item here.located.passes),
-    rw here.located.first (turn_text (slice_get r.turns i) here.item turned))
+    sym (get_map placed r.turns i) ∙ (ap (λ n. slice_get (map placed r.turns) n) at ∙ here.located.at) in (
+      rw here.located.first (fix_there (version_cmp_of p.kind) (map placed r.turns) (matched_version p) here.item here.located.passes),
+      rw here.located.first (turn_text (slice_get r.turns i) here.item turned),
+    )
 
 ranges_place : (p : Package) → is_version_of p.kind (matched_version p) ≡ true → (xs : List Range)
     → position_from (range_holds (version_cmp_of p.kind) (matched_version p)) 0 (map (events_of p.kind) xs) ≡ position_from (has_within p) 0 xs
@@ -278,8 +281,8 @@ entry_tells a p e n x h q f = rw (ranges_place p e x.ranges) (by_place (position
       let got : slice_get x.ranges j ≡ Some here.item = ap (λ n. slice_get x.ranges n) at ∙ here.located.at in
       let told : fixed a p ≡ least_fix p here.item = fixed_is a p x f ∙ ap (option_and_then (least_fix p)) here.located.first in
       rw (get_map (events_of p.kind) x.ranges j, got, events_are p.kind (matched_version p) here.item here.located.passes)
-          (at_range a p n x j here.item (position_from (is_least_fix (version_cmp_of p.kind) (map placed here.item.turns) (matched_version p)) 0 (map placed here.item.turns))
-          h got told (range_tells p here.item (position_from (is_least_fix (version_cmp_of p.kind) (map placed here.item.turns) (matched_version p)) 0 (map placed here.item.turns)) refl))
+      (at_range a p n x j here.item (position_from (is_least_fix (version_cmp_of p.kind) (map placed here.item.turns) (matched_version p)) 0 (map placed here.item.turns))
+      h got told (range_tells p here.item (position_from (is_least_fix (version_cmp_of p.kind) (map placed here.item.turns) (matched_version p)) 0 (map placed here.item.turns)) refl))
 
 -- ---- the answer
 
@@ -305,10 +308,10 @@ listed_answer : (a : Advisory) (p : Package) → a.withdrawn ≡ false → list_
     → Answers a p (hit_listed (key_of p) (map (ready_entry p.kind) a.affected))
 listed_answer a p kept none no_fix =
     rw (listed_is p a.affected) (by_listed (list_any (entry_has_listed p) a.affected)
-        (affects_is a p kept ∙ (ap (λ b. list_any (entry_has_listed p) a.affected || b) none ∙ or_false (list_any (entry_has_listed p) a.affected)))) where
-  by_listed : (s : Bool) → affects a p ≡ s → Answers a p (if s then Yes None else No)
-  by_listed true h = (h, no_fix)
-  by_listed false h = h
+    (affects_is a p kept ∙ (ap (λ b. list_any (entry_has_listed p) a.affected || b) none ∙ or_false (list_any (entry_has_listed p) a.affected)))) where
+      by_listed : (s : Bool) → affects a p ≡ s → Answers a p (if s then Yes None else No)
+      by_listed true h = (h, no_fix)
+      by_listed false h = h
 
 no_fix_without : (a : Advisory) (p : Package) → ((r : Range) → has_within p r ≡ false) → fixed a p ≡ None
 unfolding fixed
@@ -324,7 +327,7 @@ none_within p none x = rw (any_none (has_within p) none x.ranges) (and_false (ma
 -- where the version is one of the order
 version_answer : (a : Advisory) (p : Package) → a.withdrawn ≡ false → is_version_of p.kind (matched_version p) ≡ true
     → Answers a p (hit_within (version_cmp_of p.kind) (key_of p) (matched_version p) (map (ready_entry p.kind) a.affected)
-        (position_from (entry_holds (version_cmp_of p.kind) (key_of p) (matched_version p)) 0 (map (ready_entry p.kind) a.affected)))
+    (position_from (entry_holds (version_cmp_of p.kind) (key_of p) (matched_version p)) 0 (map (ready_entry p.kind) a.affected)))
 version_answer a p kept e = rw (entry_place_is p e a.affected) (by_place (position_from (entry_has p) 0 a.affected) refl) where
   by_place : (place : Option ℕ) → position_from (entry_has p) 0 a.affected ≡ place
       → Answers a p (hit_within (version_cmp_of p.kind) (key_of p) (matched_version p) (map (ready_entry p.kind) a.affected) place)
@@ -332,9 +335,10 @@ version_answer a p kept e = rw (entry_place_is p e a.affected) (by_place (positi
   by_place (Some n) g =
       let here = locate (entry_has p) a.affected 0 n g in
       let at : n ≡ here.place = omega (arith, here.is) in
-      let got : slice_get a.affected n ≡ Some here.item = ap (λ m. slice_get a.affected m) at ∙ here.located.at in
-      (affects_is a p kept ∙ (ap (λ b. list_any (entry_has_listed p) a.affected || b) here.located.some ∙ or_true (list_any (entry_has_listed p) a.affected)),
-      rw (get_map (ready_entry p.kind) a.affected n, got) (entry_tells a p e n here.item got here.located.passes here.located.first))
+      let got : slice_get a.affected n ≡ Some here.item = ap (λ m. slice_get a.affected m) at ∙ here.located.at in (
+        affects_is a p kept ∙ (ap (λ b. list_any (entry_has_listed p) a.affected || b) here.located.some ∙ or_true (list_any (entry_has_listed p) a.affected)),
+        rw (get_map (ready_entry p.kind) a.affected n, got) (entry_tells a p e n here.item got here.located.passes here.located.first),
+      )
 
 -- what the entries of a record answer, once they are read
 pub entries_answer : (a : Advisory) (p : Package) → a.withdrawn ≡ false
@@ -345,3 +349,9 @@ entries_answer a p kept = by_version (is_version_of p.kind (matched_version p)) 
   by_version true e = version_answer a p kept e
   by_version false e = let none = no_version p.kind (matched_version p) e in
       listed_answer a p kept (any_none (entry_has p) (none_within p none) a.affected) (no_fix_without a p none)
+
+-- the same for a record and a package as they are kept
+pub ready_answer : (a : Advisory) (p : Package) (kind : PackageKind) (es : List (ReadyEntry (List ℕ))) (key : PackageKey) (v : Option (List ℕ))
+    → kind ≡ p.kind → es ≡ map (ready_entry kind) a.affected → key ≡ key_of p → v ≡ version_in p.kind (matched_version p)
+    → a.withdrawn ≡ false → Answers a p (hit_of kind key v es)
+ready_answer a p kind es key v k f g h w = rw (f, g, h, k) (entries_answer a p w)
