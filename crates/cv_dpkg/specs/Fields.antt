@@ -1,0 +1,152 @@
+-- What a line of a dpkg status file tells: cvwatch's own profile of it, after deb-control(5) and Debian Policy 5.1. The used
+-- fields are Package, Status, Version, Source and Architecture. Every other field is passed over.
+use Rattle.std.specs.Prelude.{ℕ, Bool, false, ◌&&◌, ◌||◌, ◌==◌, nat_le, if◌then◌else◌, not, List, [], ◌∷◌, map, codes, Option, None, Some}
+use Rattle.std.specs.Char.{to_ascii_lowercase}
+use Rattle.std.specs.List.{filter, list_all, list_any, slice_split}
+use Rattle.std.specs.Option.{option_map, option_map_or, option_or}
+use Rattle.cv_base.specs.Texts.{same}
+use Rattle.cv_dpkg.specs.Lines.{is_blank, is_continuation, is_nil, without_end, without_front}
+use Rattle.cv_dpkg.specs.declared.field.Field.{Field}
+use Rattle.cv_dpkg.specs.declared.field.Field.TheVariants.{Package, Status, Version, Source, Architecture, Unused}
+
+-- what stands before the first byte that passes, and what behind it
+abbrev pub cut : (ℕ → Bool) → List ℕ → Option (List ℕ × List ℕ)
+cut passes [] = None
+cut passes (x ∷ xs) = if passes x then Some ([], xs) else option_map (λ p. (x ∷ p.0, p.1)) (cut passes xs)
+
+-- a byte that prints
+abbrev pub is_printing : ℕ → Bool
+is_printing byte = nat_le 33 byte && nat_le byte 126
+
+-- the byte between a field's name and its value
+abbrev pub is_colon : ℕ → Bool
+is_colon byte = byte == 58
+
+-- a field: its name and its value without blanks at the ends (those at the value's end fell with the line's)
+pub record Pair : Type 0 where
+  pub name : List ℕ
+  pub value : List ℕ
+
+-- the field that a line with a colon is
+abbrev pub pair_in : List ℕ → Option Pair
+pair_in text = option_map (λ p. record { name = p.0; value = without_front p.1 }) (cut is_colon text)
+
+-- a line as a field, unless it goes on with another one or has no colon
+abbrev pub field_of : List ℕ → Option Pair
+field_of text = if is_continuation text then None else pair_in text
+
+-- two names are the same but for the case of ASCII letters
+abbrev pub same_name : List ℕ → List ℕ → Bool
+same_name a b = same (map to_ascii_lowercase a) (map to_ascii_lowercase b)
+
+-- the field that a name names
+abbrev pub named : List ℕ → Field
+named name =
+    if same_name name (codes "Package") then Package
+    else (if same_name name (codes "Status") then Status
+    else (if same_name name (codes "Version") then Version
+    else (if same_name name (codes "Source") then Source
+    else (if same_name name (codes "Architecture") then Architecture else Unused))))
+
+-- the bytes that begin no name
+abbrev pub is_bad_start : ℕ → Bool
+is_bad_start byte = byte == 35 || byte == 45
+
+-- a name of a field: printing bytes, at least one, with neither `#` nor `-` in front
+abbrev pub is_name : List ℕ → Bool
+is_name [] = false
+is_name (x ∷ xs) = not (is_bad_start x) && list_all is_printing (x ∷ xs)
+
+-- the words of a value are its runs of bytes that are not blank
+abbrev pub words : List ℕ → List (List ℕ)
+words value = filter (λ w. not (is_nil w)) (slice_split is_blank value)
+
+-- the states of a package, after dpkg(1)
+abbrev pub is_state : List ℕ → Bool
+is_state word = list_any (same word) (codes "not-installed" ∷ codes "config-files" ∷ codes "half-installed" ∷ codes "unpacked" ∷ codes "half-configured"
+    ∷ codes "triggers-awaited" ∷ codes "triggers-pending" ∷ codes "installed" ∷ [])
+
+-- the last of three words, which tells the state
+abbrev pub third : List (List ℕ) → Option (List ℕ)
+third (a ∷ b ∷ c ∷ []) = if is_state c then Some c else None
+third ws = None
+
+-- the state that a value of Status tells: want, flag, state (dpkg's own order)
+abbrev pub state_of : List ℕ → Option (List ℕ)
+state_of value = third (words value)
+
+-- what a value of Source tells
+pub record Origin : Type 0 where
+  pub name : Option (List ℕ)
+  pub version : Option (List ℕ)
+
+abbrev pub is_open : ℕ → Bool
+is_open byte = byte == 40
+
+abbrev pub is_close : ℕ → Bool
+is_close byte = byte == 41
+
+-- a byte that prints and is no round bracket
+abbrev pub is_word_byte : ℕ → Bool
+is_word_byte byte = is_printing byte && (not (is_open byte) && not (is_close byte))
+
+-- a name or version of a source: printing bytes without round brackets, at least one
+abbrev pub is_word : List ℕ → Bool
+is_word text = not (is_nil text) && list_all is_word_byte text
+
+-- a name, and a version with nothing behind its bracket
+abbrev pub versioned : List ℕ → Option (List ℕ × List ℕ) → Option Origin
+versioned name None = None
+versioned name (Some p) = if is_word name && (is_word p.0 && is_nil p.1) then Some (record { name = Some name; version = Some p.0 }) else None
+
+-- a name alone, or a name, blanks or none, and a version in round brackets
+abbrev pub origin_by : List ℕ → Option (List ℕ × List ℕ) → Option Origin
+origin_by value None = if is_word value then Some (record { name = Some value; version = None }) else None
+origin_by value (Some p) = versioned (without_end is_blank p.0) (cut is_close p.1)
+
+-- the source package after Debian Policy 5.6.1, which an empty value leaves open
+abbrev pub origin_of : List ℕ → Option Origin
+origin_of [] = Some (record { name = None; version = None })
+origin_of (x ∷ xs) = origin_by (x ∷ xs) (cut is_open (x ∷ xs))
+
+-- what lines tell of a package: values, the state among the words of Status, and the two parts of Source
+pub record Facts : Type 0 where
+  pub name : Option (List ℕ)
+  pub state : Option (List ℕ)
+  pub version : Option (List ℕ)
+  pub source : Option (List ℕ)
+  pub source_version : Option (List ℕ)
+  pub arch : Option (List ℕ)
+
+-- nothing is told
+abbrev pub nothing : Facts
+nothing = record { name = None; state = None; version = None; source = None; source_version = None; arch = None }
+
+-- what is told by later lines, and else by those before them. (No name stands twice where there is no fault.)
+abbrev pub join : Facts → Facts → Facts
+join later before = record {
+  name = option_or later.name before.name;
+  state = option_or later.state before.state;
+  version = option_or later.version before.version;
+  source = option_or later.source before.source;
+  source_version = option_or later.source_version before.source_version;
+  arch = option_or later.arch before.arch;
+}
+
+-- what a value of Source tells of a package
+abbrev pub tells_origin : Option Origin → Facts
+tells_origin None = nothing
+tells_origin (Some o) = record { name = None; state = None; version = None; source = o.name; source_version = o.version; arch = None }
+
+-- what a field tells of a package
+abbrev pub tells : Field → List ℕ → Facts
+tells Package v = record { name = Some v; state = None; version = None; source = None; source_version = None; arch = None }
+tells Status v = record { name = None; state = state_of v; version = None; source = None; source_version = None; arch = None }
+tells Version v = record { name = None; state = None; version = Some v; source = None; source_version = None; arch = None }
+tells Source v = tells_origin (origin_of v)
+tells Architecture v = record { name = None; state = None; version = None; source = None; source_version = None; arch = Some v }
+tells Unused v = nothing
+
+-- what a line tells of a package
+abbrev pub told_by : List ℕ → Facts
+told_by text = option_map_or (λ f. tells (named f.name) f.value) (field_of text) nothing

@@ -1,0 +1,111 @@
+//! Fields and their names.
+ghost use Rattle.std.specs.Prelude.{◌≡◌};
+ghost use Rattle.std.specs.List.{list_all};
+ghost use Rattle.std.specs.Option.{option_map};
+ghost use Rattle.cv_dpkg.specs.Fields.{is_name, is_printing, named, pair_in, same_name};
+ghost use Rattle.cv_dpkg.specs.Names.{entry_of, name_cmp};
+
+use crate::text::{cut_at, trim_front};
+use std::cmp::Ordering;
+
+/// The fields that are used. Every other one is passed over.
+#[derive(Clone, Copy, PartialEq, Eq)]
+pub enum Field {
+    Package,
+    Status,
+    Version,
+    Source,
+    Architecture,
+    Unused,
+}
+
+/// A field's name and its value.
+#[derive(Clone, Copy)]
+pub struct Entry<'a> {
+    pub name: &'a [u8],
+    pub value: &'a [u8],
+}
+
+/// A line with a colon as a field.
+pub fn split_field(line: &[u8]) -> Option<Entry<'_>>
+    ensures { option_map entry_of result ≡ pair_in line.now }
+{
+    let (name, value) = cut_at(line, b':')?;
+    Some(Entry {
+        name,
+        value: trim_front(value),
+    })
+}
+
+/// Whether a text may be the name of a field.
+pub fn is_name(name: &[u8]) -> bool
+    ensures { result ≡ is_name name.now }
+{
+    match name {
+        [] | [b'#' | b'-', ..] => false,
+        _ => is_printing_text(name),
+    }
+}
+
+/// Whether all bytes print.
+pub fn is_printing_text(text: &[u8]) -> bool
+    ensures { result ≡ list_all is_printing text.now }
+{
+    text.iter().all(|byte| is_printing(*byte))
+}
+
+fn is_printing(byte: u8) -> bool
+    ensures { result ≡ is_printing byte }
+{
+    byte.is_ascii_graphic()
+}
+
+/// The field that a name names.
+pub fn named(name: &[u8]) -> Field
+    ensures { result ≡ named name.now }
+{
+    if is_same_name(name, b"Package") {
+        Field::Package
+    } else if is_same_name(name, b"Status") {
+        Field::Status
+    } else if is_same_name(name, b"Version") {
+        Field::Version
+    } else if is_same_name(name, b"Source") {
+        Field::Source
+    } else if is_same_name(name, b"Architecture") {
+        Field::Architecture
+    } else {
+        Field::Unused
+    }
+}
+
+#[tactic(auto, using(crate::proofs::SameNames::same_by_order))]
+fn is_same_name(one: &[u8], other: &[u8]) -> bool
+    ensures { result ≡ same_name one.now other.now }
+{
+    name_order(one, other).is_eq()
+}
+
+/// The order of names, which are not case-sensitive in ASCII.
+pub fn name_order(one: &[u8], other: &[u8]) -> Ordering
+    ensures { result ≡ name_cmp one.now other.now }
+{
+    let mut left = one;
+    let mut right = other;
+    while let [x, xs @ ..] = left {
+        let [y, ys @ ..] = right else {
+            return Ordering::Greater;
+        };
+        match x.to_ascii_lowercase().cmp(&y.to_ascii_lowercase()) {
+            Ordering::Equal => {}
+            order => return order,
+        }
+        left = xs;
+        right = ys;
+    }
+    if right.is_empty() {
+        Ordering::Equal
+    } else {
+        Ordering::Less
+    }
+}

@@ -1,0 +1,35 @@
+use cv_seq::{NoMemory, Seq};
+use thiserror::Error;
+
+/// What a reader of lines gives.
+#[derive(Debug, PartialEq, Eq, Drop)]
+pub enum Line {
+    /// A line, without its LF and the one CR before it.
+    Text(Seq<u8>),
+    /// The input ended, and each line of it was given.
+    End,
+}
+
+/// Why a line was not given. The reader is spent then.
+#[derive(Clone, Copy, Debug, PartialEq, Eq, Error)]
+pub enum LineError {
+    #[error("the input could not be read")]
+    ReadFault,
+    #[error("the line is too long")]
+    LineTooLong,
+    #[error("the input is too long")]
+    InputTooLong,
+    #[error("out of memory")]
+    NoMemory,
+}
+
+impl From<NoMemory> for LineError {
+    ghost use Rattle.std.specs.Prelude.{◌≡◌};
+    ghost use Rattle.cv_io.specs.declared.line.LineError.TheVariants as error;
+
+    ghost from_gives = { λ _ e. e ≡ error.NoMemory };
+
+    fn from(_error: NoMemory) -> LineError {
+        LineError::NoMemory
+    }
+}

@@ -1,0 +1,83 @@
+ghost use Rattle.std.specs.Prelude.{◌≡◌, ◌≤◌, ℕ, take, length, OnOk, OnErr};
+ghost use Rattle.std.specs.Io.KnownBytes.{Appends};
+ghost use Rattle.cv_seq.specs.Cause.{CausedBy};
+ghost use Rattle.cv_io.specs.Fault.{is_write_fault};
+ghost use Rattle.cv_io.specs.Writes.{AppendsPrefix};
+
+use crate::fault::IoFault;
+use crate::sink::Sink;
+use cv_seq::NoMemory;
+use thiserror::Error;
+
+/// Why bytes were not written whole.
+#[derive(Clone, Copy, Debug, PartialEq, Eq, Error)]
+pub enum WriteError {
+    #[error("the output could not be written")]
+    WriteFault,
+    #[error("out of memory")]
+    NoMemory,
+}
+
+impl From<NoMemory> for WriteError {
+    ghost use Rattle.std.specs.Prelude.{◌≡◌};
+    ghost use Rattle.cv_io.specs.declared.write.WriteError.TheVariants as error;
+
+    ghost from_gives = { λ _ e. e ≡ error.NoMemory };
+
+    fn from(_error: NoMemory) -> WriteError {
+        WriteError::NoMemory
+    }
+}
+
+/// Appends all the bytes, whatever pieces the sink takes. After an `Err` it appended a front part of them.
+pub fn write_all<K: Sink>(output: &mut K, bytes: &[u8]) -> Result<(), WriteError>
+    ensures ok { OnOk result (Appends (K.contents output.old) (K.contents output.new) bytes.now) }
+    ensures err { OnErr result (AppendsPrefix (K.contents output.old) (K.contents output.new) bytes.now) }
+    ensures cause { CausedBy (K.faults output.old) (K.faults output.new) (is_write_fault result) }
+{
+    let mut at = 0;
+    while at < bytes.len() {
+        let (_, rest) = bytes.split_at(at);
+        match output.write(rest) {
+            Ok(count) => at += count,
+            Err(IoFault::Failed) => return Err(WriteError::WriteFault),
+            Err(IoFault::NoMemory) => return Err(WriteError::NoMemory),
+        }
+    }
+    Ok(())
+}
+
+#[cfg(test)]
+mod tests {
+    use super::*;
+    use crate::calm::CalmSink;
+    use crate::mem::MemSink;
+    use cv_seq::Seq;
+    use std::test::Fail;
+
+    #[test]
+    fn all_bytes_are_written_in_pieces(rt: HostRuntime) -> Result<(), Fail> {
+        for piece in 1..4 {
+            let mut output = CalmSink::new(rt.alloc(), piece);
+            write_all(&mut output, b"abcd")?;
+            write_all(&mut output, b"")?;
+            write_all(&mut output, b"e")?;
+            assert_eq!(rt; output.bytes(), b"abcde".as_slice());
+        }
+        Ok(())
+    }
+
+    #[test]
+    fn a_failing_write_leaves_a_front_part(rt: HostRuntime) -> Result<(), Fail> {
+        let fails = Seq::of(vec![in rt.alloc(); 2]?);
+        let mut output = MemSink::new(rt.alloc(), 2, fails);
+        assert_eq!(rt;
+            write_all(&mut output, b"abcde"),
+            Err(WriteError::WriteFault)
+        );
+        assert_eq!(rt; output.bytes(), b"ab".as_slice());
+        assert_eq!(rt; write_all(&mut output, b"cde"), Ok(()));
+        assert_eq!(rt; output.bytes(), b"abcde".as_slice());
+        Ok(())
+    }
+}

@@ -1,0 +1,59 @@
+-- Reading the parts of a JSON value, with the first fault that is met (cvwatch's own). A member with the value null
+-- counts as absent, and a value that is no object has no members.
+use Rattle.std.specs.Prelude.{ℕ, if◌then◌else◌, List, [], ◌∷◌, ◌++◌, Option, Some, None, is_some, option_map, option_and_then, Result, Ok, Err}
+use Rattle.std.specs.Option.{ok_or}
+use Rattle.serde_json.specs.Data.{Data, Items, no_items, item}
+use Rattle.serde_json.specs.Find.{get, as_array, as_null, as_object, as_str}
+
+-- what is read, and then what follows from it; the first fault is the answer
+infixl 10 ◌>>=◌
+abbrev pub ◌>>=◌ : {A B E : Type 0} → Result A E → (A → Result B E) → Result B E
+(Ok x) >>= f = f x
+(Err e) >>= f = Err e
+
+-- a value that is there: null counts as absent
+abbrev pub there : Option Data → Option Data
+there None = None
+there (Some d) = if is_some (as_null d) then None else Some d
+
+-- the member with this name
+abbrev pub member_at : List ℕ → Data → Option Data
+member_at name d = there (get name d)
+
+-- the value has to be an object
+abbrev pub object_or : {E : Type 0} → E → Data → Result (Unit {0}) E
+object_or bad d = if is_some (as_object d) then Ok tt else Err bad
+
+-- a text that has to be there
+abbrev pub text_or : {E : Type 0} → E → Option Data → Result (List ℕ) E
+text_or bad found = ok_or (option_and_then as_str found) bad
+
+-- a text that may be absent
+abbrev pub optional_text_or : {E : Type 0} → E → Option Data → Result (Option (List ℕ)) E
+optional_text_or bad None = Ok None
+optional_text_or bad (Some d) = ok_or (option_map Some (as_str d)) bad
+
+-- a list that may be absent, and then has no items
+abbrev pub items_or : {E : Type 0} → E → Option Data → Result Items E
+items_or bad None = Ok no_items
+items_or bad (Some d) = ok_or (as_array d) bad
+
+-- the items as a list
+abbrev pub items_list : Items → List Data
+items_list no_items = []
+items_list (item d ds) = d ∷ items_list ds
+
+-- what each item is read as, in order
+abbrev pub each : {A E : Type 0} → (Data → Result A E) → Items → Result (List A) E
+each f no_items = Ok []
+each f (item d ds) = f d >>= λ x. each f ds >>= λ xs. Ok (x ∷ xs)
+
+-- the same, where an item is read as several things
+abbrev pub each_joined : {A E : Type 0} → (Data → Result (List A) E) → Items → Result (List A) E
+each_joined f no_items = Ok []
+each_joined f (item d ds) = f d >>= λ x. each_joined f ds >>= λ xs. Ok (x ++ xs)
+
+-- what is read stands behind what was read before
+abbrev pub onto : {A E : Type 0} → List A → Result (List A) E → Result (List A) E
+onto front (Ok xs) = Ok (front ++ xs)
+onto front (Err e) = Err e

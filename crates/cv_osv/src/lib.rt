@@ -1,0 +1,19 @@
+//! Reads records of the OSV schema from JSON values into advisories.
+//!
+//! ```text
+//! let value = Value::from_str(alloc, text)?;
+//! let advisory = read_advisory(alloc, &value)?;
+//! assert_eq!(advisory.id.as_str(), "DSA-5417-1");
+//! ```
+#![tactic(auto)]
+
+mod error;
+mod json;
+mod part;
+mod range;
+mod record;
+mod records;
+
+pub use error::{AdvisoryError, OsvError, RecordWhat};
+pub use record::read_advisory;
+pub use records::{MAX_RECORDS, read_records};

@@ -1,0 +1,92 @@
+ghost use Rattle.std.specs.Option.{option_map};
+ghost use Rattle.cv_osv.specs.Answer.{Reads, Tells};
+ghost use Rattle.cv_osv.specs.Record.{advisory_of, full_or, optional_package_of};
+ghost use Rattle.serde_json.specs.View.{view};
+
+use crate::error::{AdvisoryError, RecordWhat};
+use crate::json::{items_or, member_at, object_or, optional_text_or, text_or};
+use crate::part::{Part, read_each};
+use cv_base::{Advisory, Affected, PackageName, Text};
+use serde_json::Value;
+use std::alloc::Global;
+
+/// Reads a record of the OSV schema 1.6. A member with the value null counts as absent, and unknown members are
+/// passed over. The first fault is told: the record's own members are read in the order of `RecordWhat`, and then
+/// the entries one by one, each with its package, its ranges one by one, and its versions.
+#[tactic(auto, unfolding(crate::specs::Record::advisory_of))]
+pub fn read_advisory(alloc: Global, value: &Value) -> Result<Advisory, AdvisoryError>
+    ensures { Reads (λ advisory. advisory) result (advisory_of (view value.now)) }
+{
+    object_or(value, RecordWhat::NotObject)?;
+    let name = text_or(member_at(value, "id"), RecordWhat::NoId)?;
+    let id = full_or(name, RecordWhat::NoId)?;
+    let modified = text_or(member_at(value, "modified"), RecordWhat::NoModified)?;
+    let withdrawn = optional_text_or(member_at(value, "withdrawn"), RecordWhat::BadWithdrawn)?;
+    let entries = items_or(member_at(value, "affected"), RecordWhat::BadAffected)?;
+    let affected = read_each(alloc, entries)?;
+    Ok(Advisory {
+        id: Text::of(alloc, id)?,
+        modified: Text::of(alloc, modified)?,
+        withdrawn: withdrawn.is_some(),
+        affected,
+    })
+}
+
+/// The text, if it is not empty.
+fn full_or(text: &str, bad: RecordWhat) -> Result<&str, RecordWhat>
+    ensures { Tells (λ text. text.now) result (full_or bad text.now) }
+{
+    if text.is_empty() { Err(bad) } else { Ok(text) }
+}
+
+impl Part for Affected {
+    ghost use Rattle.cv_osv.specs.Record.{entry_of};
+
+    ghost part_of = { entry_of };
+
+    #[tactic(auto, unfolding(crate::specs::Record::entry_of))]
+    fn read(alloc: Global, value: &Value) -> Result<Affected, AdvisoryError> {
+        object_or(value, RecordWhat::BadEntry)?;
+        let package = read_package(alloc, member_at(value, "package"))?;
+        let ranges = items_or(member_at(value, "ranges"), RecordWhat::BadRange)?;
+        let ranges = read_each(alloc, ranges)?;
+        let versions = items_or(member_at(value, "versions"), RecordWhat::BadVersions)?;
+        let versions = read_each(alloc, versions)?;
+        Ok(Affected {
+            package,
+            ranges,
+            versions,
+        })
+    }
+}
+
+/// The package of an entry, which may be absent.
+#[tactic(auto, unfolding(crate::specs::Record::package_of))]
+fn read_package(alloc: Global, found: Option<&Value>) -> Result<Option<PackageName>, AdvisoryError>
+    ensures { Reads (λ name. name) result (optional_package_of (option_map (λ v. view v.now) found.entry)) }
+{
+    let Some(value) = found else {
+        return Ok(None);
+    };
+    let ecosystem = text_or(member_at(value, "ecosystem"), RecordWhat::BadPackage)?;
+    let name = text_or(member_at(value, "name"), RecordWhat::BadPackage)?;
+    Ok(Some(PackageName {
+        ecosystem: Text::of(alloc, ecosystem)?,
+        name: Text::of(alloc, name)?,
+    }))
+}
+
+/// An item of `versions`.
+impl Part for Text {
+    ghost use Rattle.cv_osv.specs.Record.{version_of};
+
+    ghost part_of = { version_of };
+
+    fn read(alloc: Global, value: &Value) -> Result<Text, AdvisoryError> {
+        let version = text_or(Some(value), RecordWhat::BadVersions)?;
+        Ok(Text::of(alloc, version)?)
+    }
+}
+
+#[cfg(test)]
+mod tests;
