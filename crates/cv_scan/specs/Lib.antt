@@ -1,3 +1,4 @@
+pub mod Found
 pub mod Keyed
 pub mod Root
 pub mod Scan
