@@ -3,6 +3,7 @@
 use Rattle.std.specs.Prelude.{ℕ, Bool, true, false, if◌then◌else◌, List, [], ◌∷◌, map, codes, string_bytes, Option, Some, None}
 use Rattle.std.specs.Option.{option_map}
 use Rattle.cv_base.specs.declared.advisory.Advisory.{Advisory}
+use Rattle.cv_base.specs.declared.finding.Finding.{Finding}
 use Rattle.cv_base.specs.declared.tree.TreeEntry.{TreeEntry}
 use Rattle.cv_desk.specs.Loaded.{whole}
 use Rattle.cv_desk.specs.Stored.{Stored}
@@ -38,6 +39,13 @@ scanned hash (NoLayer number) = refused_image hash
 scanned hash (BadTree number fault) = refused_image hash
 scanned hash (BadFile error) = refused_image hash
 scanned hash (Good found) = record { text = good_text hash found; good = true }
+
+-- the findings of a scan that refuses nothing
+abbrev pub found_by : Scanned → Option (List Finding)
+found_by (NoLayer number) = None
+found_by (BadTree number fault) = None
+found_by (BadFile error) = None
+found_by (Good found) = Some found
 
 -- the one feed of a scan, with its one record
 abbrev pub feeds_of : Advisory → List (List ℕ × List Advisory)

@@ -79,5 +79,18 @@ fn scan_entries(alloc: Global, advisory: &Advisory, entries: &[TreeEntry]) -> Re
 fn has_no_marks(entries: &[TreeEntry]) -> bool
     ensures { result ≡ has_no_marks entries.now }
 {
-    entries.iter().all(|entry| is_unmarked(&entry.path))
+    entries.iter().all(|entry| is_unmarked(entry))
+}
+
+fn is_unmarked(entry: &TreeEntry) -> bool
+    ensures { result ≡ is_unmarked entry.now }
+{
+    !has_mark_in(&entry.path)
+}
+
+/// Whether a component of a path begins `.wh.`.
+fn has_mark_in(path: &RelPath) -> bool
+    ensures { result ≡ list_any has_mark path.now }
+{
+    has_mark_in_text(path.text())
 }
