@@ -1,3 +1,4 @@
+mod Examples
 pub mod Loaded
 pub mod OneLayer
 pub mod Ordered
