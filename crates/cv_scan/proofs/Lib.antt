@@ -1,4 +1,5 @@
 pub mod Finds
+mod Examples
 pub mod Loaded
 pub mod OneLayer
 pub mod Ordered

@@ -2,9 +2,9 @@
 -- looked at, or refused at the same place.
 use Rattle.std.specs.Prelude.{◌≡◌, ℕ, Bool, true, false, ◌&&◌, ◌||◌, nat_lt, is_none, if◌then◌else◌, List, [], ◌∷◌, ◌++◌, length, map, Option, Some, None, Result, Ok, Err, refl}
 use Rattle.std.specs.List.{cons_option, filter_map, list_any}
-use Rattle.std.specs.Option.{option_map, option_to_list}
+use Rattle.std.specs.Option.{option_map}
 use Rattle.std.specs.Result.{is_ok, result_err}
-use Rattle.std.proofs.Common.{ap, ◌∙◌, sym}
+use Rattle.std.proofs.Common.{ap, ◌∙◌}
 use Rattle.cv_base.specs.Path.{Path}
 use Rattle.cv_base.specs.Place.{place_of}
 use Rattle.cv_base.specs.declared.package.Package.{Package}
@@ -12,7 +12,6 @@ use Rattle.cv_base.specs.declared.places.Place.{Place}
 use Rattle.cv_base.specs.declared.places.Place.TheVariants.{Status, StatusFolder, Installed, UsrInstalled, Os, UsrOs, Npm}
 use Rattle.cv_base.specs.declared.tree.Content.{Content}
 use Rattle.cv_base.specs.declared.tree.Content.TheVariants.{Bytes, TooLarge, Unread}
-use Rattle.cv_base.specs.declared.tree.TreeEntry.{TreeEntry}
 use Rattle.cv_apkdb.specs.Installed.{installed}
 use Rattle.cv_desk.specs.Loaded.{loaded, node_of, whole, whole_node}
 use Rattle.cv_desk.specs.Stored.{Dir, File, Item, Other, Stored}
@@ -20,7 +19,7 @@ use Rattle.cv_dpkg.specs.Status.{status}
 use Rattle.cv_dpkg.specs.declared.rule.StatusRule.TheVariants.{Needed, Optional}
 use Rattle.cv_osrel.specs.declared.name.OsName.{OsName}
 use Rattle.cv_overlay.specs.Fault.{fault, tree_fault}
-use Rattle.cv_overlay.specs.Mark.{Outline, is_dir_node, outline}
+use Rattle.cv_overlay.specs.Mark.{is_dir_node, outline}
 use Rattle.cv_packages.specs.Files.{PackageFile, content_in, counted, file_at, has_etc, is_etc_file, is_usr, package_file, package_files, placed}
 use Rattle.cv_packages.specs.Packages.{◌>>=◌, apk_package, deb_package, packages, read_content, read_file, read_files, read_place, refused, system}
 use Rattle.cv_packages.specs.declared.error.PackagesError.{PackagesError}

@@ -1,8 +1,8 @@
 -- The root of an image of one layer whose tree is good and has no marks: it is that tree.
-use Rattle.std.specs.Prelude.{◌≡◌, ℕ, ◌+◌, Bool, true, false, ◌&&◌, ◌||◌, ◌==◌, not, nat_lt, if◌then◌else◌, List, [], ◌∷◌, ◌++◌, length, map, Option, Some, None, Ok, refl}
+use Rattle.std.specs.Prelude.{◌≡◌, ℕ, ◌+◌, Bool, true, false, ◌&&◌, ◌||◌, ◌==◌, not, nat_lt, if◌then◌else◌, List, [], ◌∷◌, length, map, Option, Some, None, refl}
 use Rattle.std.specs.BTreeSet.{insert_key}
 use Rattle.std.specs.Cmp.Lexicographic.{slice_cmp, lists_ties, texts_ties}
-use Rattle.std.specs.List.{AllByRecursion, cons_option, filter_map, list_all, list_any}
+use Rattle.std.specs.List.{AllByRecursion, cons_option, filter_map, list_any}
 use Rattle.std.specs.Option.{option_map}
 use Rattle.std.specs.Ordering.{is_eq, match_ordering, nat_cmp}
 use Rattle.std.specs.declared.cmp.Ordering.{Ordering}
@@ -10,11 +10,10 @@ use Rattle.std.specs.declared.cmp.Ordering.TheVariants.{Less, Equal, Greater}
 use Rattle.std.proofs.Common.{ap, ◌∙◌, append-nil}
 use Rattle.cv_base.specs.Path.{Path, path_cmp}
 use Rattle.cv_base.specs.declared.advisory.Advisory.{Advisory}
-use Rattle.cv_base.specs.declared.tree.Node.{Node}
 use Rattle.cv_base.specs.declared.tree.TreeEntry.{TreeEntry}
 use Rattle.cv_overlay.specs.Fault.{comes_before, fault_at, first_fault, has_parent, is_less, is_sorted_after, max_entries, or_fault, tree_fault}
 use Rattle.cv_overlay.specs.Lay.{hides, is_plain, lay, or_node, plain_at}
-use Rattle.cv_overlay.specs.Mark.{Outline, has_mark, is_bad, is_dir_node, is_opaque_name, is_reserved_name, is_whiteout_name, mark, mark_of, name_of, outline, parent_of, same_path}
+use Rattle.cv_overlay.specs.Mark.{Outline, has_mark, is_bad, is_dir_node, is_opaque_name, is_reserved_name, is_whiteout_name, mark, name_of, outline, parent_of, same_path}
 use Rattle.cv_overlay.specs.Merge.{AreRising}
 use Rattle.cv_overlay.specs.declared.fault.TreeFault.{TreeFault}
 use Rattle.cv_overlay.specs.declared.fault.TreeFault.TheVariants.{Unsorted, NoParent, BadMark, TooMany}

@@ -1,0 +1,99 @@
+-- The definitions, computed on small images.
+use Rattle.std.specs.Prelude.{◌≡◌, ℕ, true, false, List, [], ◌∷◌, ◌++◌, codes, Some, None, refl}
+use Rattle.cv_base.specs.Path.{components}
+use Rattle.cv_base.specs.declared.advisory.Advisory.{Advisory}
+use Rattle.cv_base.specs.declared.finding.Finding.{Finding}
+use Rattle.cv_base.specs.declared.package.PackageKind.TheVariants.{Deb}
+use Rattle.cv_base.specs.declared.tree.Content.{Content}
+use Rattle.cv_base.specs.declared.tree.Content.TheVariants.{Bytes, TooLarge}
+use Rattle.cv_base.specs.declared.tree.Node.TheVariants as node
+use Rattle.cv_base.specs.declared.tree.TreeEntry.{TreeEntry}
+use Rattle.cv_match.specs.Affects.{affects, fixed}
+use Rattle.cv_match.specs.Findings.{findings}
+use Rattle.cv_overlay.specs.declared.fault.TreeFault.TheVariants.{Unsorted}
+use Rattle.cv_packages.specs.Packages.{packages}
+use Rattle.cv_packages.specs.declared.error.PackagesError.TheVariants as error
+use Rattle.cv_scan.specs.Root.{root_entries}
+use Rattle.cv_scan.specs.Scan.{NoLayer, BadTree, BadFile, Good, scan}
+use Rattle.cv_scan.specs.Unmarked.{has_no_marks}
+
+abbrev dir : List ℕ → TreeEntry
+dir text = record { path = components text; node = node.Dir }
+
+abbrev file : List ℕ → Content → TreeEntry
+file text content = record { path = components text; node = node.File content }
+
+-- Roots.
+
+abbrev base : List TreeEntry
+base = dir (codes "app") ∷ file (codes "app/old") (Bytes (codes "1")) ∷ file (codes "app/status") (Bytes (codes "2")) ∷ dir (codes "etc") ∷ []
+
+-- one layer is its own root
+one : (root_entries (base ∷ []) ≡ base) × (has_no_marks base ≡ true)
+unfolding root_entries
+one = (refl, refl)
+
+-- a whiteout is gone with what it hides, what is new stands at its place, and what is there twice is the upper one
+two : root_entries
+    (base ∷ (dir (codes "app") ∷ file (codes "app/.wh.old") (Bytes []) ∷ file (codes "app/new") (Bytes []) ∷ file (codes "app/status") (Bytes (codes "3")) ∷ []) ∷ [])
+    ≡ dir (codes "app") ∷ file (codes "app/new") (Bytes []) ∷ file (codes "app/status") (Bytes (codes "3")) ∷ dir (codes "etc") ∷ []
+unfolding root_entries
+two = refl
+
+-- Scans.
+
+abbrev falling : List TreeEntry
+falling = dir (codes "b") ∷ dir (codes "a") ∷ []
+
+abbrev with_status : Content → List TreeEntry
+with_status content = dir (codes "var") ∷ dir (codes "var/lib") ∷ dir (codes "var/lib/dpkg") ∷ file (codes "var/lib/dpkg/status") content ∷ []
+
+-- a layer that is not there is told before a bad tree, wherever the two stand
+absent : (scan (None ∷ []) [] ≡ NoLayer 0) × (scan (Some falling ∷ None ∷ None ∷ []) [] ≡ NoLayer 1)
+unfolding scan
+absent = (refl, refl)
+
+-- the first bad tree is told before a bad file
+bad_tree : scan (Some (with_status TooLarge) ∷ Some falling ∷ Some falling ∷ []) [] ≡ BadTree 1 (Unsorted 1)
+unfolding scan
+bad_tree = refl
+
+-- a file that no layer hides is refused, and one that is hidden is not looked at
+bad_file : (scan (Some (with_status TooLarge) ∷ []) [] ≡ BadFile (error.TooLarge (components (codes "var/lib/dpkg/status"))))
+    × (scan (Some (with_status TooLarge) ∷ Some (file (codes ".wh.var") (Bytes []) ∷ []) ∷ []) [] ≡ Good [])
+unfolding scan root_entries packages findings
+bad_file = (refl, refl)
+
+abbrev zlib : List ℕ
+zlib = codes "Package: zlib" ++ 10 ∷ codes "Status: install ok installed" ++ 10 ∷ codes "Version: 1" ++ 10 ∷ []
+
+abbrev listed : List ℕ → Advisory
+listed id = record {
+  id = id;
+  modified = codes "m";
+  withdrawn = false;
+  affected = record { «package» = Some (record { ecosystem = codes "unknown"; name = codes "zlib" }); ranges = []; versions = codes "1" ∷ [] } ∷ [];
+}
+
+abbrev told : List ℕ → Finding
+told id = record {
+  «package» = record {
+    kind = Deb;
+    path = components (codes "var/lib/dpkg/status");
+    name = codes "zlib";
+    version = codes "1";
+    source = codes "zlib";
+    source_version = codes "1";
+    arch = [];
+    ecosystem = codes "unknown";
+  };
+  feed = codes "f";
+  advisory = id;
+  fixed = None;
+}
+
+-- a package that is listed twice has one finding for each record, in the order of their ids
+found : scan (Some (with_status (Bytes (zlib ++ 10 ∷ zlib))) ∷ []) ((codes "f", listed (codes "X-2") ∷ listed (codes "X-1") ∷ []) ∷ [])
+    ≡ Good (told (codes "X-1") ∷ told (codes "X-2") ∷ [])
+unfolding scan root_entries packages findings affects fixed
+found = refl
