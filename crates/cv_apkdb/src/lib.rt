@@ -7,7 +7,12 @@
 //! ```
 #![tactic(auto)]
 
+mod block;
+mod facts;
+mod installed;
 mod letter;
 mod package;
+mod text;
 
+pub use installed::read_installed;
 pub use package::ApkPackage;

@@ -1,13 +1,12 @@
 -- The definitions, computed on examples.
-use Rattle.std.proofs.Common.{◌≡◌, ℕ, List, [], ◌∷◌, ◌++◌, refl, codes, Option, None, Some, Result, Ok, Err}
+use Rattle.std.proofs.Common.{◌≡◌, ℕ, List, [], ◌∷◌, ◌++◌, refl, codes, None, Some, Result, Ok, Err}
 use Rattle.cv_base.specs.declared.fault.FileBad.{FileBad}
 use Rattle.cv_base.specs.declared.fault.What.{What}
 use Rattle.cv_base.specs.declared.fault.What.TheVariants.{NoColon, BadField, RepeatedField, LooseContinuation, NoPackage, NoVersion, BadStatus, BadValue}
-use Rattle.cv_dpkg.specs.Fields.{Origin, origin_of, state_of, words}
-use Rattle.cv_dpkg.specs.Lines.{is_trailing, lines, without_end}
+use Rattle.cv_dpkg.specs.Fields.{origin_of, state_of, words}
+use Rattle.cv_dpkg.specs.Lines.{is_trailing, without_end}
 use Rattle.cv_dpkg.specs.Status.{status}
 use Rattle.cv_dpkg.specs.declared.package.DebPackage.{DebPackage}
-use Rattle.cv_dpkg.specs.declared.rule.StatusRule.{StatusRule}
 use Rattle.cv_dpkg.specs.declared.rule.StatusRule.TheVariants.{Needed, Optional}
 
 -- lines with an LF each

@@ -1,5 +1,5 @@
 -- Names that are the same.
-use Rattle.std.proofs.Common.{◌≡◌, ℕ, Bool, List, map, refl, sym}
+use Rattle.std.proofs.Common.{◌≡◌, ℕ, List, map, sym}
 use Rattle.std.specs.Char.{to_ascii_lowercase}
 use Rattle.std.specs.Cmp.Lexicographic.{texts_ties}
 use Rattle.std.specs.Ordering.{is_eq}

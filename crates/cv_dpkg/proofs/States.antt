@@ -1,6 +1,6 @@
 -- The words of a value, one after the other.
-use Rattle.std.proofs.Common.{◌≡◌, ℕ, Bool, true, false, ◌&&◌, cond, if◌then◌else◌, not, List, [], ◌∷◌, Option, None, Some, refl, sym, ap, ◌∙◌}
-use Rattle.std.specs.List.{filter, slice_split}
+use Rattle.std.proofs.Common.{◌≡◌, ℕ, Bool, true, false, ◌&&◌, if◌then◌else◌, not, List, [], ◌∷◌, Option, None, Some, refl, sym, ap, ◌∙◌}
+use Rattle.std.specs.List.{filter}
 use Rattle.std.specs.Option.{is_some, option_and_then, option_map}
 use Rattle.cv_dpkg.specs.Fields.{cut, is_state, state_of, third, words}
 use Rattle.cv_dpkg.specs.Lines.{is_blank, is_nil, without_front}

@@ -1,9 +1,8 @@
 -- That reading line by line, paragraph by paragraph, tells what the definition says of the whole file.
-use Rattle.std.proofs.Common.{◌≡◌, ◌≢◌, ℕ, ◌+◌, Bool, true, false, ◌&&◌, ◌||◌, cond, if◌then◌else◌, not, List, [], ◌∷◌, ◌++◌, map, Option, None, Some, Result, Ok, Err, refl, sym, ap, ◌∙◌, append_assoc, append-nil}
+use Rattle.std.proofs.Common.{◌≡◌, ℕ, ◌+◌, Bool, true, false, ◌||◌, cond, if◌then◌else◌, not, List, [], ◌∷◌, ◌++◌, Option, None, Some, Result, Ok, Err, refl, sym, ap, ◌∙◌, append_assoc, append-nil}
 use Rattle.std.specs.Bool.{MatchBool, ⊤}
-use Rattle.std.specs.List.{flat_map, list_any, onto_first, slice_split}
-use Rattle.std.specs.Option.{is_some, option_map, option_map_or, option_or}
-use Rattle.cv_base.specs.Answer.{Gives}
+use Rattle.std.specs.List.{flat_map, onto_first, slice_split}
+use Rattle.std.specs.Option.{is_some, option_map_or, option_or}
 use Rattle.cv_base.specs.Reading.{is_read_memory}
 use Rattle.cv_base.specs.declared.fault.FileBad.{FileBad}
 use Rattle.cv_base.specs.declared.fault.ReadBad.{ReadBad}
@@ -11,9 +10,9 @@ use Rattle.cv_base.specs.declared.fault.ReadBad.TheVariants.{Bad, NoMemory}
 use Rattle.cv_base.specs.declared.fault.What.{What}
 use Rattle.cv_base.specs.declared.fault.What.TheVariants.{LooseContinuation, BadField, RepeatedField}
 use Rattle.cv_dpkg.specs.Fields.{Facts, Pair, field_of, join, named, nothing, pair_in, same_name, tells, told_by, is_name}
-use Rattle.cv_dpkg.specs.Lines.{Line, is_continuation, is_gap, is_nil, is_trailing, numbered, without_end}
-use Rattle.cv_dpkg.specs.Reader.{State, and_then, as_read, bad, close, continuation_step, end_step, field_step, given, field_after, line_step, lines_left, opening, plain_after, told, with_name}
-use Rattle.cv_dpkg.specs.Status.{answer, at, end_faults, facts, faults, field_fault, is_first, last_number, line_fault, line_faults, package_in, packages, stands, status, value_fault, whole_fault}
+use Rattle.cv_dpkg.specs.Lines.{Line, is_continuation, is_gap, numbered}
+use Rattle.cv_dpkg.specs.Reader.{State, and_then, as_read, bad, close, continuation_step, end_step, field_step, given, field_after, line_step, lines_left, opening, plain_after, told}
+use Rattle.cv_dpkg.specs.Status.{answer, at, end_faults, facts, faults, field_fault, is_first, last_number, line_fault, line_faults, packages, stands, status, value_fault, whole_fault}
 use Rattle.cv_dpkg.specs.declared.package.DebPackage.{DebPackage}
 use Rattle.cv_dpkg.specs.declared.rule.StatusRule.{StatusRule}
 

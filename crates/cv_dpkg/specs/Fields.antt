@@ -1,6 +1,6 @@
 -- What a line of a dpkg status file tells: cvwatch's own profile of it, after deb-control(5) and Debian Policy 5.1. The used
 -- fields are Package, Status, Version, Source and Architecture. Every other field is passed over.
-use Rattle.std.specs.Prelude.{ℕ, Bool, true, false, ◌&&◌, ◌||◌, ◌==◌, nat_le, if◌then◌else◌, not, List, [], ◌∷◌, map, codes, Option, None, Some}
+use Rattle.std.specs.Prelude.{ℕ, Bool, false, ◌&&◌, ◌||◌, ◌==◌, nat_le, if◌then◌else◌, not, List, [], ◌∷◌, map, codes, Option, None, Some}
 use Rattle.std.specs.Char.{to_ascii_lowercase}
 use Rattle.std.specs.List.{filter, list_all, list_any, slice_split}
 use Rattle.std.specs.Option.{option_map, option_map_or, option_or}

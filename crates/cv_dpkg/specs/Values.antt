@@ -1,5 +1,4 @@
 -- Values as the code holds them.
-use Rattle.std.specs.Prelude.{ℕ, List, Option}
 use Rattle.std.specs.Option.{option_map}
 use Rattle.cv_dpkg.specs.Fields.{Origin}
 use Rattle.cv_dpkg.specs.declared.value.Source.{Source}

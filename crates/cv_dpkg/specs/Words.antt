@@ -1,8 +1,8 @@
 -- The words of a text one after the other, as the code reads them. It is shown in `proofs/` that these are the words of
 -- `Fields.antt`.
-use Rattle.std.specs.Prelude.{ℕ, Bool, true, false, ◌&&◌, if◌then◌else◌, not, List, [], ◌∷◌, Option, None, Some}
+use Rattle.std.specs.Prelude.{ℕ, ◌&&◌, if◌then◌else◌, not, List, [], ◌∷◌, Option, None, Some}
 use Rattle.std.specs.Option.{is_some, option_and_then}
-use Rattle.cv_dpkg.specs.Fields.{cut, is_state, words}
+use Rattle.cv_dpkg.specs.Fields.{cut, is_state}
 use Rattle.cv_dpkg.specs.Lines.{is_blank, without_front}
 
 -- a word up to a blank or to the end

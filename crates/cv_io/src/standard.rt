@@ -5,7 +5,7 @@ use crate::sink::Sink;
 use crate::source::Source;
 use std::io::{Read, Write};
 
-/// Reads from a reader of std, as standard input. It tells no bytes, and counts each error.
+/// Reads from a reader of std, as standard input, which tells no bytes. It counts each error.
 #[derive(Drop)]
 pub struct StdSource<R> {
     reader: R,
@@ -13,6 +13,7 @@ pub struct StdSource<R> {
 }
 
 impl<R: Read + Drop> StdSource<R> {
+    /// A source that has not failed yet.
     pub fn new(reader: R) -> StdSource<R>
         ensures left { ⟦<StdSource<R> as Source>⟧.left result ≡ R.remaining reader }
         ensures faults { ⟦<StdSource<R> as Source>⟧.faults result ≡ 0 }
@@ -46,6 +47,7 @@ pub struct StdSink<W> {
 }
 
 impl<W: Write + Drop> StdSink<W> {
+    /// A sink that has not failed yet.
     pub fn new(writer: W) -> StdSink<W>
         ensures { ⟦<StdSink<W> as Sink>⟧.faults result ≡ 0 }
     {

@@ -129,9 +129,9 @@ no_effect = (refl, refl)
 -- the first range that has the version within tells the fix: none, where it has none above, even if a later range has one; and
 -- the least one above the version, whatever its place
 first_range : (fixed (advisory (codes "F-1") false (entry (codes "Debian:12") (codes "openssl")
-      (range Ecosystem (Introduced (codes "5") ∷ Fixed (codes "6") ∷ [])
-      ∷ range Ecosystem (Introduced (codes "0") ∷ []) ∷ range Ecosystem (Introduced (codes "0") ∷ Fixed (codes "2") ∷ []) ∷ []) [] ∷ []))
-      (openssl (codes "1")) ≡ None)
+    (range Ecosystem (Introduced (codes "5") ∷ Fixed (codes "6") ∷ [])
+    ∷ range Ecosystem (Introduced (codes "0") ∷ []) ∷ range Ecosystem (Introduced (codes "0") ∷ Fixed (codes "2") ∷ []) ∷ []) [] ∷ []))
+    (openssl (codes "1")) ≡ None)
     × (fixed (told (Fixed (codes "4") ∷ Introduced (codes "1.2") ∷ Fixed (codes "2.0") ∷ Fixed (codes "2.00") ∷ Fixed (codes "1") ∷ [])) (openssl (codes "1.5")) ≡ Some (codes "2.0"))
 unfolding fixed within
 first_range = (refl, refl)

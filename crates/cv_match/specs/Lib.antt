@@ -1,4 +1,9 @@
 pub mod Affects
+pub mod Answer
 pub mod Findings
+pub mod Hit
+pub mod Kinds
 pub mod Order
+pub mod Ready
+pub mod Walk
 pub mod Within

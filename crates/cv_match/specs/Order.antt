@@ -1,7 +1,7 @@
 -- Which texts are versions of a package, and how they compare: for each kind of package the order of its package manager.
 -- Semantic versions, which npm has, are those that `semver` reads, with the precedence of SemVer 2.0.0, section 11: build
 -- metadata does not count.
-use Rattle.std.specs.Prelude.{ℕ, Bool, List, is_ok}
+use Rattle.std.specs.Prelude.{ℕ, Bool, List, is_ok, Option, Some, None, if◌then◌else◌}
 use Rattle.std.specs.Result.{result_ok}
 use Rattle.std.specs.declared.cmp.Ordering.{Ordering}
 use Rattle.std.specs.Ordering.{nat_cmp, on, then_cmp}
@@ -53,3 +53,7 @@ pub version_total_of : (kind : PackageKind) → IsTotalOrder (version_cmp_of kin
 version_total_of Deb = deb.version_total
 version_total_of Apk = apk.version_total
 version_total_of Npm = semantic_total
+
+-- the text as a version of this kind, where it is one
+abbrev pub version_in : PackageKind → List ℕ → Option (List ℕ)
+version_in kind text = if is_version_of kind text then Some text else None

@@ -1,4 +1,27 @@
 //! Tells which packages an advisory affects, and which version has the fix, after the evaluation of the OSV schema 1.6.
+//!
+//! ```text
+//! let record = prepare(alloc, &advisory, PackageKind::Deb)?;
+//! let installed = prepare_package(alloc, &package)?;
+//! if let Hit::Yes { fixed: Some(at) } = affects(&record, &installed, &mut steps) {
+//!     assert_eq!(fixed_text(&advisory, at), Some("1.5"));
+//! }
+//! ```
 #![tactic(auto)]
 
+mod answer;
+mod asking;
+mod entry;
+mod key;
+mod matching;
 mod placed;
+mod reading;
+mod ready;
+mod semantic;
+mod version;
+mod within;
+
+pub use answer::{FixedAt, Hit};
+pub use asking::{affects, fixed_text};
+pub use ready::{ReadyAdvisory, ReadyPackage, prepare, prepare_package};
+pub use semantic::{SemanticVersion, semantic_order_laws};

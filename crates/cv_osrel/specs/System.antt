@@ -77,9 +77,13 @@ assignment_by parts =
 abbrev pub assignment : List ℕ → Option Assignment
 assignment line = option_and_then assignment_by (cut is_equals line)
 
+-- the value of an assignment, if it is one of this name
+abbrev pub value_for : List ℕ → Assignment → Option (List ℕ)
+value_for name a = if same a.name name then Some a.value else None
+
 -- the value that a line gives to a name, if it is an assignment of this name
 abbrev pub value_by : List ℕ → List ℕ → Option (List ℕ)
-value_by name line = option_and_then (λ a. if same a.name name then Some a.value else None) (assignment line)
+value_by name line = option_and_then (value_for name) (assignment line)
 
 -- the value of the last assignment of a name
 abbrev pub last_value : List ℕ → List (List ℕ) → Option (List ℕ)

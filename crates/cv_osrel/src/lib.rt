@@ -8,6 +8,14 @@
 //! ```
 #![tactic(auto)]
 
+mod assignment;
+mod branch;
+mod ecosystems;
 mod name;
+mod system;
+mod text;
+mod value;
 
+pub use ecosystems::ecosystem;
 pub use name::OsName;
+pub use system::read_os;

@@ -1,13 +1,13 @@
 -- Records read by the definition, computed.
-use Rattle.std.specs.Prelude.{◌≡◌, ℕ, Bool, true, false, List, [], ◌∷◌, codes, Option, Some, None, Result, Ok, Err, refl}
+use Rattle.std.specs.Prelude.{◌≡◌, ℕ, true, false, List, [], ◌∷◌, codes, Some, None, Ok, Err, refl}
 use Rattle.cv_base.specs.declared.advisory.Advisory.{Advisory}
 use Rattle.cv_base.specs.declared.advisory.RangeKind.TheVariants.{Ecosystem, Semver, Other}
 use Rattle.cv_base.specs.declared.advisory.Turn.TheVariants.{Introduced, Fixed, LastAffected, Limit}
 use Rattle.cv_osv.specs.Record.{advisory_of, entry_of, package_of, range_of, kind_of, turns_of}
 use Rattle.cv_osv.specs.Records.{records_of}
 use Rattle.cv_osv.specs.declared.error.OsvError.TheVariants.{NotList, BadAdvisory, DuplicateId}
-use Rattle.cv_osv.specs.declared.error.RecordWhat.TheVariants.{NotObject, NoId, NoModified, BadWithdrawn, BadAffected, BadEntry, BadPackage, BadRange, BadEvent, BadVersions}
-use Rattle.serde_json.specs.Data.{Data, null, boolean, string, array, object, Items, no_items, item, Members, no_members, member}
+use Rattle.cv_osv.specs.declared.error.RecordWhat.TheVariants.{NotObject, NoId, NoModified, BadWithdrawn, BadPackage, BadRange, BadEvent, BadVersions}
+use Rattle.serde_json.specs.Data.{Data, null, boolean, string, array, object, no_items, item, Members, no_members, member}
 
 -- a list of one item
 abbrev only : Data → Data

@@ -1,5 +1,5 @@
 -- Records read one by one are the whole list, or what stands at its first index at which something stands.
-use Rattle.std.specs.Prelude.{◌≡◌, ℕ, ◌+◌, ◌<◌, ◌≤◌, cond, List, [], ◌∷◌, ◌++◌, length, map, Option, Some, None, option_map, Result, Ok, Err, refl}
+use Rattle.std.specs.Prelude.{◌≡◌, ℕ, ◌+◌, ◌<◌, ◌≤◌, cond, List, [], ◌∷◌, ◌++◌, length, map, Option, Some, None, option_map, Ok, Err, refl}
 use Rattle.std.specs.List.{position_from}
 use Rattle.std.specs.Option.{option_to_list}
 use Rattle.std.proofs.Common.{◌∙◌, sym, ap, append_assoc, le-ltb, lt-ltb}
@@ -8,9 +8,8 @@ use Rattle.cv_base.specs.Texts.{same}
 use Rattle.cv_base.specs.declared.advisory.Advisory.{Advisory}
 use Rattle.cv_osv.specs.Json.{◌>>=◌, items_list}
 use Rattle.cv_osv.specs.Record.{advisory_of}
-use Rattle.cv_osv.specs.Records.{Reading, has_id, fault_behind, faults_behind, records_in, unless, listed, records_of}
-use Rattle.cv_osv.specs.Told.{at_index, index_of, one_more, pushed, told}
-use Rattle.cv_osv.specs.declared.error.OsvError.{OsvError}
+use Rattle.cv_osv.specs.Records.{Reading, has_id, faults_behind, records_in, unless, listed, records_of}
+use Rattle.cv_osv.specs.Told.{index_of, one_more, pushed, told}
 use Rattle.cv_osv.specs.declared.error.OsvError.TheVariants.{BadAdvisory, DuplicateId, NotList, TooMany}
 use Rattle.serde_json.specs.Data.{Data}
 use Rattle.serde_json.specs.Find.{as_array}

@@ -17,7 +17,8 @@ mod merge;
 mod outline;
 mod root;
 
-pub use check::check_tree;
+pub use check::{check_tree, fault_of};
 pub use fault::{OverlayError, TreeFault};
 pub use mark::{Mark, mark_of};
+pub use outline::Outlined;
 pub use root::Root;

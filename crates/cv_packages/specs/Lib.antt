@@ -1,2 +1,4 @@
 pub mod Files
+pub mod Held
 pub mod Packages
+pub mod Walk

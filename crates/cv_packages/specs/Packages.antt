@@ -73,17 +73,21 @@ npm_package os path p = record {
   ecosystem = eco os kind.Npm;
 }
 
--- a fault of a file, as the refusal of its root
-abbrev pub refused : {A : Type 0} → Path → Result A FileBad → Result A PackagesError
-refused path (Ok x) = Ok x
-refused path (Err bad) = Err (error.BadFile path bad.line bad.what)
+-- what a database told, as packages or as the refusal of the root
+abbrev pub deb_found : Option OsName → Path → Result (List DebPackage) FileBad → Result (List Package) PackagesError
+deb_found os path (Ok found) = Ok (map (deb_package os path) found)
+deb_found os path (Err bad) = Err (error.BadFile path bad.line bad.what)
+
+abbrev pub apk_found : Option OsName → Path → Result (List ApkPackage) FileBad → Result (List Package) PackagesError
+apk_found os path (Ok found) = Ok (map (apk_package os path) found)
+apk_found os path (Err bad) = Err (error.BadFile path bad.line bad.what)
 
 -- the packages of a file of this place with these bytes
 abbrev pub read_place : Option OsName → Path → Place → List ℕ → Result (List Package) PackagesError
-read_place os path Status bytes = refused path (status bytes Needed) >>= λ ps. Ok (map (deb_package os path) ps)
-read_place os path StatusFolder bytes = refused path (status bytes Optional) >>= λ ps. Ok (map (deb_package os path) ps)
-read_place os path Installed bytes = refused path (installed bytes) >>= λ ps. Ok (map (apk_package os path) ps)
-read_place os path UsrInstalled bytes = refused path (installed bytes) >>= λ ps. Ok (map (apk_package os path) ps)
+read_place os path Status bytes = deb_found os path (status bytes Needed)
+read_place os path StatusFolder bytes = deb_found os path (status bytes Optional)
+read_place os path Installed bytes = apk_found os path (installed bytes)
+read_place os path UsrInstalled bytes = apk_found os path (installed bytes)
 read_place os path Os bytes = Ok []
 read_place os path UsrOs bytes = Ok []
 read_place os path Npm bytes = Ok (map (npm_package os path) (option_to_list (npm bytes)))

@@ -1,5 +1,6 @@
 use cv_base::{RelPath, What};
 use cv_seq::NoMemory;
+use std::alloc::AllocError;
 use thiserror::Error;
 
 /// Why the packages of a root were not read: the first refused package file, in the order of paths.
@@ -22,6 +23,17 @@ impl From<NoMemory> for PackagesError {
     ghost from_gives = { λ _ e. e ≡ error.NoMemory };
 
     fn from(_error: NoMemory) -> PackagesError {
+        PackagesError::NoMemory
+    }
+}
+
+impl From<AllocError> for PackagesError {
+    ghost use Rattle.std.specs.Prelude.{◌≡◌};
+    ghost use Rattle.cv_packages.specs.declared.error.PackagesError.TheVariants as error;
+
+    ghost from_gives = { λ _ e. e ≡ error.NoMemory };
+
+    fn from(_error: AllocError) -> PackagesError {
         PackagesError::NoMemory
     }
 }

@@ -1,2 +1,5 @@
+pub mod Found
+pub mod Keyed
 pub mod Root
 pub mod Scan
+pub mod Unmarked

@@ -8,7 +8,9 @@
 mod finding;
 mod line;
 mod object;
+mod scan;
 
 pub use finding::findings_value;
 pub use line::line_of;
 pub use object::Object;
+pub use scan::{desk_fault_line, good_line, image_line, refused_line};

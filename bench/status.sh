@@ -1,0 +1,45 @@
+#!/usr/bin/env bash
+# Times the reading of dpkg status files of 32 MB, the most that a package file may have: usual paragraphs, nothing but LFs, one
+# field over and over, one paragraph of two million fields, one line of a long value, one line of blanks. The program is
+# crates/bench_status. Of each it prints the seconds, the peak of memory, and what was read.
+set -euo pipefail
+cd "$(dirname "$0")/.."
+data=bench/data/status
+mkdir -p "$data"
+(cd crates/bench_status && rt run </dev/null >/dev/null 2>&1)
+program=$PWD/crates/bench_status/out/bench_status
+bytes=33554432
+
+paragraph='Package: libc6
+Status: install ok installed
+Priority: optional
+Section: libs
+Installed-Size: 12986
+Maintainer: A B <a@example.org>
+Architecture: amd64
+Multi-Arch: same
+Source: glibc
+Version: 2.36-9+deb12u4
+Depends: libgcc-s1, libcrypt1
+Description: C library
+ Text that goes on for a while and tells what is in it.
+ .
+ More of it.
+'
+filled() { head -c "$1" /dev/zero | tr '\0' "$2"; }
+
+usual() { yes "$paragraph" | head -c "$((bytes / (${#paragraph} + 1) * (${#paragraph} + 1)))" || true; }
+empty_lines() { filled "$bytes" '\n'; }
+one_field() { yes 'Package: a' | head -c "$bytes" || true; }
+many_fields() { echo 'Package: a'; echo 'Status: install ok installed'; echo 'Version: 1'; seq -f 'X%.0f: y' 2200000; }
+long_value() { printf 'X: '; filled "$((bytes - 4))" a; echo; }
+blanks() { filled "$bytes" ' '; }
+
+printf '%-12s %8s %8s  %s\n' input seconds MB answer
+for shape in usual empty_lines one_field many_fields long_value blanks; do
+    file=$data/$shape
+    [ -f "$file" ] || "$shape" >"$file"
+    answer=$(/usr/bin/time -f '%e %M' -o "$data/time" "$program" <"$file")
+    read -r seconds peak <"$data/time"
+    printf '%-12s %8s %8s  %s\n' "$shape" "$seconds" "$((peak / 1024))" "$answer"
+done

@@ -1,0 +1,28 @@
+use crate::placed::Placed;
+use crate::semantic::SemanticVersion;
+use crate::version::{ApkVersion, DebVersion};
+use cv_base::{PackageName, Seq, Text};
+
+/// An affected entry of an advisory with its versions read. A range in which nothing can lie has no events.
+#[derive(Drop)]
+pub(crate) struct ReadyEntry<V> {
+    pub package: Option<PackageName>,
+    pub ranges: Seq<Option<Seq<Placed<V>>>>,
+    pub versions: Seq<Text>,
+}
+
+/// The entries of an advisory, read for one kind of package.
+#[derive(Drop)]
+pub(crate) enum ReadyEntries {
+    Deb(Seq<ReadyEntry<DebVersion>>),
+    Apk(Seq<ReadyEntry<ApkVersion>>),
+    Npm(Seq<ReadyEntry<SemanticVersion>>),
+}
+
+/// The version of a package, read for its kind: none where the text is no version.
+#[derive(Drop)]
+pub(crate) enum ReadyVersion {
+    Deb(Option<DebVersion>),
+    Apk(Option<ApkVersion>),
+    Npm(Option<SemanticVersion>),
+}

@@ -1,0 +1,162 @@
+ghost use Rattle.std.specs.Prelude.{◌≡◌, IfOk, map};
+ghost use Rattle.cv_match.specs.Affects.{matched_version};
+ghost use Rattle.cv_match.specs.Answer.{Answers};
+ghost use Rattle.cv_match.specs.Hit.{hit_of, key_of};
+ghost use Rattle.cv_match.specs.Kinds.{entries_kind, entries_text, version_kind, version_text};
+ghost use Rattle.cv_match.specs.Order.{version_in};
+ghost use Rattle.cv_match.specs.Ready.{ready_entry};
+
+use crate::answer::Hit;
+use crate::entry::{ReadyEntries, ReadyVersion};
+use crate::key::PackageKey;
+use crate::matching::hit;
+use crate::reading::ready_entries;
+use crate::semantic::SemanticVersion;
+use crate::version::{ApkVersion, DebVersion, Version};
+use cv_base::{Advisory, Affected, NoMemory, Package, PackageKind, Text};
+use std::alloc::Global;
+use std::marker::Model;
+use std::snapshot::Snapshot;
+
+/// A record with its versions read for one kind of package. Contracts see the kind and the record.
+#[derive(Drop)]
+pub struct ReadyAdvisory {
+    withdrawn: bool,
+    entries: ReadyEntries,
+    source: Snapshot<Advisory>,
+}
+
+impl Model for ReadyAdvisory {
+    ghost use Rattle.std.specs.Prelude.{◌≡◌, map};
+    ghost use Rattle.cv_match.specs.Kinds.{Prepared, entries_kind, entries_text};
+    ghost use Rattle.cv_match.specs.Ready.{ready_entry};
+
+    ghost Value = { Prepared };
+
+    ghost view = { λ a. record { kind = entries_kind a.entries; advisory = a.source.value } };
+
+    ghost invariant = { λ a. (a.withdrawn ≡ a.source.value.withdrawn) × (entries_text a.entries ≡ map (ready_entry (entries_kind a.entries)) a.source.value.affected) };
+}
+
+/// A package with its version read. Contracts see the package.
+#[derive(Drop)]
+pub struct ReadyPackage {
+    key: PackageKey,
+    version: ReadyVersion,
+    source: Snapshot<Package>,
+}
+
+impl Model for ReadyPackage {
+    ghost use Rattle.std.specs.Prelude.{◌≡◌};
+    ghost use Rattle.cv_base.specs.declared.«package».Package.{Package};
+    ghost use Rattle.cv_match.specs.Affects.{matched_version};
+    ghost use Rattle.cv_match.specs.Hit.{key_of};
+    ghost use Rattle.cv_match.specs.Kinds.{version_kind, version_text};
+    ghost use Rattle.cv_match.specs.Order.{version_in};
+
+    ghost Value = { Package };
+
+    ghost view = { λ p. p.source.value };
+
+    ghost invariant = { λ p. (version_kind p.version ≡ p.source.value.kind) × (p.key ≡ key_of p.source.value) × (version_text p.version ≡ version_in p.source.value.kind (matched_version p.source.value)) };
+}
+
+/// Reads the versions of a record once, for one kind of package.
+pub fn prepare(
+    alloc: Global,
+    advisory: &Advisory,
+    kind: PackageKind,
+) -> Result<ReadyAdvisory, NoMemory>
+    ensures { IfOk result (λ ready. ready ≡ record { kind = kind; advisory = advisory.now }) }
+{
+    Ok(ReadyAdvisory {
+        withdrawn: advisory.withdrawn,
+        entries: prepare_entries(alloc, advisory.affected.as_slice(), kind)?,
+        source: Snapshot::of(advisory),
+    })
+}
+
+fn prepare_entries(
+    alloc: Global,
+    entries: &[Affected],
+    kind: PackageKind,
+) -> Result<ReadyEntries, NoMemory>
+    ensures kind { IfOk result (λ ready. entries_kind ready ≡ kind) }
+    ensures entries { IfOk result (λ ready. entries_text ready ≡ map (ready_entry kind) entries.now) }
+{
+    match kind {
+        PackageKind::Deb => Ok(ReadyEntries::Deb(ready_entries(alloc, kind, entries)?)),
+        PackageKind::Apk => Ok(ReadyEntries::Apk(ready_entries(alloc, kind, entries)?)),
+        PackageKind::Npm => Ok(ReadyEntries::Npm(ready_entries(alloc, kind, entries)?)),
+    }
+}
+
+/// Reads the version of a package once.
+pub fn prepare_package(alloc: Global, package: &Package) -> Result<ReadyPackage, NoMemory>
+    ensures { IfOk result (λ ready. ready ≡ «package».now) }
+{
+    let key = key_of(package)?;
+    Ok(ReadyPackage {
+        version: read_version(alloc, &key.version, package.kind)?,
+        key,
+        source: Snapshot::of(package),
+    })
+}
+
+fn key_of(package: &Package) -> Result<PackageKey, NoMemory>
+    ensures { IfOk result (λ key. key ≡ key_of «package».now) }
+{
+    let (name, version) = match package.kind {
+        PackageKind::Deb | PackageKind::Apk => (&package.source, &package.source_version),
+        PackageKind::Npm => (&package.name, &package.version),
+    };
+    Ok(PackageKey {
+        ecosystem: package.ecosystem.clone()?,
+        name: name.clone()?,
+        version: version.clone()?,
+    })
+}
+
+fn read_version(alloc: Global, text: &Text, kind: PackageKind) -> Result<ReadyVersion, NoMemory>
+    ensures kind { IfOk result (λ version. version_kind version ≡ kind) }
+    ensures version { IfOk result (λ version. version_text version ≡ version_in kind text.now) }
+{
+    match kind {
+        PackageKind::Deb => Ok(ReadyVersion::Deb(DebVersion::read(alloc, text)?)),
+        PackageKind::Apk => Ok(ReadyVersion::Apk(ApkVersion::read(alloc, text)?)),
+        PackageKind::Npm => Ok(ReadyVersion::Npm(SemanticVersion::read(alloc, text)?)),
+    }
+}
+
+impl ReadyAdvisory {
+    pub(crate) fn hit(&self, package: &ReadyPackage) -> Hit
+        requires { self.now.kind ≡ «package».now.kind }
+        ensures { Answers self.now.advisory «package».now result }
+    {
+        if self.withdrawn {
+            Hit::No
+        } else {
+            entries_hit(&self.entries, &package.key, &package.version)
+        }
+    }
+}
+
+fn entries_hit(entries: &ReadyEntries, key: &PackageKey, version: &ReadyVersion) -> Hit
+    requires { entries_kind entries.now ≡ version_kind version.now }
+    ensures { result ≡ hit_of (entries_kind entries.now) key.now (version_text version.now) (entries_text entries.now) }
+{
+    match entries {
+        ReadyEntries::Deb(entries) => match version {
+            ReadyVersion::Deb(version) => hit(entries.as_slice(), key, version),
+            _ => unreachable!(),
+        },
+        ReadyEntries::Apk(entries) => match version {
+            ReadyVersion::Apk(version) => hit(entries.as_slice(), key, version),
+            _ => unreachable!(),
+        },
+        ReadyEntries::Npm(entries) => match version {
+            ReadyVersion::Npm(version) => hit(entries.as_slice(), key, version),
+            _ => unreachable!(),
+        },
+    }
+}

@@ -1,0 +1,100 @@
+ghost use Rattle.std.specs.Prelude.{◌≡◌, map, IfOk, Option};
+ghost use Rattle.std.specs.Option.{option_map, option_to_list};
+ghost use Rattle.cv_osrel.specs.Ecosystem.{eco};
+ghost use Rattle.cv_packages.specs.Packages.{apk_package, deb_package, npm_package};
+
+use cv_apkdb::ApkPackage;
+use cv_base::{Package, PackageKind, RelPath};
+use cv_dpkg::DebPackage;
+use cv_npm::NpmPackage;
+use cv_osrel::{OsName, ecosystem};
+use cv_seq::{NoMemory, Text};
+use std::alloc::Global;
+
+/// Packages of a dpkg status file.
+pub fn deb_packages(alloc: Global, os: Option<&OsName>, path: &RelPath, found: Vec<DebPackage>) -> Result<Vec<Package>, NoMemory>
+    ensures { IfOk result (λ out. out.items ≡ map (deb_package (option_map (λ name. name.now) os.entry) path.now) found.items) }
+{
+    let ecosystem = ecosystem(alloc, os, PackageKind::Deb)?;
+    let mut out = Vec::new(alloc);
+    for package in found {
+        let DebPackage {
+            name,
+            version,
+            source,
+            source_version,
+            arch,
+        } = package;
+        out.push(Package {
+            kind: PackageKind::Deb,
+            path: path.clone()?,
+            name,
+            version,
+            source,
+            source_version,
+            arch,
+            ecosystem: ecosystem.clone()?,
+        })?;
+    }
+    Ok(out)
+}
+
+/// Packages of apk's installed database. The version of the source is the package's own.
+pub fn apk_packages(alloc: Global, os: Option<&OsName>, path: &RelPath, found: Vec<ApkPackage>) -> Result<Vec<Package>, NoMemory>
+    ensures { IfOk result (λ out. out.items ≡ map (apk_package (option_map (λ name. name.now) os.entry) path.now) found.items) }
+{
+    let ecosystem = ecosystem(alloc, os, PackageKind::Apk)?;
+    let mut out = Vec::new(alloc);
+    for package in found {
+        let ApkPackage {
+            name,
+            version,
+            arch,
+            origin,
+        } = package;
+        out.push(Package {
+            kind: PackageKind::Apk,
+            path: path.clone()?,
+            name,
+            source_version: version.clone()?,
+            version,
+            source: origin,
+            arch,
+            ecosystem: ecosystem.clone()?,
+        })?;
+    }
+    Ok(out)
+}
+
+/// The package of a package.json, if it names one.
+pub fn npm_packages(
+    alloc: Global,
+    os: Option<&OsName>,
+    path: &RelPath,
+    found: Option<NpmPackage>,
+) -> Result<Vec<Package>, NoMemory>
+    ensures { IfOk result (λ out. out.items ≡ map (npm_package (option_map (λ name. name.now) os.entry) path.now) (option_to_list found)) }
+{
+    let mut out = Vec::new(alloc);
+    if let Some(NpmPackage { name, version }) = found {
+        out.push(npm_package(alloc, os, path, name, version)?)?;
+    }
+    Ok(out)
+}
+
+fn npm_package(alloc: Global, os: Option<&OsName>, path: &RelPath, name: Text, version: Text) -> Result<Package, NoMemory>
+    ensures {
+        IfOk result (λ out. out ≡ npm_package (option_map (λ system. system.now) os.entry) path.now (record { name = name; version = version }))
+    }
+{
+    Ok(Package {
+        kind: PackageKind::Npm,
+        path: path.clone()?,
+        source: name.clone()?,
+        source_version: version.clone()?,
+        name,
+        version,
+        arch: Text::of(alloc, "")?,
+        ecosystem: ecosystem(alloc, os, PackageKind::Npm)?,
+    })
+}

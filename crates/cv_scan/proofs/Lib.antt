@@ -1,0 +1,4 @@
+pub mod Finds
+pub mod Loaded
+pub mod OneLayer
+pub mod Ordered
