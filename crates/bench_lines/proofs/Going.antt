@@ -1,16 +1,15 @@
 -- The count so far, and what is left to read.
-use Rattle.std.proofs.Common.{◌≡◌, ℕ, ◌+◌, List, [], ◌∷◌, length, refl, sym, ◌∙◌, ap, arith}
-use Rattle.std.specs.Prelude.{Option, None, Some, Result, Ok, Err, IfSome, IsSomeAnd}
+use Rattle.std.proofs.Common.{◌≡◌, ℕ, ◌+◌, List, length, refl, ◌∙◌, ap, arith}
+use Rattle.std.specs.Prelude.{Option, None, Some, Ok, Err, IfSome, IsSomeAnd}
 use Rattle.std.specs.List.{sum_by}
 use Rattle.std.proofs.lemmas.List.Sums.{sum_by-cons}
-use Rattle.cv_io.specs.declared.line.Line.{Line}
 use Rattle.cv_io.specs.declared.line.Line.TheVariants.{Text, End}
 use Rattle.cv_io.specs.declared.line.LineError.{LineError}
 use Rattle.cv_io.specs.declared.line.LineError.TheVariants.{ReadFault, LineTooLong, InputTooLong, NoMemory}
-use Rattle.cv_io.specs.Lines.{Reading, Finished, stopped, line_then}
+use Rattle.cv_io.specs.Lines.{Reading}
 use Rattle.cv_io.specs.Reader.{Reads}
 use Rattle.bench_lines.specs.declared.count.Count.{Count}
-use Rattle.bench_lines.specs.Count.{IsCountOf, Counts}
+use Rattle.bench_lines.specs.Count.{Counts}
 
 -- the lines counted, with those that are left, are the whole
 pub record IsBehind (whole rest : Reading) (count : Count) : Type 0 where

@@ -1,5 +1,5 @@
 -- The count of an input's lines and bytes, by the lines that a reader gives (cvwatch's own).
-use Rattle.std.specs.Prelude.{◌≡◌, ℕ, length, Result, Ok, Err}
+use Rattle.std.specs.Prelude.{◌≡◌, length, Result, Ok, Err}
 use Rattle.std.specs.List.{sum_by}
 use Rattle.bench_lines.specs.declared.count.Count.{Count}
 use Rattle.cv_io.specs.declared.line.LineError.{LineError}

@@ -7,6 +7,7 @@ pub struct Numbers {
 }
 
 impl Numbers {
+    /// The generator at its start.
     pub fn new() -> Numbers {
         Numbers { state: 1 }
     }

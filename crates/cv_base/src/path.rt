@@ -88,7 +88,8 @@ impl RelPath {
 
     /// The components with `/` between them, and the empty text for the top.
     pub fn text(&self) -> &str
-        ensures { result.now ≡ join_with_byte 47 self.now }
+        ensures value { result.now ≡ join_with_byte 47 self.now }
+        ensures parts { components result.now ≡ self.now }
     {
         self.plain_text()
     }

@@ -1,3 +1,4 @@
 mod Examples
 pub mod Hyphens
 pub mod Pairs
+pub mod Written

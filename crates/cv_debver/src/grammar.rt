@@ -1,13 +1,20 @@
-ghost use Rattle.std.specs.Prelude.{◌≡◌};
+ghost use Rattle.std.specs.Prelude.{◌≡◌, ◌↔◌, IsTrue};
 ghost use Rattle.std.specs.List.{list_all};
 ghost use Rattle.cv_order.specs.Digits.{is_digit};
-ghost use Rattle.cv_debver.specs.Grammar.{is_revision_byte, is_upstream_byte, is_version, one_or_more};
+ghost use Rattle.cv_debver.specs.Grammar.{IsVersion, is_revision_byte, is_upstream_byte, is_version, one_or_more};
 
 use crate::version::split;
 
 /// Whether the text is a version: `[epoch:]upstream[-revision]`, where the epoch is what stands before the first colon and the
 /// revision what stands behind the last hyphen. A text with a colon in its upstream version is none.
 pub fn is_version(text: &[u8]) -> bool
+    ensures value { result ≡ is_version text.now }
+    ensures grammar { IsTrue result ↔ IsVersion text.now }
+{
+    has_version_parts(text)
+}
+
+fn has_version_parts(text: &[u8]) -> bool
     ensures { result ≡ is_version text.now }
 {
     let parts = split(text);

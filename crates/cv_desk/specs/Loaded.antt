@@ -58,3 +58,13 @@ is_read_node path node.Other = true
 
 abbrev pub is_read : TreeEntry → Bool
 is_read entry = is_read_node entry.path entry.node
+
+-- an item with all that is stored of it
+abbrev pub whole_node : Item → Node
+whole_node Dir = node.Dir
+whole_node (File bytes) = node.File (Bytes bytes)
+whole_node Other = node.Other
+
+-- an entry with all bytes of its file
+abbrev pub whole : Stored → TreeEntry
+whole e = record { path = e.path; node = whole_node e.item }

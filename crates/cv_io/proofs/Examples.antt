@@ -1,6 +1,6 @@
 -- Lines and readings, computed.
 use Rattle.std.specs.Prelude.{◌≡◌, ℕ, List, [], ◌∷◌, ◌++◌, codes, refl}
-use Rattle.cv_io.specs.Lines.{LF, CR, lines_of, Reading, Finished, LongLine, LongInput, stopped, line_then, reading_of}
+use Rattle.cv_io.specs.Lines.{LF, CR, lines_of, Finished, LongLine, LongInput, stopped, line_then, reading_of}
 
 abbrev lf : List ℕ
 lf = LF ∷ []

@@ -1,14 +1,14 @@
 -- Lines and readings by the first line end.
-use Rattle.std.proofs.Common.{◌≡◌, ℕ, suc, ◌+◌, ◌-◌, ◌<◌, ◌≤◌, min, List, [], ◌∷◌, ◌++◌, length, take, drop, refl, sym, ◌∙◌, ap, subst, arith, append_assoc, length-append, length-take, inl, inr, Bool, true, false, cond}
+use Rattle.std.proofs.Common.{◌≡◌, ℕ, suc, ◌+◌, ◌-◌, ◌<◌, ◌≤◌, List, [], ◌∷◌, ◌++◌, length, take, refl, sym, ◌∙◌, ap, subst, arith, length-append, inl, inr, Bool, true, false}
 use Rattle.std.specs.Prelude.{nat_lt, nat_le}
-use Rattle.std.specs.List.{All, slice_split, onto_first}
+use Rattle.std.specs.List.{slice_split, onto_first}
 use Rattle.std.proofs.lemmas.Bool.{cases_lt}
 use Rattle.std.proofs.lemmas.Bool.Decides.{nat_tests}
 use Rattle.std.proofs.lemmas.List.{take_at, take_all}
 use Rattle.std.proofs.Math.Seq.{take-append-add}
 use Rattle.std.proofs.lemmas.List.Elements.{All-head, All-tail, All-nil}
 use Rattle.std.proofs.lemmas.List.Splits.{slice_split_none, slice_split_at, slice_split-cons_no, slice_split-cons_yes}
-use Rattle.cv_io.specs.Lines.{LF, is_line_end, HasNoLineEnd, text_of, pieces_of, last_lines, lines_from, lines_of, Stop, Finished, LongLine, LongInput, Reading, stopped, line_then, reading_from, reading_of}
+use Rattle.cv_io.specs.Lines.{LF, is_line_end, HasNoLineEnd, text_of, last_lines, lines_from, lines_of, Finished, LongLine, LongInput, Reading, stopped, line_then, reading_from, reading_of}
 
 -- the pieces: the first one, and the later ones
 pub record Pieces (front ys : List ℕ) : Type 0 where

@@ -1,10 +1,10 @@
 -- A reading that finishes gives all lines.
-use Rattle.std.proofs.Common.{◌≡◌, ℕ, ◌<◌, List, [], ◌∷◌, length, take, refl, sym, ◌∙◌, ap, subst, arith, take_all, inl, inr, Bool, true, false, cond}
+use Rattle.std.proofs.Common.{◌≡◌, ℕ, List, [], ◌∷◌, length, take, refl, sym, ◌∙◌, ap, subst, arith, take_all, inl, inr, Bool, true, false, cond}
 use Rattle.std.specs.Prelude.{nat_lt, nat_le}
 use Rattle.std.specs.List.{slice_split}
 use Rattle.std.proofs.lemmas.Bool.{cases_lt, false≢true}
 use Rattle.cv_io.specs.Lines.{is_line_end, text_of, last_lines, lines_from, lines_of, Reading, Finished, LongLine, LongInput, stopped, line_then, reading_from, reading_of}
-use Rattle.cv_io.proofs.Lines.{Pieces, split_first, nat_le-yes}
+use Rattle.cv_io.proofs.Lines.{split_first, nat_le-yes}
 
 abbrev ends_with : List (List ℕ) → Reading
 ends_with lines = record { lines = lines; stop = Finished }

@@ -8,7 +8,7 @@ use Rattle.cv_io.specs.declared.line.Line.{Line}
 use Rattle.cv_io.specs.declared.line.Line.TheVariants.{Text, End}
 use Rattle.cv_io.specs.declared.line.LineError.{LineError}
 use Rattle.cv_io.specs.declared.line.LineError.TheVariants.{ReadFault, LineTooLong, InputTooLong, NoMemory}
-use Rattle.cv_io.specs.Lines.{LF, CR, HasNoLineEnd, text_of, lines_of, Reading, Finished, LongLine, LongInput, stopped, line_then, reading_of}
+use Rattle.cv_io.specs.Lines.{LF, CR, text_of, lines_of, Reading, Finished, LongLine, LongInput, stopped, line_then, reading_of}
 use Rattle.cv_io.specs.Takes.{Takes}
 use Rattle.cv_io.specs.Reader.{Reader, progress_of, ungiven, room_of, reading, IsFirstLine, IsOver, PassesLine, IsUnfinished, Answers, Step, Reads, Gives, Narrows}
 use Rattle.cv_io.proofs.Lines.{lines_of-line, lines_of-nil, lines_of-last, reading_of-line, reading_of-nil, reading_of-last, reading_of-long_line, reading_of-long_input}

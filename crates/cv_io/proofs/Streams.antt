@@ -1,8 +1,8 @@
 -- What sources over memory and whole writes do to known bytes.
-use Rattle.std.proofs.Common.{◌≡◌, ℕ, ◌+◌, ◌-◌, ◌<◌, ◌≤◌, min, List, [], ◌++◌, length, take, drop, refl, sym, ◌∙◌, ap, arith, take-append-drop, drop-drop, length-drop, append_assoc, append-nil, take-add}
-use Rattle.std.proofs.lemmas.List.{drop_all, take_all}
-use Rattle.std.specs.Prelude.{Option, None, Some, Result, Ok, Err}
-use Rattle.std.specs.Io.KnownBytes.{Appends, Keeps}
+use Rattle.std.proofs.Common.{◌≡◌, ℕ, ◌+◌, ◌<◌, ◌≤◌, min, List, [], ◌++◌, length, take, drop, sym, ◌∙◌, ap, arith, take-append-drop, drop-drop, length-drop, append_assoc, take-add}
+use Rattle.std.proofs.lemmas.List.{drop_all}
+use Rattle.std.specs.Prelude.{Option, None, Some}
+use Rattle.std.specs.Io.KnownBytes.{Appends}
 
 -- a piece copied from the front of what is left
 pub read_consumes : (bytes buf : List ℕ) (at n piece room : ℕ) → n ≡ min (min (length (drop at bytes)) piece) room → 1 ≤ piece → room ≡ length buf → take n buf ≡ take n (drop at bytes)
@@ -19,15 +19,3 @@ Appends-more (Some xs) None c bytes at n h k = absurd h
 Appends-more (Some xs) (Some ys) None bytes at n h k = absurd k
 Appends-more (Some xs) (Some ys) (Some zs) bytes at n h k =
     k ∙ ap (λ v. v ++ take n (drop at bytes)) h ∙ append_assoc xs (take at bytes) (take n (drop at bytes)) ∙ ap (λ v. xs ++ v) (sym (take-add at n bytes))
-
--- nothing more after the bytes
-pub Appends-keeps : (a b c : Option (List ℕ)) (bytes : List ℕ) → Appends a b bytes → Keeps b c → Appends a c bytes
-Appends-keeps None b c bytes h k = tt
-Appends-keeps (Some xs) None c bytes h k = absurd h
-Appends-keeps (Some xs) (Some ys) None bytes h k = absurd k
-Appends-keeps (Some xs) (Some ys) (Some zs) bytes h k = k ∙ h
-
--- nothing yet
-pub Appends-none : (a : Option (List ℕ)) → Appends a a []
-Appends-none None = tt
-Appends-none (Some xs) = sym (append-nil xs)

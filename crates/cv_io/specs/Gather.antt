@@ -1,5 +1,5 @@
 -- The state in which a reader gathers a line, as the reader that callers see.
-use Rattle.std.specs.Prelude.{◌≡◌, ℕ, ◌+◌, ◌-◌, Bool, true, false, cond, List, [], ◌∷◌, ◌++◌, Result, Ok, Err}
+use Rattle.std.specs.Prelude.{◌≡◌, ℕ, ◌+◌, ◌-◌, Bool, true, false, cond, List, ◌∷◌, ◌++◌, Result, Ok, Err}
 use Rattle.cv_io.specs.declared.gather.Gather.{Gather}
 use Rattle.cv_io.specs.declared.line.LineError.{LineError}
 use Rattle.cv_io.specs.Lines.{LF}

@@ -1,7 +1,7 @@
 -- How bytes are cut into lines, and how far a reader with limits comes (cvwatch's own). A line ends at an LF, and one CR
 -- before the LF is no part of its text. What stands after the last LF is a line where it is not empty, and loses one
 -- CR at its end too. So a last piece that is only a CR is an empty line.
-use Rattle.std.specs.Prelude.{◌≡◌, ℕ, ◌+◌, ◌-◌, ◌==◌, nat_lt, nat_le, Bool, true, false, if◌then◌else◌, List, [], ◌∷◌, ◌++◌, length, take, slice_index}
+use Rattle.std.specs.Prelude.{◌≡◌, ℕ, ◌-◌, ◌==◌, nat_lt, nat_le, Bool, false, if◌then◌else◌, List, [], ◌∷◌, ◌++◌, length, take, slice_index}
 use Rattle.std.specs.List.{All, slice_split}
 
 -- line feed

@@ -1,5 +1,5 @@
 -- What a reader of lines is between two calls, and what one call does (cvwatch's own).
-use Rattle.std.specs.Prelude.{◌≡◌, ℕ, ◌+◌, ◌-◌, ◌<◌, ◌≤◌, ◌≢◌, ◌⊎◌, Bool, true, false, if◌then◌else◌, List, [], ◌∷◌, ◌++◌, Option, Some, Result, Ok, Err, length, take, IfSome, IsSomeAnd, ⊤}
+use Rattle.std.specs.Prelude.{◌≡◌, ℕ, ◌+◌, ◌-◌, ◌<◌, ◌≤◌, ◌⊎◌, Bool, true, false, if◌then◌else◌, List, [], ◌∷◌, ◌++◌, Option, Some, Result, Ok, Err, length, take, IfSome, IsSomeAnd}
 use Rattle.std.specs.Option.{option_map}
 use Rattle.std.specs.Io.KnownBytes.{prepend_known}
 use Rattle.cv_io.specs.declared.line.Line.{Line}
@@ -83,6 +83,8 @@ Answers bytes now (Err NoMemory) = now.held ≡ bytes
 pub record Step (before now : Reader) (left left_now : Option (List ℕ)) (answer : Result Line LineError) : Type 0 where
   pub bytes : List ℕ
   pub takes : Takes before.held bytes (progress_of before) (progress_of now) left left_now
+  -- nothing is read while a whole line is held
+  pub needed : HasNoLineEnd before.held ⊎ (progress_of now ≡ progress_of before)
   pub within : now.taken ≤ now.max_input
   pub before_limit : now.ended ≡ true → now.taken < now.max_input
   pub answers : Answers bytes now answer

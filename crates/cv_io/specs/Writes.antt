@@ -1,5 +1,5 @@
 -- What a write leaves that stopped on the way (cvwatch's own).
-use Rattle.std.specs.Prelude.{ℕ, ◌≤◌, List, Option, None, Some, length, take}
+use Rattle.std.specs.Prelude.{ℕ, ◌≤◌, List, Option, length, take}
 use Rattle.std.specs.Io.KnownBytes.{Appends}
 
 -- known bytes grow by a front part of the bytes

@@ -32,6 +32,7 @@ impl Model for CalmSource {
 }
 
 impl CalmSource {
+    /// All the bytes are left. It takes no memory.
     pub fn new(bytes: Seq<u8>, piece: usize) -> CalmSource
         requires { 1 ≤ piece }
         ensures { result ≡ record { bytes = bytes; piece = piece } }

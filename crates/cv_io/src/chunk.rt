@@ -32,6 +32,7 @@ impl Model for Chunk {
 }
 
 impl Chunk {
+    /// An empty one.
     pub fn new(alloc: Global) -> Result<Chunk, NoMemory>
         ensures { IfOk result (λ c. c ≡ []) }
     {
@@ -42,6 +43,7 @@ impl Chunk {
         })
     }
 
+    /// The bytes.
     pub fn as_slice(&self) -> &[u8]
         ensures { result.now ≡ self.now }
     {
@@ -56,6 +58,7 @@ impl Chunk {
         memchr(b'\n', self.as_slice())
     }
 
+    /// Passes on the first bytes.
     pub fn advance(&mut self, count: usize)
         requires { count ≤ length self.old }
         ensures { self.new ≡ drop count self.old }

@@ -1,8 +1,8 @@
-ghost use Rattle.std.specs.Prelude.{◌≡◌, ◌≤◌, ◌<◌, ◌+◌, ◌++◌, ◌∷◌, ℕ, [], length, Bool, true, false, IfOk, IfErr, OnOk, OnErr, Ok, Err};
+ghost use Rattle.std.specs.Prelude.{◌≡◌, ◌≤◌, ◌<◌, ◌+◌, ◌++◌, ◌∷◌, ◌⊎◌, ℕ, [], length, Bool, true, false, IfOk, IfErr, OnOk, OnErr, Ok, Err};
 ghost use Rattle.std.specs.Bool.{MatchBool};
 ghost use Rattle.cv_seq.specs.Cause.{CausedBy};
 ghost use Rattle.cv_io.specs.Fault.{is_read_fault};
-ghost use Rattle.cv_io.specs.Lines.{LF, text_of};
+ghost use Rattle.cv_io.specs.Lines.{LF, HasNoLineEnd, text_of};
 ghost use Rattle.cv_io.specs.Takes.{Takes};
 ghost use Rattle.cv_io.specs.Reader.{Answers, Step, new_reader};
 ghost use Rattle.cv_io.specs.Gather.{held_by, progress_by, reader_of, gathered, SameLimits, SameCounts, reads_left};
@@ -17,6 +17,7 @@ use std::alloc::Global;
 use std::mem;
 
 impl Gather {
+    /// Nothing is taken yet.
     pub fn new(alloc: Global, max_line: usize, max_input: u64) -> Result<Gather, NoMemory>
         ensures { IfOk result (λ g. reader_of g false ≡ new_reader max_line max_input) }
     {
@@ -51,6 +52,7 @@ impl Gather {
     fn gather<S: Source>(&mut self, input: &mut S) -> Result<bool, LineError>
         ensures takes { Takes (held_by self.old) (gathered result self.new) (progress_by self.old) (progress_by self.new)
             (S.left input.old) (S.left input.new) }
+        ensures needed { HasNoLineEnd (held_by self.old) ⊎ (progress_by self.new ≡ progress_by self.old) }
         ensures last { IfOk result (λ found. found ≡ false → (self.new.chunk ≡ []) × (self.new.ended ≡ true)) }
         ensures refused { IfErr result (λ e. Answers (held_by self.new) (reader_of self.new false) (Err e)) }
         ensures limits { SameLimits self.old self.new }

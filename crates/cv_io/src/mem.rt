@@ -36,6 +36,7 @@ impl Model for MemSource {
 }
 
 impl MemSource {
+    /// All the bytes are left. It takes no memory.
     pub fn new(bytes: Seq<u8>, piece: usize, fails: Seq<u64>) -> MemSource
         requires { 1 ≤ piece }
         ensures { result ≡ record { left = bytes; piece = piece; fails = fails; calls = 0; faults = 0 } }

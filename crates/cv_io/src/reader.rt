@@ -68,3 +68,6 @@ impl LineReader {
         answer
     }
 }
+
+#[cfg(test)]
+mod tests;

@@ -5,7 +5,7 @@ use crate::sink::Sink;
 use crate::source::Source;
 use std::io::{Read, Write};
 
-/// Reads from a reader of std, as standard input. It tells no bytes, and counts each error.
+/// Reads from a reader of std, as standard input, which tells no bytes. It counts each error.
 #[derive(Drop)]
 pub struct StdSource<R> {
     reader: R,
@@ -13,6 +13,7 @@ pub struct StdSource<R> {
 }
 
 impl<R: Read + Drop> StdSource<R> {
+    /// A source that has not failed yet.
     pub fn new(reader: R) -> StdSource<R>
         ensures left { ⟦<StdSource<R> as Source>⟧.left result ≡ R.remaining reader }
         ensures faults { ⟦<StdSource<R> as Source>⟧.faults result ≡ 0 }
@@ -46,6 +47,7 @@ pub struct StdSink<W> {
 }
 
 impl<W: Write + Drop> StdSink<W> {
+    /// A sink that has not failed yet.
     pub fn new(writer: W) -> StdSink<W>
         ensures { ⟦<StdSink<W> as Sink>⟧.faults result ≡ 0 }
     {
@@ -80,5 +82,69 @@ fn write_through<W: Write>(writer: &mut W, bytes: &[u8]) -> Option<usize>
         Some(count)
     } else {
         None
+    }
+}
+
+#[cfg(test)]
+mod tests {
+    use super::*;
+    use std::io;
+    use std::io::{Cursor, ErrorKind};
+    use std::test::Fail;
+
+    /// Reads and writes nothing, or fails.
+    #[derive(Drop)]
+    struct Broken {
+        fails: bool,
+    }
+
+    impl Read for Broken {
+        fn read(&mut self, _buf: &mut [u8]) -> io::Result<usize> {
+            if self.fails {
+                return Err(io::Error::from(ErrorKind::Other));
+            }
+            Ok(0)
+        }
+    }
+
+    impl Write for Broken {
+        fn write(&mut self, _buf: &[u8]) -> io::Result<usize> {
+            if self.fails {
+                return Err(io::Error::from(ErrorKind::Other));
+            }
+            Ok(0)
+        }
+
+        fn flush(&mut self) -> io::Result<()> {
+            Ok(())
+        }
+    }
+
+    #[test]
+    fn an_error_of_a_reader_is_a_fault(rt: HostRuntime) {
+        let mut buf = [0u8; 4];
+        let mut source = StdSource::new(Broken { fails: true });
+        assert_eq!(rt; source.read(&mut buf), Err(IoFault::Failed));
+        let mut over = StdSource::new(Broken { fails: false });
+        assert_eq!(rt; over.read(&mut buf), Ok(0));
+    }
+
+    #[test]
+    fn an_error_of_a_writer_and_a_write_of_nothing_are_faults(rt: HostRuntime) {
+        for fails in [false, true] {
+            let mut sink = StdSink::new(Broken { fails });
+            assert_eq!(rt; sink.write(b"ab"), Err(IoFault::Failed));
+        }
+    }
+
+    #[test]
+    fn bytes_pass_through(rt: HostRuntime) -> Result<(), Fail> {
+        let mut buf = [0u8; 4];
+        let mut source = StdSource::new(Cursor::new(b"abc".as_slice()));
+        assert_eq!(rt; source.read(&mut buf), Ok(3));
+        assert_eq!(rt; &buf[..3], b"abc".as_slice());
+        let mut sink = StdSink::new(Vec::new(rt.alloc()));
+        assert_eq!(rt; sink.write(b"ab"), Ok(2));
+        Ok(())
     }
 }

@@ -1,10 +1,13 @@
 -- Records read by the definition, computed.
-use Rattle.std.specs.Prelude.{◌≡◌, ℕ, Bool, true, false, List, [], ◌∷◌, codes, Option, Some, None, Result, Ok, Err, refl}
+use Rattle.std.specs.Prelude.{◌≡◌, ℕ, true, false, List, [], ◌∷◌, codes, Some, None, Ok, Err, refl}
+use Rattle.cv_base.specs.declared.advisory.Advisory.{Advisory}
 use Rattle.cv_base.specs.declared.advisory.RangeKind.TheVariants.{Ecosystem, Semver, Other}
 use Rattle.cv_base.specs.declared.advisory.Turn.TheVariants.{Introduced, Fixed, LastAffected, Limit}
 use Rattle.cv_osv.specs.Record.{advisory_of, entry_of, package_of, range_of, kind_of, turns_of}
-use Rattle.cv_osv.specs.declared.error.RecordWhat.TheVariants.{NotObject, NoId, NoModified, BadWithdrawn, BadAffected, BadEntry, BadPackage, BadRange, BadEvent, BadVersions}
-use Rattle.serde_json.specs.Data.{Data, null, boolean, string, array, object, Items, no_items, item, Members, no_members, member}
+use Rattle.cv_osv.specs.Records.{records_of}
+use Rattle.cv_osv.specs.declared.error.OsvError.TheVariants.{NotList, BadAdvisory, DuplicateId}
+use Rattle.cv_osv.specs.declared.error.RecordWhat.TheVariants.{NotObject, NoId, NoModified, BadWithdrawn, BadPackage, BadRange, BadEvent, BadVersions}
+use Rattle.serde_json.specs.Data.{Data, null, boolean, string, array, object, no_items, item, Members, no_members, member}
 
 -- a list of one item
 abbrev only : Data → Data
@@ -93,3 +96,26 @@ listed :
     × (entry_of (object (member (codes "package") (object no_members) (member (codes "versions") (only null) no_members))) ≡ Err BadPackage)
 unfolding entry_of package_of
 listed = (refl, refl, refl)
+
+-- a record with this id alone
+abbrev named : List ℕ → Data
+named id = object (member (codes "id") (string id) (member (codes "modified") (string (codes "m")) no_members))
+
+-- a list of three values
+abbrev three : Data → Data → Data → Data
+three a b c = array (item a (item b (item c no_items)))
+
+-- the advisory of such a record
+abbrev bare : List ℕ → Advisory
+bare id = record { id = id; modified = codes "m"; withdrawn = false; affected = [] }
+
+-- what stands at the first index is told
+lists :
+    (records_of (array no_items) ≡ Ok [])
+    × (records_of null ≡ Err NotList)
+    × (records_of (three (named (codes "b")) (named (codes "a")) (named (codes "c"))) ≡ Ok (bare (codes "b") ∷ bare (codes "a") ∷ bare (codes "c") ∷ []))
+    × (records_of (three (named (codes "a")) (named (codes "b")) (named (codes "a"))) ≡ Err (DuplicateId 0 2))
+    × (records_of (three (named (codes "a")) (named (codes "a")) null) ≡ Err (DuplicateId 0 1))
+    × (records_of (three (named (codes "a")) null (named (codes "a"))) ≡ Err (BadAdvisory 1 NotObject))
+unfolding records_of advisory_of
+lists = (refl, refl, refl, refl, refl, refl)

@@ -1,2 +1,4 @@
 mod Examples
 pub mod Onto
+pub mod Places
+pub mod Told

@@ -2,7 +2,7 @@
 use Rattle.std.specs.Prelude.{◌≡◌, List, [], ◌∷◌, ◌++◌, Result, Ok, Err, refl}
 use Rattle.std.proofs.Common.{ap, append_assoc}
 use Rattle.cv_osv.specs.Json.{◌>>=◌, each, each_joined, onto}
-use Rattle.serde_json.specs.Data.{Data, Items, no_items, item}
+use Rattle.serde_json.specs.Data.{Data, Items, item}
 
 -- what one item is read as may stand in front
 onto_joined : {A E : Type 0} (front x : List A) (rest : Result (List A) E) → onto (front ++ x) rest ≡ onto front (rest >>= λ xs. Ok (x ++ xs))

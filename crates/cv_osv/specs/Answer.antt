@@ -3,6 +3,8 @@ use Rattle.std.specs.Prelude.{Bool, true, false, Result, Ok, Err}
 use Rattle.cv_base.specs.Answer.{Gives}
 use Rattle.cv_osv.specs.declared.error.AdvisoryError.{AdvisoryError}
 use Rattle.cv_osv.specs.declared.error.AdvisoryError.TheVariants as advisory
+use Rattle.cv_osv.specs.declared.error.OsvError.{OsvError}
+use Rattle.cv_osv.specs.declared.error.OsvError.TheVariants as osv
 use Rattle.cv_osv.specs.declared.error.RecordWhat.{RecordWhat}
 
 -- a record was not read for want of memory
@@ -22,3 +24,11 @@ Reads view result wanted = Gives is_advisory_memory view result (refusing wanted
 -- the same of a call that takes no memory
 abbrev pub Tells : {X Y : Type 0} → (X → Y) → Result X RecordWhat → Result Y RecordWhat → Type 0
 Tells view result wanted = Gives (λ _. false) view result wanted
+
+-- a list of records was not read for want of memory
+abbrev pub is_osv_memory : OsvError → Bool
+is_osv_memory osv.NotList = false
+is_osv_memory osv.TooMany = false
+is_osv_memory (osv.BadAdvisory index what) = false
+is_osv_memory (osv.DuplicateId first second) = false
+is_osv_memory osv.NoMemory = true

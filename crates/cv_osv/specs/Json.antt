@@ -1,6 +1,6 @@
 -- Reading the parts of a JSON value, with the first fault that is met (cvwatch's own). A member with the value null
 -- counts as absent, and a value that is no object has no members.
-use Rattle.std.specs.Prelude.{ℕ, Bool, true, false, if◌then◌else◌, List, [], ◌∷◌, ◌++◌, Option, Some, None, is_some, option_map, option_and_then, Result, Ok, Err}
+use Rattle.std.specs.Prelude.{ℕ, if◌then◌else◌, List, [], ◌∷◌, ◌++◌, Option, Some, None, is_some, option_map, option_and_then, Result, Ok, Err}
 use Rattle.std.specs.Option.{ok_or}
 use Rattle.serde_json.specs.Data.{Data, Items, no_items, item}
 use Rattle.serde_json.specs.Find.{get, as_array, as_null, as_object, as_str}
@@ -37,6 +37,11 @@ optional_text_or bad (Some d) = ok_or (option_map Some (as_str d)) bad
 abbrev pub items_or : {E : Type 0} → E → Option Data → Result Items E
 items_or bad None = Ok no_items
 items_or bad (Some d) = ok_or (as_array d) bad
+
+-- the items as a list
+abbrev pub items_list : Items → List Data
+items_list no_items = []
+items_list (item d ds) = d ∷ items_list ds
 
 -- what each item is read as, in order
 abbrev pub each : {A E : Type 0} → (Data → Result A E) → Items → Result (List A) E

@@ -2,7 +2,7 @@
 -- value as `Data` of serde_json, and gives the `Advisory` of cv_base, or the first fault as a `RecordWhat`.
 -- cvwatch's own are the order of the faults, which is the order of the lines below; that null counts as absent; and that
 -- unknown members are passed over, among them those that no answer needs (summary, details, severity, references).
-use Rattle.std.specs.Prelude.{ℕ, Bool, if◌then◌else◌, List, [], ◌∷◌, ◌++◌, codes, Option, Some, None, is_some, option_map, Result, Ok, Err}
+use Rattle.std.specs.Prelude.{ℕ, if◌then◌else◌, List, [], ◌∷◌, ◌++◌, codes, Option, Some, None, is_some, option_map, Result, Ok, Err}
 use Rattle.std.specs.Option.{option_to_list}
 use Rattle.cv_base.specs.Texts.{same}
 use Rattle.cv_base.specs.declared.advisory.Advisory.{Advisory}

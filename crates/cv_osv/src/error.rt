@@ -1,5 +1,5 @@
 use cv_base::NoMemory;
-use std::alloc::AllocFailed;
+use std::alloc::{AllocError, AllocFailed};
 use thiserror::Error;
 
 /// What is wrong with a record. A member with the value null counts as absent.
@@ -83,4 +83,27 @@ pub enum OsvError {
     DuplicateId { first: u32, second: u32 },
     #[error("out of memory")]
     NoMemory,
+}
+
+impl From<AllocError> for OsvError {
+    ghost use Rattle.std.specs.Prelude.{◌≡◌};
+    ghost use Rattle.cv_osv.specs.declared.error.OsvError.TheVariants as osv;
+
+    ghost from_gives = { λ _ e. e ≡ osv.NoMemory };
+
+    fn from(_error: AllocError) -> OsvError {
+        OsvError::NoMemory
+    }
+}
+
+/// The value that found no place is dropped.
+impl<T: Drop> From<AllocFailed<T>> for OsvError {
+    ghost use Rattle.std.specs.Prelude.{◌≡◌};
+    ghost use Rattle.cv_osv.specs.declared.error.OsvError.TheVariants as osv;
+
+    ghost from_gives = { λ _ e. e ≡ osv.NoMemory };
+
+    fn from(_failed: AllocFailed<T>) -> OsvError {
+        OsvError::NoMemory
+    }
 }

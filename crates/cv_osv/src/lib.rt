@@ -12,6 +12,8 @@ mod json;
 mod part;
 mod range;
 mod record;
+mod records;
 
 pub use error::{AdvisoryError, OsvError, RecordWhat};
 pub use record::read_advisory;
+pub use records::{MAX_RECORDS, read_records};

@@ -48,14 +48,10 @@ impl Part for Affected {
     fn read(alloc: Global, value: &Value) -> Result<Affected, AdvisoryError> {
         object_or(value, RecordWhat::BadEntry)?;
         let package = read_package(alloc, member_at(value, "package"))?;
-        let ranges = read_each(
-            alloc,
-            items_or(member_at(value, "ranges"), RecordWhat::BadRange)?,
-        )?;
-        let versions = read_each(
-            alloc,
-            items_or(member_at(value, "versions"), RecordWhat::BadVersions)?,
-        )?;
+        let ranges = items_or(member_at(value, "ranges"), RecordWhat::BadRange)?;
+        let ranges = read_each(alloc, ranges)?;
+        let versions = items_or(member_at(value, "versions"), RecordWhat::BadVersions)?;
+        let versions = read_each(alloc, versions)?;
         Ok(Affected {
             package,
             ranges,

@@ -19,18 +19,21 @@ impl<T> Model for Seq<T> {
 }
 
 impl<T> Seq<T> {
+    /// The list of a vector's items. It takes no memory.
     pub fn of(items: Vec<T>) -> Seq<T>
         ensures { result ≡ items.items }
     {
         Seq { inner: items }
     }
 
+    /// The items, the first one first.
     pub fn as_slice(&self) -> &[T]
         ensures { result.now ≡ self.now }
     {
         self.inner.as_slice()
     }
 
+    /// The vector that holds the items. It takes no memory.
     pub fn into_vec(self) -> Vec<T>
         ensures { result.items ≡ self }
     {

@@ -22,6 +22,7 @@ impl Model for Text {
 }
 
 impl Text {
+    /// A copy of a text.
     pub fn of(alloc: Global, text: &str) -> Result<Text, NoMemory>
         ensures { IfOk result (λ t. t ≡ text.now) }
     {
@@ -30,6 +31,7 @@ impl Text {
         })
     }
 
+    /// The text.
     pub fn as_str(&self) -> &str
         ensures { result.now ≡ self.now }
     {
@@ -37,6 +39,8 @@ impl Text {
     }
 }
 
+/// A copy is one more owner of the same bytes. It takes no memory, and fails only at the last value of the
+/// count of owners.
 impl Clone for Text {
     ghost use Rattle.std.specs.Prelude.{◌≡◌};
 

@@ -1,0 +1,36 @@
+#!/bin/sh
+# Times the reading of lists of OSV records: builds bench_osv, makes lists of 10,000 and of 200,000 records, and prints
+# how long each is parsed as JSON and read as records, and how long it is only parsed (a list within an object is no
+# list of records, and is refused at once).
+set -e
+top=$(cd "$(dirname "$0")/.." && pwd)
+data=$top/bench/data
+mkdir -p "$data"
+cd "$top/crates/bench_osv"
+rt run < stdin > /dev/null
+
+# records N: a JSON list of N records, whose ids are in no order
+records() {
+    awk -v n="$1" 'BEGIN {
+        printf "["
+        for (i = 0; i < n; i++)
+            printf "%s{\"id\":\"DSA-%d-1\",\"modified\":\"2024-01-01T00:00:00Z\",\"affected\":[{\"package\":{\"ecosystem\":\"Debian:12\",\"name\":\"package-%d\"},\"ranges\":[{\"type\":\"ECOSYSTEM\",\"events\":[{\"introduced\":\"0\"},{\"fixed\":\"1.%d-1\"}]}],\"versions\":[\"1.0-1\"]}]}", i ? "," : "", i * 7919 % 1000003, i % 5000, i
+        print "]"
+    }'
+}
+
+# timed LABEL FILE
+timed() {
+    start=$(date +%s%N)
+    told=$(out/bench_osv < "$2")
+    end=$(date +%s%N)
+    echo "$1: $(((end - start) / 1000000)) ms: $told"
+}
+
+for count in 10000 200000; do
+    records "$count" > "$data/osv-list.json"
+    { printf '{"records":'; cat "$data/osv-list.json"; echo '}'; } > "$data/osv-object.json"
+    echo "$count records, $(($(wc -c < "$data/osv-list.json") / 1000)) kB"
+    timed "  parsed and read" "$data/osv-list.json"
+    timed "  parsed" "$data/osv-object.json"
+done

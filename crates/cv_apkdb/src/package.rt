@@ -1,0 +1,12 @@
+use cv_seq::Text;
+
+/// An installed package of apk.
+#[derive(Clone, Debug, PartialEq, Eq, PartialOrd, Ord, Drop)]
+pub struct ApkPackage {
+    pub name: Text,
+    pub version: Text,
+    /// The empty text where there is none.
+    pub arch: Text,
+    /// The package from whose build it came: its own name where none is told.
+    pub origin: Text,
+}

@@ -1,0 +1,208 @@
+-- The answer of the entries of a record, once they are read, is what the record says of the package.
+use Rattle.std.proofs.Common.{◌≡◌, ℕ, ◌+◌, zero, suc, Bool, true, false, not, ◌&&◌, ◌||◌, if◌then◌else◌, List, [], ◌∷◌, ◌++◌, map, Option, Some, None, IsSome, option_map, refl, sym, ap, ◌∙◌, arith, find, filter}
+use Rattle.std.specs.List.{flat_map, list_any, position_from, slice_get}
+use Rattle.std.specs.Option.{option_and_then, option_or}
+use Rattle.std.proofs.lemmas.List.Folds.{find-append}
+use Rattle.cv_base.specs.Texts.{same}
+use Rattle.cv_base.specs.declared.«package».Package.{Package}
+use Rattle.cv_base.specs.declared.«package».PackageName.{PackageName}
+use Rattle.cv_base.specs.declared.«package».PackageKind.{PackageKind}
+use Rattle.cv_base.specs.declared.advisory.Advisory.{Advisory}
+use Rattle.cv_base.specs.declared.advisory.Affected.{Affected}
+use Rattle.cv_base.specs.declared.advisory.Range.{Range}
+use Rattle.cv_base.specs.declared.advisory.Turn.{Turn}
+use Rattle.cv_base.specs.declared.advisory.Turn.TheVariants as turn
+use Rattle.cv_match.specs.declared.answer.FixedAt.{FixedAt}
+use Rattle.cv_match.specs.declared.answer.Hit.{Hit}
+use Rattle.cv_match.specs.declared.answer.Hit.TheVariants.{No, Yes}
+use Rattle.cv_match.specs.declared.entry.ReadyEntry.{ReadyEntry}
+use Rattle.cv_match.specs.declared.placed.Placed.{Placed}
+use Rattle.cv_match.specs.declared.placed.Placed.TheVariants.{Introduced, Fixed, LastAffected, Limit}
+use Rattle.cv_match.specs.Affects.{affects, fix_text, fixed, has_within, is_affected_by, is_least_fix, least_fix, lists, matched_version, matches, matching_ranges}
+use Rattle.cv_match.specs.Answer.{Answers, TellsFixed, fix_of, text_at}
+use Rattle.cv_match.specs.Hit.{entry_holds, entry_lists, fix_in, fixed_at, fixed_in, hit_listed, hit_of, hit_within, key_matches, key_of, range_holds}
+use Rattle.cv_match.specs.Order.{is_version_of, version_cmp_of, version_in}
+use Rattle.cv_match.specs.Ready.{events_of, ready_entry}
+use Rattle.cv_match.specs.Within.{holds, is_range_of, placed, within}
+use Rattle.cv_match.proofs.Mapped.{any_map, get_map, place_map}
+
+-- ---- the first item that passes, and its place
+
+pub record Located {A : Type 0} (q : A → Bool) (xs : List A) (place : ℕ) (x : A) : Type 0 where
+  pub at : slice_get xs place ≡ Some x
+  pub passes : q x ≡ true
+  pub first : find q xs ≡ Some x
+  pub some : list_any q xs ≡ true
+
+pub record Place {A : Type 0} (q : A → Bool) (xs : List A) (from n : ℕ) : Type 0 where
+  pub place : ℕ
+  pub item : A
+  pub is : n ≡ from + place
+  pub located : Located q xs place item
+
+some_is : {A : Type 0} (x y : A) → Some x ≡ Some y → x ≡ y
+some_is x y e = cc
+
+place_here : (i n : ℕ) → i ≡ n → n ≡ i + 0
+place_here i n e = omega arith
+
+place_later : (i n j : ℕ) → n ≡ i + 1 + j → n ≡ i + suc j
+place_later i n j e = omega arith
+
+locate : {A : Type 0} (q : A → Bool) (xs : List A) (i n : ℕ) → position_from q i xs ≡ Some n → Place q xs i n
+locate q [] i n = λ h. cc
+locate {A} q (x ∷ xs) i n = by_test (q x) refl (locate q xs (i + 1) n) where
+  by_test : (s : Bool) → q x ≡ s → (position_from q (i + 1) xs ≡ Some n → Place q xs (i + 1) n)
+      → (if s then Some i else position_from q (i + 1) xs) ≡ Some n → Place q (x ∷ xs) i n
+  by_test true e later h = record {
+    place = 0;
+    item = x;
+    is = place_here i n (some_is i n h);
+    located = record { at = refl; passes = e; first = rw e refl; some = rw e refl };
+  }
+  by_test false e later h = let p = later h in record {
+    place = suc p.place;
+    item = p.item;
+    is = place_later i n p.place p.is;
+    located = record { at = p.located.at; passes = p.located.passes; first = rw e p.located.first; some = rw e p.located.some };
+  }
+
+-- no item passes
+pub record Absent {A : Type 0} (q : A → Bool) (xs : List A) : Type 0 where
+  pub first : find q xs ≡ None
+  pub none : list_any q xs ≡ false
+
+absent : {A : Type 0} (q : A → Bool) (xs : List A) (i : ℕ) → position_from q i xs ≡ None → Absent q xs
+absent q [] i = λ h. record { first = refl; none = refl }
+absent q (x ∷ xs) i = by_test (q x) refl (absent q xs (i + 1)) where
+  by_test : (s : Bool) → q x ≡ s → (position_from q (i + 1) xs ≡ None → Absent q xs)
+      → (if s then Some i else position_from q (i + 1) xs) ≡ None → Absent q (x ∷ xs)
+  by_test true e later h = cc
+  by_test false e later h = let p = later h in record { first = rw e p.first; none = rw e p.none }
+
+found_none : {A : Type 0} (q : A → Bool) → ((x : A) → q x ≡ false) → (xs : List A) → find q xs ≡ None
+found_none q none [] = refl
+found_none q none (x ∷ xs) = rw (none x) (found_none q none xs)
+
+-- ---- tests
+
+or_true : (a : Bool) → a || true ≡ true
+or_true true = refl
+or_true false = refl
+
+or_swap : (a b c d : Bool) → (a || b) || (c || d) ≡ (a || c) || (b || d)
+or_swap true b c d = refl
+or_swap false true true d = refl
+or_swap false true false d = refl
+or_swap false false c d = refl
+
+and_or : (m l w : Bool) → m && (l || w) ≡ (m && l) || (m && w)
+and_or true l w = refl
+and_or false l w = refl
+
+and_first : (a b : Bool) → a && b ≡ true → a ≡ true
+and_first true b e = refl
+and_first false b e = cc
+
+and_last : (a b : Bool) → a && b ≡ true → b ≡ true
+and_last true b e = e
+and_last false b e = cc
+
+and_false : (a : Bool) → a && false ≡ false
+and_false true = refl
+and_false false = refl
+
+-- ---- ranges
+
+-- the version is within a range as it is once read
+range_is : (kind : PackageKind) (v : List ℕ) → is_version_of kind v ≡ true → (r : Range)
+    → range_holds (version_cmp_of kind) v (events_of kind r) ≡ within kind r v
+unfolding within
+range_is kind v e r = rw e (by_range (is_range_of kind r)) where
+  by_range : (s : Bool) → range_holds (version_cmp_of kind) v (if s then Some (map placed r.turns) else None)
+      ≡ true && s && holds (version_cmp_of kind) (map placed r.turns) v
+  by_range true = refl
+  by_range false = refl
+
+-- a range that has something within has its events
+events_are : (kind : PackageKind) (v : List ℕ) (r : Range) → within kind r v ≡ true → events_of kind r ≡ Some (map placed r.turns)
+unfolding within
+events_are kind v r e =
+    rw (and_last (is_version_of kind v) (is_range_of kind r) (and_first (is_version_of kind v && is_range_of kind r) (holds (version_cmp_of kind) (map placed r.turns) v) e)) refl
+
+no_version : (kind : PackageKind) (v : List ℕ) → is_version_of kind v ≡ false → (r : Range) → within kind r v ≡ false
+unfolding within
+no_version kind v e r = rw e refl
+
+-- ---- entries
+
+abbrev entry_has : Package → Affected → Bool
+entry_has p e = matches p e.«package» && list_any (has_within p) e.ranges
+
+abbrev entry_has_listed : Package → Affected → Bool
+entry_has_listed p e = matches p e.«package» && lists p e
+
+matches_is : (p : Package) (name : Option PackageName) → key_matches (key_of p) name ≡ matches p name
+matches_is p None = refl
+matches_is p (Some name) = refl
+
+ranges_are : (p : Package) → is_version_of p.kind (matched_version p) ≡ true → (xs : List Range)
+    → list_any (range_holds (version_cmp_of p.kind) (matched_version p)) (map (events_of p.kind) xs) ≡ list_any (has_within p) xs
+ranges_are p e xs = any_map (events_of p.kind) (range_holds (version_cmp_of p.kind) (matched_version p)) (has_within p) (range_is p.kind (matched_version p) e) xs
+
+holds_is : (p : Package) → is_version_of p.kind (matched_version p) ≡ true → (x : Affected)
+    → entry_holds (version_cmp_of p.kind) (key_of p) (matched_version p) (ready_entry p.kind x) ≡ entry_has p x
+holds_is p e x = rw (matches_is p x.«package», ranges_are p e x.ranges) refl
+
+lists_is : (p : Package) (x : Affected) → entry_lists (key_of p) (ready_entry p.kind x) ≡ entry_has_listed p x
+lists_is p x = rw matches_is p x.«package» refl
+
+listed_is : (p : Package) (xs : List Affected) → list_any (entry_lists (key_of p)) (map (ready_entry p.kind) xs) ≡ list_any (entry_has_listed p) xs
+listed_is p xs = any_map (ready_entry p.kind) (entry_lists (key_of p)) (entry_has_listed p) (lists_is p) xs
+
+entry_place_is : (p : Package) → is_version_of p.kind (matched_version p) ≡ true → (xs : List Affected)
+    → position_from (entry_holds (version_cmp_of p.kind) (key_of p) (matched_version p)) 0 (map (ready_entry p.kind) xs) ≡ position_from (entry_has p) 0 xs
+entry_place_is p e xs = place_map (ready_entry p.kind) (entry_holds (version_cmp_of p.kind) (key_of p) (matched_version p)) (entry_has p) (holds_is p e) 0 xs
+
+-- the entries list the version, or have it within a range
+affected_is : (p : Package) (xs : List Affected) → list_any (is_affected_by p) xs ≡ list_any (entry_has_listed p) xs || list_any (entry_has p) xs
+affected_is p [] = refl
+affected_is p (x ∷ xs) =
+    rw (affected_is p xs, and_or (matches p x.«package») (lists p x) (list_any (has_within p) x.ranges))
+        (or_swap (matches p x.«package» && lists p x) (matches p x.«package» && list_any (has_within p) x.ranges) (list_any (entry_has_listed p) xs) (list_any (entry_has p) xs))
+
+-- ---- the first range that has the version within
+
+find_some : {A : Type 0} (q : A → Bool) (xs : List A) (y : Option A) → list_any q xs ≡ true → option_or (find q xs) y ≡ find q xs
+find_some q [] y = λ h. cc
+find_some q (x ∷ xs) y = by_test (q x) (find_some q xs y) where
+  by_test : (s : Bool) → (list_any q xs ≡ true → option_or (find q xs) y ≡ find q xs) → s || list_any q xs ≡ true
+      → option_or (if s then Some x else find q xs) y ≡ (if s then Some x else find q xs)
+  by_test true later h = refl
+  by_test false later h = later h
+
+find_other : {A : Type 0} (q : A → Bool) (xs : List A) (y : Option A) → list_any q xs ≡ false → option_or (find q xs) y ≡ y
+find_other q [] y = λ h. refl
+find_other q (x ∷ xs) y = by_test (q x) (find_other q xs y) where
+  by_test : (s : Bool) → (list_any q xs ≡ false → option_or (find q xs) y ≡ y) → s || list_any q xs ≡ false
+      → option_or (if s then Some x else find q xs) y ≡ y
+  by_test true later h = cc
+  by_test false later h = later h
+
+-- it is the first one of the first entry that has one
+first_is : (p : Package) (xs : List Affected)
+    → find (has_within p) (matching_ranges p xs) ≡ option_and_then (λ entry. find (has_within p) entry.ranges) (find (entry_has p) xs)
+first_is p [] = refl
+first_is p (x ∷ xs) = by_match (matches p x.«package») refl (first_is p xs) where
+  within_it : (s : Bool) → list_any (has_within p) x.ranges ≡ s
+      → find (has_within p) (matching_ranges p xs) ≡ option_and_then (λ entry. find (has_within p) entry.ranges) (find (entry_has p) xs)
+      → option_or (find (has_within p) x.ranges) (find (has_within p) (matching_ranges p xs))
+      ≡ option_and_then (λ entry. find (has_within p) entry.ranges) (if s then Some x else find (entry_has p) xs)
+  within_it true e later = find_some (has_within p) x.ranges (find (has_within p) (matching_ranges p xs)) e
+  within_it false e later = find_other (has_within p) x.ranges (find (has_within p) (matching_ranges p xs)) e ∙ later
+  by_match : (s : Bool) → matches p x.«package» ≡ s
+      → find (has_within p) (matching_ranges p xs) ≡ option_and_then (λ entry. find (has_within p) entry.ranges) (find (entry_has p) xs)
+      → find (has_within p) (flat_map (λ entry. entry.ranges) (if s then x ∷ filter (λ entry. matches p entry.«package») xs else filter (λ entry. matches p entry.«package») xs))
+      ≡ option_and_then (λ entry. find (has_within p) entry.ranges) (if s && list_any (has_within p) x.ranges then Some x else find (entry_has p) xs)
+  by_match true e later = rw find-append (has_within p) x.ranges (matching_ranges p xs) (within_it (list_any (has_within p) x.ranges) refl later)
+  by_match false e later = later

@@ -1,0 +1,4 @@
+pub mod Ecosystem
+pub mod Held
+pub mod System
+pub mod Value

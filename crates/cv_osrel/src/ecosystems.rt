@@ -1,0 +1,117 @@
+//! The table of ecosystems.
+ghost use Rattle.std.specs.Prelude.{◌≡◌, IfOk, Some};
+ghost use Rattle.std.specs.Option.{option_map};
+ghost use Rattle.cv_osrel.specs.Ecosystem.{alpine, eco, system, versioned};
+
+use crate::branch::branch_of;
+use crate::name::OsName;
+use cv_base::PackageKind;
+use cv_seq::{NoMemory, Text};
+use std::alloc::Global;
+
+/// The ecosystem of a package in the form of OSV, as `Debian:12`, `Alpine:v3.18` or `npm`. There is no system where the
+/// root has no file os-release.
+pub fn ecosystem(alloc: Global, os: Option<&OsName>, kind: PackageKind) -> Result<Text, NoMemory>
+    ensures { IfOk result (λ text. text ≡ eco (option_map (λ o. o.now) os.entry) kind) }
+{
+    match kind {
+        PackageKind::Npm => Text::of(alloc, "npm"),
+        PackageKind::Deb | PackageKind::Apk => system(alloc, os),
+    }
+}
+
+fn system(alloc: Global, os: Option<&OsName>) -> Result<Text, NoMemory>
+    ensures { IfOk result (λ text. text ≡ system (option_map (λ o. o.now) os.entry)) }
+{
+    let Some(os) = os else {
+        return Text::of(alloc, "unknown");
+    };
+    let version = os.version.as_ref();
+    if os.id.as_str() == "debian" {
+        versioned(alloc, "Debian", version)
+    } else if os.id.as_str() == "alpine" {
+        alpine(alloc, version)
+    } else {
+        versioned(alloc, os.id.as_str(), version)
+    }
+}
+
+/// A system with its version, if it has one.
+fn versioned(alloc: Global, name: &str, version: Option<&Text>) -> Result<Text, NoMemory>
+    ensures { IfOk result (λ text. text ≡ versioned name.now (option_map (λ v. v.now) version.entry)) }
+{
+    let Some(version) = version else {
+        return Text::of(alloc, name);
+    };
+    let mut text = String::from_str(alloc, name)?;
+    text.push(':')?;
+    text.push_str(version.as_str())?;
+    Text::of(alloc, text.as_str())
+}
+
+/// Alpine Linux with its branch, if its version begins with one.
+fn alpine(alloc: Global, version: Option<&Text>) -> Result<Text, NoMemory>
+    ensures { IfOk result (λ text. text ≡ alpine (option_map (λ v. v.now) version.entry)) }
+{
+    let Some(version) = version else {
+        return Text::of(alloc, "Alpine");
+    };
+    let Some(branch) = branch_of(version.as_str().as_bytes()) else {
+        return Text::of(alloc, "Alpine");
+    };
+    let mut text = String::from_str(alloc, "Alpine:v")?;
+    text.push_str(branch.major)?;
+    text.push('.')?;
+    text.push_str(branch.minor)?;
+    Text::of(alloc, text.as_str())
+}
+
+#[cfg(test)]
+mod tests {
+    use super::*;
+    use std::test::Fail;
+
+    #[test]
+    fn ecosystems_have_the_form_of_osv(rt: HostRuntime) -> Result<(), Fail> {
+        let alloc = rt.alloc();
+        for (id, version, want) in [
+            ("debian", Some("12"), "Debian:12"),
+            ("debian", None, "Debian"),
+            ("alpine", Some("3.18.4"), "Alpine:v3.18"),
+            ("alpine", Some("3.19"), "Alpine:v3.19"),
+            ("alpine", Some("3.20_alpha20240329"), "Alpine:v3.20"),
+            ("alpine", Some("edge"), "Alpine"),
+            ("alpine", Some("3"), "Alpine"),
+            ("alpine", Some("3."), "Alpine"),
+            ("alpine", Some(".18"), "Alpine"),
+            ("alpine", Some("v3.18"), "Alpine"),
+            ("alpine", None, "Alpine"),
+            ("ubuntu", Some("22.04"), "ubuntu:22.04"),
+            ("Debian", Some("12"), "Debian:12"),
+            ("arch", None, "arch"),
+        ] {
+            let version = match version {
+                Some(version) => Some(Text::of(alloc, version)?),
+                None => None,
+            };
+            let id = Text::of(alloc, id)?;
+            let os = OsName { id, version };
+            let deb = ecosystem(alloc, Some(&os), PackageKind::Deb)?;
+            assert_eq!(rt; deb.as_str(), want);
+            let apk = ecosystem(alloc, Some(&os), PackageKind::Apk)?;
+            assert_eq!(rt; apk.as_str(), want);
+            let npm = ecosystem(alloc, Some(&os), PackageKind::Npm)?;
+            assert_eq!(rt; npm.as_str(), "npm");
+        }
+        assert_eq!(rt;
+            ecosystem(alloc, None, PackageKind::Deb)?.as_str(),
+            "unknown"
+        );
+        assert_eq!(rt;
+            ecosystem(alloc, None, PackageKind::Apk)?.as_str(),
+            "unknown"
+        );
+        assert_eq!(rt; ecosystem(alloc, None, PackageKind::Npm)?.as_str(), "npm");
+        Ok(())
+    }
+}

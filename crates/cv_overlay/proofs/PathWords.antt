@@ -1,0 +1,137 @@
+-- Paths as lists of components: their equality, and their last components.
+use Rattle.std.specs.Prelude.{◌≡◌, ℕ, Bool, true, false, ◌&&◌, ◌||◌, ◌==◌, not, List, [], ◌∷◌, ◌++◌, codes, drop, if◌then◌else◌, refl}
+use Rattle.std.specs.List.{list_any}
+use Rattle.std.proofs.Common.{ap, ◌∙◌, arith}
+use Rattle.std.proofs.lemmas.Bool.{eqb-true}
+use Rattle.std.proofs.lemmas.Bool.Decides.{nat_tests}
+use Rattle.cv_base.specs.Path.{Path, is_special}
+use Rattle.cv_base.specs.Texts.{same}
+use Rattle.cv_overlay.specs.Fault.{needs_parent}
+use Rattle.cv_overlay.specs.Mark.{same_path, parent_of, name_of, has_mark, is_opaque_name, is_reserved_name, is_whiteout_name, mark_of}
+use Rattle.cv_overlay.specs.Text.{mark_by}
+use Rattle.cv_overlay.specs.declared.mark.Mark.{Mark}
+use Rattle.cv_overlay.specs.declared.mark.Mark.TheVariants.{Reserved, Opaque, Whiteout, Bad, Plain}
+use Rattle.cv_overlay.proofs.Bools.{and_left, and_right, and_both}
+
+-- Equality.
+
+byte_is : (x y : ℕ) → (x == y) ≡ true → x ≡ y
+byte_is x y h = eqb-true x y h
+
+byte_same : (x : ℕ) → (x == x) ≡ true
+byte_same x = grind (arith, nat_tests)
+
+-- the same texts are equal
+pub same_is : (x y : List ℕ) → same x y ≡ true → x ≡ y
+same_is [] [] h = refl
+same_is [] (y ∷ ys) h = cc
+same_is (x ∷ xs) [] h = cc
+same_is (x ∷ xs) (y ∷ ys) h =
+    let first = byte_is x y (and_left (x == y) (same xs ys) h) in
+    let rest = same_is xs ys (and_right (x == y) (same xs ys) h) in
+    cc
+
+pub same_self : (x : List ℕ) → same x x ≡ true
+same_self [] = refl
+same_self (x ∷ xs) = and_both (x == x) (same xs xs) (byte_same x) (same_self xs)
+
+-- the same paths are equal
+pub path_is : (p q : Path) → same_path p q ≡ true → p ≡ q
+path_is [] [] h = refl
+path_is [] (y ∷ ys) h = cc
+path_is (x ∷ xs) [] h = cc
+path_is (x ∷ xs) (y ∷ ys) h =
+    let first = same_is x y (and_left (same x y) (same_path xs ys) h) in
+    let rest = path_is xs ys (and_right (same x y) (same_path xs ys) h) in
+    cc
+
+pub path_self : (p : Path) → same_path p p ≡ true
+path_self [] = refl
+path_self (x ∷ xs) = and_both (same x x) (same_path xs xs) (same_self x) (path_self xs)
+
+-- The last component.
+
+-- a path has a component
+abbrev pub is_cons : Path → Bool
+is_cons [] = false
+is_cons (c ∷ cs) = true
+
+pub parent_of_last : (p : Path) (c : List ℕ) → parent_of (p ++ c ∷ []) ≡ p
+parent_of_last [] c = refl
+parent_of_last (x ∷ []) c = refl
+parent_of_last (x ∷ y ∷ ys) c = ap (λ q. x ∷ q) (parent_of_last (y ∷ ys) c)
+
+pub name_of_last : (p : Path) (c : List ℕ) → name_of (p ++ c ∷ []) ≡ c
+name_of_last [] c = refl
+name_of_last (x ∷ []) c = refl
+name_of_last (x ∷ y ∷ ys) c = name_of_last (y ∷ ys) c
+
+pub needs_parent_last : (p : Path) (c : List ℕ) → needs_parent (p ++ c ∷ []) ≡ is_cons p
+needs_parent_last [] c = refl
+needs_parent_last (x ∷ []) c = refl
+needs_parent_last (x ∷ y ∷ ys) c = refl
+
+or_assoc : (a b c : Bool) → (a || (b || c)) ≡ ((a || b) || c)
+or_assoc true b c = refl
+or_assoc false b c = refl
+
+or_last : (b : Bool) → (b || false) ≡ b
+or_last true = refl
+or_last false = refl
+
+-- a component is reserved where one before the last is, or the last one
+any_reserved : (p : Path) → list_any is_reserved_name p ≡ (list_any is_reserved_name (parent_of p) || is_reserved_name (name_of p))
+any_reserved [] = refl
+any_reserved (c ∷ []) = or_last (is_reserved_name c)
+any_reserved (c ∷ d ∷ ds) =
+    ap (λ b. is_reserved_name c || b) (any_reserved (d ∷ ds))
+    ∙ or_assoc (is_reserved_name c) (list_any is_reserved_name (parent_of (d ∷ ds))) (is_reserved_name (name_of (d ∷ ds)))
+
+-- the name of an opaque mark is reserved
+opaque_reserved : (c : List ℕ) → is_opaque_name c ≡ true → is_reserved_name c ≡ true
+opaque_reserved c h = rw (same_is c (codes ".wh..wh..opq") h) refl
+
+-- The mark by its tests: `a` for a reserved component before the last one, and `o`, `r`, `m` and `s` for the name.
+
+abbrev by_path : Bool → Bool → Bool → Bool → Bool → Bool → Mark
+by_path d o a r m s =
+    let opaque = not d && o && not a in
+    let reserved = (a || r) && not opaque in
+    let whiteout = not d && not reserved && not opaque && (m && not s) in
+    let bad = not reserved && not opaque && m && not whiteout in
+    if reserved then Reserved else (if opaque then Opaque else (if whiteout then Whiteout else (if bad then Bad else Plain)))
+
+abbrev by_name : Bool → Bool → Bool → Bool → Bool → Bool → Mark
+by_name d o a r m s =
+    if a then Reserved
+    else (if r then (if not d && o then Opaque else Reserved)
+    else (if not m then Plain else (if not d && (m && not s) then Whiteout else Bad)))
+
+by_name_is : (d o a r m s : Bool) → (o ≡ true → r ≡ true) → by_path d o a r m s ≡ by_name d o a r m s
+by_name_is true o true r m s h = refl
+by_name_is true o false true m s h = refl
+by_name_is true o false false true s h = refl
+by_name_is true o false false false s h = refl
+by_name_is false true true r m s h = refl
+by_name_is false true false true m s h = refl
+by_name_is false true false false m s h = cc (h refl)
+by_name_is false false true r m s h = refl
+by_name_is false false false true m s h = refl
+by_name_is false false false false true true h = refl
+by_name_is false false false false true false h = refl
+by_name_is false false false false false s h = refl
+
+abbrev by_any : Bool → Path → Bool → Mark
+by_any dir p any =
+    let opaque = not dir && is_opaque_name (name_of p) && not (list_any is_reserved_name (parent_of p)) in
+    let reserved = any && not opaque in
+    let whiteout = not dir && not reserved && not opaque && is_whiteout_name (name_of p) in
+    let bad = not reserved && not opaque && has_mark (name_of p) && not whiteout in
+    if reserved then Reserved else (if opaque then Opaque else (if whiteout then Whiteout else (if bad then Bad else Plain)))
+
+-- the mark of an entry is told by its name and whether a component before that is reserved
+pub mark_told : (p : Path) (dir : Bool) → mark_of p dir ≡ mark_by (list_any is_reserved_name (parent_of p)) (name_of p) dir
+mark_told p dir =
+    let n = name_of p in
+    ap (by_any dir p) (any_reserved p)
+    ∙ by_name_is dir (is_opaque_name n) (list_any is_reserved_name (parent_of p)) (is_reserved_name n) (has_mark n) (is_special (drop 4 n)) (opaque_reserved n)

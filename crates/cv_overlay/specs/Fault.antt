@@ -1,0 +1,70 @@
+-- When a tree is good, after the OCI image specification 1.1, layer.md: a changeset names each path once, and the
+-- directories of an entry. cvwatch's own: the order of paths, that a parent stands before its entries as a directory,
+-- the limit of 1,000,000 entries, that a bad mark is refused, and which of several faults is told.
+use Rattle.std.specs.Prelude.{ℕ, ◌+◌, Bool, true, false, ◌&&◌, ◌||◌, not, nat_lt, if◌then◌else◌, List, [], ◌∷◌, length, map, Option, Some, None}
+use Rattle.std.specs.List.{list_all, list_any}
+use Rattle.std.specs.declared.cmp.Ordering.{Ordering}
+use Rattle.std.specs.declared.cmp.Ordering.TheVariants.{Less, Equal, Greater}
+use Rattle.cv_base.specs.Path.{Path, path_cmp}
+use Rattle.cv_base.specs.declared.tree.ListEntry.{ListEntry}
+use Rattle.cv_base.specs.declared.tree.TreeEntry.{TreeEntry}
+use Rattle.cv_overlay.specs.Mark.{Outline, listed, outline, same_path, parent_of, is_bad}
+use Rattle.cv_overlay.specs.declared.fault.TreeFault.{TreeFault}
+use Rattle.cv_overlay.specs.declared.fault.TreeFault.TheVariants.{Unsorted, NoParent, BadMark, TooMany}
+
+-- the most entries of a layer
+abbrev pub max_entries : ℕ
+max_entries = 1000000
+
+-- the first of two comes before the second
+abbrev pub is_less : Ordering → Bool
+is_less Less = true
+is_less Equal = false
+is_less Greater = false
+
+-- a path comes before another one
+abbrev pub comes_before : Path → Path → Bool
+comes_before p q = is_less (path_cmp p q)
+
+-- an entry stands after all entries before it
+abbrev pub is_sorted_after : List Outline → Outline → Bool
+is_sorted_after before e = list_all (λ b. comes_before b.path e.path) before
+
+-- a path of at most one component needs no parent
+abbrev pub needs_parent : Path → Bool
+needs_parent [] = false
+needs_parent (c ∷ []) = false
+needs_parent (c ∷ d ∷ ds) = true
+
+-- some entry before is the parent of this one, and a directory
+abbrev pub has_parent : List Outline → Outline → Bool
+has_parent before e = not (needs_parent e.path) || list_any (λ b. b.is_dir && same_path b.path (parent_of e.path)) before
+
+-- the fault of the entry of a number, with all entries before it
+abbrev pub fault_at : ℕ → List Outline → Outline → Option TreeFault
+fault_at i before e =
+    if not (is_sorted_after before e) then Some (Unsorted i)
+    else (if not (has_parent before e) then Some (NoParent i)
+    else (if is_bad e.path e.is_dir then Some (BadMark i) else None))
+
+-- a fault, or else another one
+abbrev pub or_fault : Option TreeFault → Option TreeFault → Option TreeFault
+or_fault None later = later
+or_fault (Some fault) later = Some fault
+
+-- the first fault of entries that are numbered on from here, with all entries before them, the last one first
+abbrev pub first_fault : ℕ → List Outline → List Outline → Option TreeFault
+first_fault i before [] = None
+first_fault i before (e ∷ es) = or_fault (fault_at i before e) (first_fault (i + 1) (e ∷ before) es)
+
+-- the fault that is told of a list of entries, and none where it is good
+abbrev pub fault : List Outline → Option TreeFault
+fault es = if nat_lt max_entries (length es) then Some TooMany else first_fault 0 [] es
+
+-- that of a listing
+abbrev pub list_fault : List ListEntry → Option TreeFault
+list_fault es = fault (map listed es)
+
+-- that of a tree
+abbrev pub tree_fault : List TreeEntry → Option TreeFault
+tree_fault es = fault (map outline es)

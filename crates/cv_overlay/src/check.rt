@@ -1,0 +1,148 @@
+ghost use Rattle.std.specs.Prelude.{◌≡◌, ◌<◌, ◌≤◌, length, map, MatchResult, Some, None};
+ghost use Rattle.std.specs.Option.{option_map};
+ghost use Rattle.cv_overlay.specs.Fault.{fault, list_fault, max_entries};
+ghost use Rattle.cv_overlay.specs.Step.{fault_after, fault_from, follows, stands_by_parent};
+
+use crate::cut::{cut, is_within};
+use crate::fault::TreeFault;
+use crate::mark::{Mark, mark_of};
+use crate::outline::Outlined;
+use cv_base::ListEntry;
+
+/// The most entries of a layer.
+pub const MAX_ENTRIES: usize = 1_000_000;
+
+/// Whether a listing is a good tree. That there are too many entries is told before all else, and then the fault of
+/// the first faulty entry: that it is out of order, that it has no parent, that it is a bad mark. One pass, which
+/// looks at each entry and the one before it.
+pub fn check_tree(entries: &[ListEntry]) -> Result<(), TreeFault>
+    ensures { MatchResult result (λ _. list_fault entries.now ≡ None) (λ fault. list_fault entries.now ≡ Some fault) }
+{
+    match fault_of(entries) {
+        Some(fault) => Err(fault),
+        None => Ok(()),
+    }
+}
+
+/// The fault of a list of entries, and none where it is a good tree.
+pub fn fault_of<E: Outlined>(entries: &[E]) -> Option<TreeFault>
+    ensures { result ≡ fault (map E.outline entries.now) }
+{
+    if entries.len() > MAX_ENTRIES {
+        return Some(TreeFault::TooMany);
+    }
+    first_fault(entries)
+}
+
+/// The fault of the first faulty entry.
+fn first_fault<E: Outlined>(entries: &[E]) -> Option<TreeFault>
+    requires { length entries.now ≤ max_entries }
+    ensures { result ≡ fault_from 0 None (map E.outline entries.now) }
+{
+    let mut before: Option<&E> = None;
+    for (number, entry) in entries.iter().enumerate() {
+        let fault = fault_after(number as u32, before, entry);
+        if fault.is_some() {
+            return fault;
+        }
+        before = Some(entry);
+    }
+    None
+}
+
+/// The fault of the entry of a number, where no entry before it has one. Its parent is then the entry before it, or
+/// is above that one.
+fn fault_after<E: Outlined>(number: u32, before: Option<&E>, entry: &E) -> Option<TreeFault>
+    ensures { result ≡ fault_after number (option_map (λ b. E.outline b.now) before.entry) (E.outline entry.now) }
+{
+    if !follows(before, entry) {
+        return Some(TreeFault::Unsorted(number));
+    }
+    if !stands_by_parent(before, entry) {
+        return Some(TreeFault::NoParent(number));
+    }
+    match mark_of(entry.path(), entry.is_dir()) {
+        Mark::Bad => Some(TreeFault::BadMark(number)),
+        _ => None,
+    }
+}
+
+/// Whether an entry stands after the one before it.
+fn follows<E: Outlined>(before: Option<&E>, entry: &E) -> bool
+    ensures { result ≡ follows (option_map (λ b. E.outline b.now) before.entry) (E.outline entry.now) }
+{
+    match before {
+        None => true,
+        Some(before) => before.path() < entry.path(),
+    }
+}
+
+/// Whether an entry needs no parent, or the entry before it is its parent or lies within that.
+fn stands_by_parent<E: Outlined>(before: Option<&E>, entry: &E) -> bool
+    ensures { result ≡ stands_by_parent (option_map (λ b. E.outline b.now) before.entry) (E.outline entry.now) }
+{
+    let Some((directory, _)) = cut(entry.path().text().as_bytes()) else {
+        return true;
+    };
+    let Some(before) = before else {
+        return false;
+    };
+    let text = before.path().text().as_bytes();
+    if text.is_empty() {
+        return false;
+    }
+    is_within(directory, text, before.is_dir())
+}
+
+#[cfg(test)]
+mod tests {
+    use super::*;
+    use cv_base::{Kind, RelPath};
+    use std::alloc::Global;
+    use std::test::Fail;
+
+    fn listing(alloc: Global, rows: &[(&str, Kind)]) -> Result<Vec<ListEntry>, Fail> {
+        let mut entries = Vec::new(alloc);
+        for (text, kind) in rows {
+            let path = RelPath::read(alloc, text)?;
+            entries.push(ListEntry {
+                path,
+                kind: *kind,
+                size: 0,
+            })?;
+        }
+        Ok(entries)
+    }
+
+    #[test]
+    fn the_first_fault_is_told(rt: HostRuntime) -> Result<(), Fail> {
+        let alloc = rt.alloc();
+        let no_parent = listing(alloc, &[("a", Kind::File), ("a/b", Kind::File)])?;
+        assert_eq!(rt; check_tree(&no_parent), Err(TreeFault::NoParent(1)));
+        let unsorted = listing(alloc, &[("b", Kind::Dir), ("a", Kind::Dir)])?;
+        assert_eq!(rt; check_tree(&unsorted), Err(TreeFault::Unsorted(1)));
+        let no_target = listing(alloc, &[(".wh.", Kind::File)])?;
+        assert_eq!(rt; check_tree(&no_target), Err(TreeFault::BadMark(0)));
+        let marked = listing(alloc, &[(".wh.x", Kind::Dir)])?;
+        assert_eq!(rt; check_tree(&marked), Err(TreeFault::BadMark(0)));
+        Ok(())
+    }
+
+    #[test]
+    fn parents_are_found_past_deeper_entries(rt: HostRuntime) -> Result<(), Fail> {
+        let good = listing(
+            rt.alloc(),
+            &[
+                (".wh..wh.plnk", Kind::Dir),
+                (".wh..wh.plnk/7", Kind::File),
+                ("a", Kind::Dir),
+                ("a/b", Kind::Dir),
+                ("a/b/c", Kind::File),
+                ("a/d", Kind::Other),
+                ("a-b", Kind::File),
+            ],
+        )?;
+        assert_eq!(rt; check_tree(&good), Ok(()));
+        Ok(())
+    }
+}

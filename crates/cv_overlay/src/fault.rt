@@ -1,0 +1,35 @@
+use cv_base::NoMemory;
+use thiserror::Error;
+
+/// The first fault of a tree. Entries are numbered from 0.
+#[derive(Clone, Copy, Debug, PartialEq, Eq, Error)]
+pub enum TreeFault {
+    #[error("entry {0} does not stand after all entries before it")]
+    Unsorted(u32),
+    #[error("the parent of entry {0} does not stand before it as a directory")]
+    NoParent(u32),
+    #[error("entry {0} is a bad mark")]
+    BadMark(u32),
+    #[error("a layer has at most 1,000,000 entries")]
+    TooMany,
+}
+
+/// Why a tree was not laid.
+#[derive(Clone, Copy, Debug, PartialEq, Eq, Error)]
+pub enum OverlayError {
+    #[error("the tree is not good: {0}")]
+    BadTree(TreeFault),
+    #[error("out of memory")]
+    NoMemory,
+}
+
+impl From<NoMemory> for OverlayError {
+    ghost use Rattle.std.specs.Prelude.{◌≡◌};
+    ghost use Rattle.cv_overlay.specs.declared.fault.OverlayError.TheVariants as error;
+
+    ghost from_gives = { λ _ e. e ≡ error.NoMemory };
+
+    fn from(_error: NoMemory) -> OverlayError {
+        OverlayError::NoMemory
+    }
+}

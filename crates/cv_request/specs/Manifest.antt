@@ -1,0 +1,55 @@
+-- What a JSON value is as the manifest of an image (after the manifests of Clair v4): its digest and those of its
+-- layers, or what is wrong with it. The order of what is wrong is cvwatch's own, and so is the limit of 128 layers.
+use Rattle.std.specs.Prelude.{ℕ, ◌+◌, ◌==◌, nat_lt, if◌then◌else◌, List, [], ◌∷◌, codes, Option, Some, None, is_some, option_and_then, Result, Ok, Err}
+use Rattle.std.specs.Option.{ok_or}
+use Rattle.serde_json.specs.Data.{Data, Items, no_items, item}
+use Rattle.serde_json.specs.Find.{get, as_array, as_object, as_str}
+use Rattle.cv_base.specs.Digest.{digest_of}
+use Rattle.cv_base.specs.declared.manifest.Manifest.{Manifest}
+use Rattle.cv_osv.specs.Json.{◌>>=◌}
+use Rattle.cv_request.specs.declared.error.RequestWhat.{RequestWhat}
+use Rattle.cv_request.specs.declared.error.RequestWhat.TheVariants.{BadManifest, BadHash, BadLayers, NoLayers, TooManyLayers, BadLayer}
+
+-- the value has to be an object
+abbrev pub object_or : RequestWhat → Data → Result (Unit {0}) RequestWhat
+object_or bad d = if is_some (as_object d) then Ok tt else Err bad
+
+-- the text of a digest
+abbrev pub digest_or : RequestWhat → Option Data → Result (List ℕ) RequestWhat
+digest_or bad found = ok_or (option_and_then digest_of (option_and_then as_str found)) bad
+
+-- a list
+abbrev pub list_or : RequestWhat → Option Data → Result Items RequestWhat
+list_or bad found = ok_or (option_and_then as_array found) bad
+
+-- how many items there are
+abbrev pub count : Items → ℕ
+count no_items = 0
+count (item d ds) = count ds + 1
+
+-- the digest of the layer of a number
+abbrev pub layer_of : ℕ → Data → Result (List ℕ) RequestWhat
+layer_of number d = digest_or (BadLayer number) (get (codes "hash") d)
+
+-- the digests of layers that are numbered on from here
+abbrev pub layers_from : ℕ → Items → Result (List (List ℕ)) RequestWhat
+layers_from number no_items = Ok []
+layers_from number (item d ds) = layer_of number d >>= λ x. layers_from (number + 1) ds >>= λ xs. Ok (x ∷ xs)
+
+-- at least one layer, and at most 128
+abbrev pub checked_layers : Items → Result (List (List ℕ)) RequestWhat
+checked_layers items =
+    if count items == 0 then Err NoLayers
+    else (if nat_lt 128 (count items) then Err TooManyLayers else layers_from 0 items)
+
+-- the layers of an image, where this is their member
+abbrev pub layers_in : Option Data → Result (List (List ℕ)) RequestWhat
+layers_in found = list_or BadLayers found >>= checked_layers
+
+-- a manifest
+unfoldable pub manifest_of : Data → Result Manifest RequestWhat
+manifest_of d = do
+  _ ← object_or BadManifest d
+  hash ← digest_or BadHash (get (codes "hash") d)
+  layers ← layers_in (get (codes "layers") d)
+  Ok (record { hash = hash; layers = layers })

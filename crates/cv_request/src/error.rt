@@ -1,0 +1,76 @@
+use cv_osv::RecordWhat;
+use cv_seq::NoMemory;
+use std::alloc::AllocFailed;
+use thiserror::Error;
+
+/// What is wrong with a request.
+#[derive(Clone, Copy, Debug, PartialEq, Eq)]
+pub enum RequestWhat {
+    NotObject,
+    BadLane,
+    BadDo,
+    BadImage,
+    BadManifest,
+    BadHash,
+    BadLayers,
+    NoLayers,
+    TooManyLayers,
+    /// The number of the layer, from 0.
+    BadLayer(u32),
+    BadFeed,
+    BadAdvisories,
+    BadNumber,
+    BadSize,
+    BadPage,
+}
+
+/// Why a line is refused as a request. Records are numbered from 0.
+#[derive(Clone, Copy, Debug, PartialEq, Eq, Error)]
+pub enum RequestError {
+    #[error("the line is no JSON value")]
+    BadJson,
+    #[error("the request is malformed")]
+    BadRequest(RequestWhat),
+    #[error("record {index} is malformed")]
+    BadAdvisory { index: u32, what: RecordWhat },
+    #[error("records {first} and {second} have one id")]
+    DuplicateId { first: u32, second: u32 },
+    #[error("there are too many records")]
+    TooManyAdvisories,
+    #[error("out of memory")]
+    NoMemory,
+}
+
+impl From<RequestWhat> for RequestError {
+    ghost use Rattle.std.specs.Prelude.{◌≡◌};
+    ghost use Rattle.cv_request.specs.declared.error.RequestError.TheVariants as error;
+
+    ghost from_gives = { λ what e. e ≡ error.BadRequest what };
+
+    fn from(what: RequestWhat) -> RequestError {
+        RequestError::BadRequest(what)
+    }
+}
+
+impl From<NoMemory> for RequestError {
+    ghost use Rattle.std.specs.Prelude.{◌≡◌};
+    ghost use Rattle.cv_request.specs.declared.error.RequestError.TheVariants as error;
+
+    ghost from_gives = { λ _ e. e ≡ error.NoMemory };
+
+    fn from(_error: NoMemory) -> RequestError {
+        RequestError::NoMemory
+    }
+}
+
+/// The value that found no place is dropped.
+impl<T: Drop> From<AllocFailed<T>> for RequestError {
+    ghost use Rattle.std.specs.Prelude.{◌≡◌};
+    ghost use Rattle.cv_request.specs.declared.error.RequestError.TheVariants as error;
+
+    ghost from_gives = { λ _ e. e ≡ error.NoMemory };
+
+    fn from(_failed: AllocFailed<T>) -> RequestError {
+        RequestError::NoMemory
+    }
+}

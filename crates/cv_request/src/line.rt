@@ -1,0 +1,29 @@
+ghost use Rattle.std.specs.Prelude.{◌≡◌};
+ghost use Rattle.serde_json.specs.View.{view};
+ghost use Rattle.cv_base.specs.Answer.{Gives};
+ghost use Rattle.cv_request.specs.Line.{is_request_memory, json_or};
+
+use crate::error::RequestError;
+use serde_json::Value;
+use std::alloc::Global;
+use std::str;
+
+/// Reads a line as JSON.
+#[tactic(auto, using(crate::proofs::Utf8::text_found, crate::proofs::Utf8::none_found))]
+pub fn read_json(alloc: Global, line: &[u8]) -> Result<Value, RequestError>
+    ensures { Gives is_request_memory view result (json_or line.now) }
+{
+    let Ok(text) = str::from_utf8(line) else {
+        return Err(RequestError::BadJson);
+    };
+    match Value::from_str(alloc, text) {
+        Ok(value) => Ok(value),
+        Err(error) => {
+            if error.is_memory() {
+                Err(RequestError::NoMemory)
+            } else {
+                Err(RequestError::BadJson)
+            }
+        }
+    }
+}

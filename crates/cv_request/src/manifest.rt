@@ -1,0 +1,99 @@
+ghost use Rattle.std.specs.Prelude.{◌≡◌, ◌<◌, ◌^◌, false, length};
+ghost use Rattle.std.specs.Option.{option_map};
+ghost use Rattle.serde_json.specs.View.{view, items_view};
+ghost use Rattle.cv_base.specs.Answer.{Gives};
+ghost use Rattle.cv_request.specs.Line.{is_request_memory, refusing};
+ghost use Rattle.cv_request.specs.Manifest.{checked_layers, digest_or, layer_of, layers_from, layers_in, list_or, manifest_of, object_or};
+
+use crate::error::{RequestError, RequestWhat};
+use cv_base::{Digest, Manifest, Seq};
+use serde_json::Value;
+use std::alloc::Global;
+
+/// The most layers of an image.
+const MAX_LAYERS: usize = 128;
+
+/// Reads the manifest of an image: its digest, and those of its layers. `uri`, `headers` and unknown members
+/// are passed over.
+#[tactic(auto, unfolding(crate::specs::Manifest::manifest_of), using(crate::proofs::Layers::manifest_fails))]
+pub fn read_manifest(alloc: Global, value: &Value) -> Result<Manifest, RequestError>
+    ensures { Gives is_request_memory (λ manifest. manifest) result (refusing (manifest_of (view value.now))) }
+{
+    object_or(value, RequestWhat::BadManifest)?;
+    let hash = digest_or(value.get("hash"), RequestWhat::BadHash)?;
+    match read_layers(alloc, value.get("layers")) {
+        Ok(layers) => Ok(Manifest { hash, layers }),
+        Err(error) => Err(error),
+    }
+}
+
+fn object_or(value: &Value, bad: RequestWhat) -> Result<(), RequestWhat>
+    ensures { result ≡ object_or bad (view value.now) }
+{
+    if value.is_object() { Ok(()) } else { Err(bad) }
+}
+
+/// A member that is the text of a digest.
+fn digest_or(found: Option<&Value>, bad: RequestWhat) -> Result<Digest, RequestWhat>
+    ensures { result ≡ digest_or bad (option_map (λ v. view v.now) found.entry) }
+{
+    let Some(text) = found.and_then(Value::as_str) else {
+        return Err(bad);
+    };
+    match Digest::read(text.as_bytes()) {
+        Ok(digest) => Ok(digest),
+        Err(_) => Err(bad),
+    }
+}
+
+fn list_or(found: Option<&Value>, bad: RequestWhat) -> Result<&[Value], RequestWhat>
+    ensures { Gives (λ _. false) (λ items. items_view items.now) result (list_or bad (option_map (λ v. view v.now) found.entry)) }
+{
+    match found.and_then(Value::as_array) {
+        Some(items) => Ok(items.as_slice()),
+        None => Err(bad),
+    }
+}
+
+/// The layers of an image, where this is their member.
+fn read_layers(alloc: Global, found: Option<&Value>) -> Result<Seq<Digest>, RequestError>
+    ensures { Gives is_request_memory (λ layers. layers) result (refusing (layers_in (option_map (λ v. view v.now) found.entry))) }
+{
+    let items = list_or(found, RequestWhat::BadLayers)?;
+    read_checked(alloc, items)
+}
+
+/// At least one layer, and at most 128.
+#[tactic(auto, using(crate::proofs::Layers::count_items))]
+fn read_checked(alloc: Global, items: &[Value]) -> Result<Seq<Digest>, RequestError>
+    ensures { Gives is_request_memory (λ layers. layers) result (refusing (checked_layers (items_view items.now))) }
+{
+    if items.is_empty() {
+        return Err(RequestError::BadRequest(RequestWhat::NoLayers));
+    }
+    if items.len() > MAX_LAYERS {
+        return Err(RequestError::BadRequest(RequestWhat::TooManyLayers));
+    }
+    read_each(alloc, items)
+}
+
+/// The layers of a list of items.
+fn read_each(alloc: Global, items: &[Value]) -> Result<Seq<Digest>, RequestError>
+    requires { length items.now < 2 ^ 32 }
+    ensures { Gives is_request_memory (λ layers. layers) result (refusing (layers_from 0 (items_view items.now))) }
+{
+    let mut layers = Vec::new(alloc);
+    let mut number: u32 = 0;
+    for item in items {
+        layers.push(layer_of(item, number)?)?;
+        number += 1;
+    }
+    Ok(Seq::of(layers))
+}
+
+/// The digest of the item of this number.
+fn layer_of(item: &Value, number: u32) -> Result<Digest, RequestWhat>
+    ensures { result ≡ layer_of number (view item.now) }
+{
+    digest_or(item.get("hash"), RequestWhat::BadLayer(number))
+}

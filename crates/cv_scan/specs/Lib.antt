@@ -1,0 +1,4 @@
+pub mod Keyed
+pub mod Root
+pub mod Scan
+pub mod Unmarked

@@ -1,0 +1,6 @@
+//! Scans a root with advisories: all its packages, all records.
+#![tactic(auto)]
+
+mod order;
+
+pub use order::in_order;
