@@ -5,10 +5,12 @@ use Rattle.std.specs.List.{list_any}
 use Rattle.std.specs.Option.{option_map}
 use Rattle.std.specs.Ordering.{is_eq}
 use Rattle.cv_base.specs.Answer.{Gives}
+use Rattle.cv_base.specs.Reading.{is_read_memory}
+use Rattle.cv_base.specs.declared.fault.ReadBad.{ReadBad}
 use Rattle.cv_base.specs.declared.fault.What.{What}
 use Rattle.cv_dpkg.specs.Fields.{Facts, Pair, join, named, tells}
 use Rattle.cv_dpkg.specs.Names.{name_cmp}
-use Rattle.cv_dpkg.specs.Reader.{State}
+use Rattle.cv_dpkg.specs.Reader.{State, given}
 use Rattle.cv_dpkg.specs.Status.{value_fault}
 use Rattle.cv_dpkg.specs.declared.facts.Facts as held
 use Rattle.cv_dpkg.specs.declared.field.Field.{Field}
@@ -43,9 +45,17 @@ stood_in names q = list_any (λ x. is_eq (name_cmp q x.text.now)) names.keys
 abbrev pub state_view : Paragraph → State
 state_view p = record { stood = stood_in p.names; told = facts_view p.facts; last = p.last }
 
+-- a step was taken, or its fault is answered
+abbrev pub Takes : Result State ReadBad → State → Result (Unit {0}) ReadBad → Type 0
+Takes wanted after result = Gives is_read_memory (λ _. after) result wanted
+
 -- the state after a value whose name was noted
 abbrev pub value_after : Paragraph → ℕ → Pair → State
 value_after p n f = record { stood = stood_in p.names; told = join (tells (named f.name) f.value) (facts_view p.facts); last = Some n }
+
+-- a value whose name was noted
+abbrev pub value_step : Paragraph → ℕ → Pair → Result State ReadBad
+value_step p n f = given n (value_fault (named f.name) f.value) (value_after p n f)
 
 -- how many bytes and ends are left
 abbrev pub left_len : Option (List ℕ) → ℕ

@@ -2,11 +2,9 @@
 ghost use Rattle.std.specs.Prelude.{◌≡◌, Some};
 ghost use Rattle.cv_base.specs.Answer.{Gives};
 ghost use Rattle.cv_base.specs.Reading.{is_read_memory};
-ghost use Rattle.cv_dpkg.specs.Fields.{named};
-ghost use Rattle.cv_dpkg.specs.Held.{state_view, value_after};
+ghost use Rattle.cv_dpkg.specs.Held.{Takes, state_view, value_step};
 ghost use Rattle.cv_dpkg.specs.Names.{entry_of};
-ghost use Rattle.cv_dpkg.specs.Reader.{close, continuation_step, field_step, given, line_step, opening};
-ghost use Rattle.cv_dpkg.specs.Status.{value_fault};
+ghost use Rattle.cv_dpkg.specs.Reader.{close, continuation_step, field_step, line_step, opening};
 ghost use Rattle.cv_base.specs.declared.fault.ReadBad.TheVariants as reading;
 
 use crate::facts::Facts;
@@ -41,7 +39,7 @@ impl<'a> Paragraph<'a> {
 
     /// Takes one more line, which is not empty.
     pub fn take(&mut self, line: &'a [u8], number: u64) -> Result<(), ReadBad>
-        ensures { Gives is_read_memory (λ _. state_view self.new) result (line_step (state_view self.old) number line.now) }
+        ensures { Takes (line_step (state_view self.old) number line.now) (state_view self.new) result }
     {
         if begins_with_blank(line) {
             return self.go_on(number);
@@ -54,7 +52,7 @@ impl<'a> Paragraph<'a> {
 
     /// A line that goes on with a field, if there is one.
     fn go_on(&mut self, number: u64) -> Result<(), ReadBad>
-        ensures { Gives is_read_memory (λ _. state_view self.new) result (continuation_step (state_view self.old) number self.old.last) }
+        ensures { Takes (continuation_step (state_view self.old) number self.old.last) (state_view self.new) result }
     {
         if self.last.is_none() {
             return Err(bad(number, What::LooseContinuation));
@@ -64,7 +62,7 @@ impl<'a> Paragraph<'a> {
     }
 
     fn take_field(&mut self, entry: Entry<'a>, number: u64) -> Result<(), ReadBad>
-        ensures { Gives is_read_memory (λ _. state_view self.new) result (field_step (state_view self.old) number (Some (entry_of entry.entry))) }
+        ensures { Takes (field_step (state_view self.old) number (Some (entry_of entry.entry))) (state_view self.new) result }
     {
         if !is_name(entry.name) {
             return Err(bad(number, What::BadField));
@@ -76,8 +74,7 @@ impl<'a> Paragraph<'a> {
     }
 
     fn take_value(&mut self, entry: Entry<'a>, number: u64) -> Result<(), ReadBad>
-        ensures { Gives is_read_memory (λ _. state_view self.new) result
-            (given number (value_fault (named entry.entry.name.now) entry.entry.value.now) (value_after self.old number (entry_of entry.entry))) }
+        ensures { Takes (value_step self.old number (entry_of entry.entry)) (state_view self.new) result }
     {
         match self.facts.tell(named(entry.name), entry.value) {
             Err(what) => Err(bad(number, what)),

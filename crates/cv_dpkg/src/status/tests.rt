@@ -146,10 +146,9 @@ fn empty_values_are_as_absent_ones(rt: HostRuntime) -> Result<(), Fail> {
 }
 
 #[test]
-fn each_fault_is_named_with_its_line(rt: HostRuntime) -> Result<(), Fail> {
+fn each_fault_is_named_on_the_first_line_where_it_can_stand(rt: HostRuntime) -> Result<(), Fail> {
     let alloc = rt.alloc();
     let faults = [
-        // On the first line where it can stand.
         (" x\n", 1, What::LooseContinuation),
         ("x\n", 1, What::NoColon),
         (": x\n", 1, What::BadField),
@@ -177,7 +176,21 @@ fn each_fault_is_named_with_its_line(rt: HostRuntime) -> Result<(), Fail> {
             2,
             What::NoVersion,
         ),
-        // On a last line without LF.
+    ];
+    for (text, line, what) in faults {
+        assert_eq!(rt;
+            read_status(alloc, text.as_bytes(), StatusRule::Needed),
+            bad(line, what),
+            "{text}"
+        );
+    }
+    Ok(())
+}
+
+#[test]
+fn each_fault_is_named_on_a_last_line_without_lf(rt: HostRuntime) -> Result<(), Fail> {
+    let alloc = rt.alloc();
+    let faults = [
         (
             "Package: a\nStatus: a b unpacked\nVersion: 1\n\n\tx",
             5,
@@ -199,7 +212,21 @@ fn each_fault_is_named_with_its_line(rt: HostRuntime) -> Result<(), Fail> {
             3,
             What::NoVersion,
         ),
-        // Before a fault of a later line.
+    ];
+    for (text, line, what) in faults {
+        assert_eq!(rt;
+            read_status(alloc, text.as_bytes(), StatusRule::Needed),
+            bad(line, what),
+            "{text}"
+        );
+    }
+    Ok(())
+}
+
+#[test]
+fn each_fault_is_named_before_one_of_a_later_line(rt: HostRuntime) -> Result<(), Fail> {
+    let alloc = rt.alloc();
+    let faults = [
         (" x\nx\n", 1, What::LooseContinuation),
         ("x\n: x\n", 1, What::NoColon),
         (": x\nx\n", 1, What::BadField),
@@ -213,7 +240,21 @@ fn each_fault_is_named_with_its_line(rt: HostRuntime) -> Result<(), Fail> {
             2,
             What::NoVersion,
         ),
-        // Of one line the one that is tested first.
+    ];
+    for (text, line, what) in faults {
+        assert_eq!(rt;
+            read_status(alloc, text.as_bytes(), StatusRule::Needed),
+            bad(line, what),
+            "{text}"
+        );
+    }
+    Ok(())
+}
+
+#[test]
+fn of_the_faults_of_one_line_the_first_in_order_is_named(rt: HostRuntime) -> Result<(), Fail> {
+    let alloc = rt.alloc();
+    let faults = [
         ("A: x\n-A\n", 2, What::NoColon),
         ("A: x\n-A: y\n", 2, What::BadField),
         (
