@@ -1,6 +1,6 @@
 -- An image is answered from what was loaded as from what is stored.
 use Rattle.std.proofs.Common.{◌≡◌, ℕ, Bool, true, false, cond, List, [], ◌∷◌, map, refl, sym, ◌∙◌, ap}
-use Rattle.std.specs.Prelude.{Option, Some, None, Result, Ok, Err}
+use Rattle.std.specs.Prelude.{IfSome, Option, Some, None, Result, Ok, Err}
 use Rattle.std.specs.Option.{option_map}
 use Rattle.cv_base.specs.declared.advisory.Advisory.{Advisory}
 use Rattle.cv_base.specs.declared.tree.TreeEntry.{TreeEntry}
@@ -53,3 +53,9 @@ layers_same hash a (Some st) = entries_same hash a st
 pub stored_answer : (hash : List ℕ) (a : Advisory) (stored : Option (List Stored)) (found : Option (List TreeEntry)) (answer : Told)
     → found ≡ option_map (map loaded) stored → answer ≡ layer_told hash a found → answer ≡ stored_told hash a stored
 stored_answer hash a stored found answer h k = k ∙ ap (layer_told hash a) h ∙ layers_same hash a stored
+
+-- the same, where the desk's type tells of the layer
+pub told_stored : (hash : List ℕ) (a : Advisory) (tree : Option (Option (List Stored))) (found : Option (List TreeEntry)) (answer : Told)
+    → IfSome tree (λ t. found ≡ option_map (map loaded) t) → answer ≡ layer_told hash a found → IfSome (option_map (stored_told hash a) tree) (λ t. answer ≡ t)
+told_stored hash a None found answer h k = tt
+told_stored hash a (Some stored) found answer h k = stored_answer hash a stored found answer h k

@@ -1,6 +1,9 @@
 -- The scan of an image of one layer without marks, by the packages of its entries.
 use Rattle.std.proofs.Common.{◌≡◌, ℕ, Bool, true, false, List, [], ◌∷◌, refl, sym, ◌∙◌, ap}
 use Rattle.std.specs.Prelude.{Option, Some, None, Result, Ok, Err}
+use Rattle.std.specs.List.{list_any, slice_split}
+use Rattle.cv_base.specs.Path.{components, is_slash}
+use Rattle.cv_overlay.specs.Mark.{has_mark}
 use Rattle.cv_base.specs.declared.advisory.Advisory.{Advisory}
 use Rattle.cv_base.specs.declared.finding.Finding.{Finding}
 use Rattle.cv_base.specs.declared.package.Package.{Package}
@@ -34,3 +37,8 @@ scan_good es a ps good marks read = rw (scan_one es (feeds_of a) good marks, rea
 pub scan_refused : (es : List TreeEntry) (a : Advisory) (e : PackagesError) → tree_fault es ≡ None → has_no_marks es ≡ true → packages es ≡ Err e
     → found_by (scan (Some es ∷ []) (feeds_of a)) ≡ None
 scan_refused es a e good marks read = rw (scan_one es (feeds_of a) good marks, read) refl
+
+-- the empty text has no mark, as one component or as none
+pub marks_components : (t : List ℕ) → list_any has_mark (slice_split is_slash t) ≡ list_any has_mark (components t)
+marks_components [] = refl
+marks_components (x ∷ xs) = refl

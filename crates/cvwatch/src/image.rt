@@ -1,5 +1,6 @@
 ghost use Rattle.std.specs.Prelude.{◌≡◌, [], ◌∷◌, IfOk, Some, true};
-ghost use Rattle.std.specs.List.{list_any};
+ghost use Rattle.std.specs.List.{list_any, slice_split};
+ghost use Rattle.cv_base.specs.Path.{is_slash};
 ghost use Rattle.std.specs.Option.{option_map};
 ghost use Rattle.cv_overlay.specs.Mark.{has_mark};
 ghost use Rattle.cv_scan.specs.Scan.{scan};
@@ -93,4 +94,16 @@ fn has_mark_in(path: &RelPath) -> bool
     ensures { result ≡ list_any has_mark path.now }
 {
     has_mark_in_text(path.text())
+}
+
+fn has_mark_in_text(text: &str) -> bool
+    ensures { result ≡ list_any has_mark (slice_split is_slash text.now) }
+{
+    text.split('/').any(|component| has_mark(component.as_bytes()))
+}
+
+fn has_mark(name: &[u8]) -> bool
+    ensures { result ≡ has_mark name.now }
+{
+    name.starts_with(b".wh.")
 }

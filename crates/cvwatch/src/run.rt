@@ -1,0 +1,51 @@
+ghost use Rattle.std.specs.Prelude.{◌≡◌, ◌^◌, ◌<◌, ◌≤◌, length, map, string_bytes, All};
+ghost use Rattle.cv_seq.specs.Cause.{Rose};
+ghost use Rattle.cvwatch.specs.Run.{FirstRose, RunEnds, UsageWritten};
+
+use crate::command::scan_command;
+use crate::status::Status;
+use cv_desk::Desk;
+use cv_io::{Sink, Source, WriteError, write_all};
+use std::alloc::Global;
+
+/// What is printed where the words are no command.
+const USAGE: &str = "usage: cvwatch serve|scan|order|drill\n";
+
+/// Runs the command that the words name: today `scan` alone.
+pub fn run<S: Source, K: Sink, D: Desk>(
+    alloc: Global,
+    words: &[String],
+    input: &mut S,
+    output: &mut K,
+    desks: &mut Vec<D>,
+) -> Status
+    requires some { 1 ≤ length desks.old.items }
+    requires few { length desks.old.items ≤ 8 }
+    requires room { All (λ desk. D.listings desk < 2 ^ 62) desks.old.items }
+    ensures told {
+        RunEnds D.tree D.listings (map (λ word. string_bytes word) words.now) (S.left input.old) (S.left input.new) desks.old.items desks.new.items (K.contents output.old) (K.contents output.new) result
+    }
+    ensures read_fault { result ≡ Status.ReadFault → Rose (S.faults input.old) (S.faults input.new) }
+    ensures write_fault { result ≡ Status.WriteFault → Rose (K.faults output.old) (K.faults output.new) }
+    ensures desk_fault { result ≡ Status.DeskFault → FirstRose D.faults desks.old.items desks.new.items }
+{
+    match words {
+        [word] if word.as_str() == "scan" => {
+            let first = &mut desks[0];
+            scan_command(alloc, input, output, first)
+        }
+        _ => print_usage(output),
+    }
+}
+
+/// Says what the program takes.
+fn print_usage<K: Sink>(output: &mut K) -> Status
+    ensures told { UsageWritten (K.contents output.old) (K.contents output.new) result }
+    ensures write_fault { result ≡ Status.WriteFault → Rose (K.faults output.old) (K.faults output.new) }
+{
+    match write_all(output, USAGE.as_bytes()) {
+        Ok(()) => Status::Usage,
+        Err(WriteError::WriteFault) => Status::WriteFault,
+        Err(WriteError::NoMemory) => Status::NoMemory,
+    }
+}
