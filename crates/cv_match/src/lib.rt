@@ -18,6 +18,8 @@ mod placed;
 mod reading;
 mod ready;
 mod semantic;
+#[cfg(test)]
+mod tests;
 mod version;
 mod within;
 

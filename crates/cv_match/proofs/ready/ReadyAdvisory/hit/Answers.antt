@@ -11,7 +11,7 @@ returns-then-self c =
 pub returns-else-self : goal.returns-else-self
 returns-else-self c =
     rw (c.entries_hit.ensures, ← c.self.view_is, ← c.«package».view_is)
-        (ready_answer c.self.inside.source.value c.«package».inside.source.value (entries_kind c.self.inside.entries) (entries_text c.self.inside.entries)
-            c.«package».inside.key (version_text c.«package».inside.version)
-            (ap (λ (s : Prepared). s.kind) c.self.view_is ∙ (c.requires ∙ sym (ap (λ (p : Package). p.kind) c.«package».view_is)))
-            c.self.invariant.1 c.«package».invariant.1 c.«package».invariant.2 (sym c.self.invariant.0 ∙ c.if-self.false))
+    (ready_answer c.self.inside.source.value c.«package».inside.source.value (entries_kind c.self.inside.entries) (entries_text c.self.inside.entries)
+    c.«package».inside.key (version_text c.«package».inside.version)
+    (ap (λ (s : Prepared). s.kind) c.self.view_is ∙ (c.requires ∙ sym (ap (λ (p : Package). p.kind) c.«package».view_is)))
+    c.self.invariant.1 c.«package».invariant.1 c.«package».invariant.2 (sym c.self.invariant.0 ∙ c.if-self.false))

@@ -1,0 +1,266 @@
+ghost use Rattle.std.specs.Prelude.{◌≡◌, ◌<◌};
+
+use super::*;
+use cv_base::{
+    Advisory, Affected, NoMemory, Package, PackageKind, PackageName, Range, RangeKind, RelPath,
+    Seq, Steps, Text, Turn,
+};
+use std::alloc::Global;
+use std::cmp::Ordering;
+use std::marker::Brand;
+use std::sync::ledger::{Blank, Ledger};
+use std::test::Fail;
+
+fn turn(alloc: Global, word: &str, version: &str) -> Result<Turn, NoMemory> {
+    let text = Text::of(alloc, version)?;
+    match word {
+        "introduced" => Ok(Turn::Introduced(text)),
+        "fixed" => Ok(Turn::Fixed(text)),
+        "last_affected" => Ok(Turn::LastAffected(text)),
+        _ => Ok(Turn::Limit(text)),
+    }
+}
+
+fn range(alloc: Global, kind: RangeKind, events: &[(&str, &str)]) -> Result<Range, NoMemory> {
+    let mut turns = Vec::new(alloc);
+    for &(word, version) in events {
+        turns.push(turn(alloc, word, version)?)?;
+    }
+    Ok(Range {
+        kind,
+        turns: Seq::of(turns),
+    })
+}
+
+fn entry(
+    alloc: Global,
+    ecosystem: &str,
+    name: &str,
+    ranges: Seq<Range>,
+    versions: &[&str],
+) -> Result<Affected, NoMemory> {
+    let mut listed = Vec::new(alloc);
+    for version in versions {
+        listed.push(Text::of(alloc, version)?)?;
+    }
+    Ok(Affected {
+        package: Some(PackageName {
+            ecosystem: Text::of(alloc, ecosystem)?,
+            name: Text::of(alloc, name)?,
+        }),
+        ranges,
+        versions: Seq::of(listed),
+    })
+}
+
+fn advisory(alloc: Global, withdrawn: bool, affected: Seq<Affected>) -> Result<Advisory, NoMemory> {
+    Ok(Advisory {
+        id: Text::of(alloc, "X-1")?,
+        modified: Text::of(alloc, "2024-01-01T00:00:00Z")?,
+        withdrawn,
+        affected,
+    })
+}
+
+/// A record with one range about the source package `a`.
+fn told(
+    alloc: Global,
+    ecosystem: &str,
+    kind: RangeKind,
+    events: &[(&str, &str)],
+) -> Result<Advisory, NoMemory> {
+    let ranges = Seq::of(vec![in alloc; range(alloc, kind, events)?]?);
+    let entries = Seq::of(vec![in alloc; entry(alloc, ecosystem, "a", ranges, &[])?]?);
+    advisory(alloc, false, entries)
+}
+
+/// A package of the source `a`, itself named `b` for deb and apk.
+fn installed(
+    alloc: Global,
+    kind: PackageKind,
+    ecosystem: &str,
+    version: &str,
+) -> Result<Package, Fail> {
+    let npm = kind == PackageKind::Npm;
+    Ok(Package {
+        kind,
+        path: RelPath::read(alloc, "lib")?,
+        name: Text::of(alloc, if npm { "a" } else { "b" })?,
+        version: Text::of(alloc, if npm { version } else { "9" })?,
+        source: Text::of(alloc, if npm { "b" } else { "a" })?,
+        source_version: Text::of(alloc, if npm { "9" } else { version })?,
+        arch: Text::of(alloc, "amd64")?,
+        ecosystem: Text::of(alloc, ecosystem)?,
+    })
+}
+
+/// `no`, `yes`, or the fixed version.
+fn answer<L: Ledger>(
+    alloc: Global,
+    blank: Blank,
+    advisory: &Advisory,
+    package: &Package,
+) -> Result<Text, NoMemory>
+    requires name { blank.name ≡ L.name }
+    requires parts { blank.parts ≡ L.parts }
+    requires some { 0 < L.parts }
+{
+    let mut steps = Steps::<L>::open(blank);
+    let ready = prepare(alloc, advisory, package.kind)?;
+    let package = prepare_package(alloc, package)?;
+    match affects(&ready, &package, &mut steps) {
+        Hit::No => Text::of(alloc, "no"),
+        Hit::Yes { fixed: None } => Text::of(alloc, "yes"),
+        Hit::Yes { fixed: Some(at) } => match fixed_text(advisory, at) {
+            Some(text) => Text::of(alloc, text),
+            None => Text::of(alloc, "lost"),
+        },
+    }
+}
+
+fn answered(alloc: Global, advisory: &Advisory, package: &Package) -> Result<Text, NoMemory> {
+    answer::<Brand>(alloc, Blank::new(1), advisory, package)
+}
+
+/// What a record with one range about the source `a` of the ecosystem answers about a package of it.
+fn row(
+    alloc: Global,
+    kind: PackageKind,
+    ecosystem: (&str, &str),
+    range: RangeKind,
+    events: &[(&str, &str)],
+    version: &str,
+) -> Result<Text, Fail> {
+    let record = told(alloc, ecosystem.0, range, events)?;
+    let package = installed(alloc, kind, ecosystem.1, version)?;
+    Ok(answered(alloc, &record, &package)?)
+}
+
+fn deb(alloc: Global, events: &[(&str, &str)], version: &str) -> Result<Text, Fail> {
+    row(
+        alloc,
+        PackageKind::Deb,
+        ("Debian:12", "Debian:12"),
+        RangeKind::Ecosystem,
+        events,
+        version,
+    )
+}
+
+#[test]
+fn a_deb_package_is_affected_up_to_the_fix_and_the_last_affected_version(
+    rt: HostRuntime,
+) -> Result<(), Fail> {
+    let alloc = rt.alloc();
+    let twice: [(&str, &str); 4] = [
+        ("introduced", "0"),
+        ("fixed", "1.5"),
+        ("introduced", "2.0"),
+        ("last_affected", "2.3"),
+    ];
+    for (version, want) in [
+        ("1.4", "1.5"),
+        ("1.5", "no"),
+        ("2.3", "yes"),
+        ("2.3.1", "no"),
+    ] {
+        assert_eq!(rt; deb(alloc, &twice, version)?.as_str(), want, "at {version}");
+    }
+    Ok(())
+}
+
+#[test]
+fn an_introduction_outweighs_a_fix_and_has_its_last_version(rt: HostRuntime) -> Result<(), Fail> {
+    let alloc = rt.alloc();
+    let fixed: [(&str, &str); 2] = [("introduced", "3.0"), ("fixed", "3.0")];
+    let last: [(&str, &str); 2] = [("introduced", "3.0"), ("last_affected", "3.0")];
+    assert_eq!(rt; deb(alloc, &fixed, "3.0")?.as_str(), "yes");
+    assert_eq!(rt; deb(alloc, &last, "3.0")?.as_str(), "yes");
+    assert_eq!(rt; deb(alloc, &last, "3.1")?.as_str(), "no");
+    Ok(())
+}
+
+#[test]
+fn the_least_fix_above_is_named(rt: HostRuntime) -> Result<(), Fail> {
+    let alloc = rt.alloc();
+    let events: [(&str, &str); 5] = [
+        ("fixed", "4"),
+        ("introduced", "1.2"),
+        ("fixed", "2.0"),
+        ("fixed", "2.00"),
+        ("fixed", "1"),
+    ];
+    assert_eq!(rt; deb(alloc, &events, "1.5")?.as_str(), "2.0");
+    Ok(())
+}
+
+#[test]
+fn each_kind_has_its_own_order_and_ranges(rt: HostRuntime) -> Result<(), Fail> {
+    let alloc = rt.alloc();
+    let events: [(&str, &str); 2] = [("introduced", "0"), ("fixed", "1.2.0")];
+    for (kind, range, version, want) in [
+        (PackageKind::Deb, RangeKind::Ecosystem, "1.2.0~rc1", "1.2.0"),
+        (PackageKind::Deb, RangeKind::Semver, "1.1.0", "no"),
+        (PackageKind::Apk, RangeKind::Ecosystem, "1.2.0_rc1", "1.2.0"),
+        (PackageKind::Apk, RangeKind::Ecosystem, "1.2.0_p1", "no"),
+        (PackageKind::Apk, RangeKind::Semver, "1.1.0", "no"),
+        (PackageKind::Npm, RangeKind::Semver, "1.2.0-rc.1", "1.2.0"),
+        (PackageKind::Npm, RangeKind::Ecosystem, "1.1.9", "1.2.0"),
+        (PackageKind::Npm, RangeKind::Semver, "1.1", "no"),
+        (PackageKind::Npm, RangeKind::Other, "1.1.0", "no"),
+    ] {
+        assert_eq!(rt;
+            row(alloc, kind, ("any", "any"), range, &events, version)?.as_str(),
+            want,
+            "at {version}"
+        );
+    }
+    Ok(())
+}
+
+#[test]
+fn the_ecosystem_before_the_colon_matches(rt: HostRuntime) -> Result<(), Fail> {
+    let alloc = rt.alloc();
+    let events: [(&str, &str); 2] = [("introduced", "0"), ("fixed", "1:1.3")];
+    for (ecosystem, want) in [
+        ("Debian", "1:1.3"),
+        ("Debian:12", "1:1.3"),
+        ("Debian:11", "no"),
+    ] {
+        let told = row(
+            alloc,
+            PackageKind::Deb,
+            (ecosystem, "Debian:12"),
+            RangeKind::Ecosystem,
+            &events,
+            "1:1.2.13.dfsg-1",
+        )?;
+        assert_eq!(rt; told.as_str(), want, "of {ecosystem}");
+    }
+    Ok(())
+}
+
+fn ordering(alloc: Global, a: &str, b: &str) -> Result<Option<Ordering>, NoMemory> {
+    match SemanticVersion::read(alloc, &Text::of(alloc, a)?)? {
+        Some(x) => match SemanticVersion::read(alloc, &Text::of(alloc, b)?)? {
+            Some(y) => Ok(Some(x.compare(&y))),
+            None => Ok(None),
+        },
+        None => Ok(None),
+    }
+}
+
+#[test]
+fn semantic_versions_compare_by_precedence(rt: HostRuntime) -> Result<(), Fail> {
+    let alloc = rt.alloc();
+    for (a, b, want) in [
+        ("1.0.0-rc.1", "1.0.0", Some(Ordering::Less)),
+        ("1.0.0-alpha.beta", "1.0.0-alpha.1", Some(Ordering::Greater)),
+        ("1.0.0-beta.2", "1.0.0-beta.11", Some(Ordering::Less)),
+        ("1.0.0+a", "1.0.0+b", Some(Ordering::Equal)),
+        ("1.0", "1.0.0", None),
+    ] {
+        assert!(rt; ordering(alloc, a, b)? == want, "{a} and {b}");
+    }
+    Ok(())
+}
