@@ -1,5 +1,5 @@
 -- The definitions, computed on examples.
-use Rattle.std.proofs.Common.{◌≡◌, ℕ, List, [], ◌∷◌, refl, codes, Option, None, Some}
+use Rattle.std.proofs.Common.{◌≡◌, [], refl, codes, None, Some}
 use Rattle.serde_json.specs.Data.{null, number, unsigned, string, array, no_items, object, member, no_members}
 use Rattle.std.specs.Str.{is_utf8, chars}
 use Rattle.serde_json.proofs.OnLiterals.{serde_json_on_literals}

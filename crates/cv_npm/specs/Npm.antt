@@ -4,7 +4,7 @@
 -- `npm bytes` takes the bytes of the file. It gives the package that has the members `name` and `version`
 -- where the bytes are an object with both, each a text that is not empty. In every other case it gives
 -- none: no JSON, not UTF-8, no object, a member that is absent, no text or empty. A file has no fault.
-use Rattle.std.specs.Prelude.{ℕ, Bool, if◌then◌else◌, List, [], ◌∷◌, codes, Option, None, Some, option_and_then}
+use Rattle.std.specs.Prelude.{ℕ, if◌then◌else◌, List, [], ◌∷◌, codes, Option, None, Some, option_and_then}
 use Rattle.std.specs.Option.{option_map}
 use Rattle.std.specs.Str.{is_utf8}
 use Rattle.serde_json.specs.Data.{Data}
