@@ -7,24 +7,24 @@ use Rattle.std.specs.Result.{is_ok, result_err}
 use Rattle.std.proofs.Common.{ap, ◌∙◌}
 use Rattle.cv_base.specs.Path.{Path}
 use Rattle.cv_base.specs.Place.{place_of}
+use Rattle.cv_base.specs.declared.fault.FileBad.{FileBad}
 use Rattle.cv_base.specs.declared.package.Package.{Package}
 use Rattle.cv_base.specs.declared.places.Place.{Place}
 use Rattle.cv_base.specs.declared.places.Place.TheVariants.{Status, StatusFolder, Installed, UsrInstalled, Os, UsrOs, Npm}
 use Rattle.cv_base.specs.declared.tree.Content.{Content}
 use Rattle.cv_base.specs.declared.tree.Content.TheVariants.{Bytes, TooLarge, Unread}
 use Rattle.cv_apkdb.specs.Installed.{installed}
+use Rattle.cv_apkdb.specs.declared.package.ApkPackage.{ApkPackage}
 use Rattle.cv_desk.specs.Loaded.{loaded, node_of, whole, whole_node}
 use Rattle.cv_desk.specs.Stored.{Dir, File, Item, Other, Stored}
 use Rattle.cv_dpkg.specs.Status.{status}
+use Rattle.cv_dpkg.specs.declared.package.DebPackage.{DebPackage}
 use Rattle.cv_dpkg.specs.declared.rule.StatusRule.TheVariants.{Needed, Optional}
 use Rattle.cv_osrel.specs.declared.name.OsName.{OsName}
 use Rattle.cv_overlay.specs.Fault.{fault, tree_fault}
 use Rattle.cv_overlay.specs.Mark.{is_dir_node, outline}
 use Rattle.cv_packages.specs.Files.{PackageFile, content_in, counted, file_at, has_etc, is_etc_file, is_usr, package_file, package_files, placed}
-use Rattle.cv_packages.specs.Packages.{◌>>=◌, packages, read_content, read_file, read_files, read_place, system, apk_found, deb_found}
-use Rattle.cv_apkdb.specs.declared.package.ApkPackage.{ApkPackage}
-use Rattle.cv_base.specs.declared.fault.FileBad.{FileBad}
-use Rattle.cv_dpkg.specs.declared.package.DebPackage.{DebPackage}
+use Rattle.cv_packages.specs.Packages.{◌>>=◌, apk_found, deb_found, packages, read_content, read_file, read_files, read_place, system}
 use Rattle.cv_packages.specs.declared.error.PackagesError.{PackagesError}
 use Rattle.cv_packages.specs.declared.error.PackagesError.TheVariants as error
 use Rattle.cv_scan.specs.Unmarked.{has_no_marks, is_unmarked}
@@ -108,11 +108,11 @@ all_limited os (file ∷ files) = λ i. joined (read_limited os file.path file.p
 -- The refusal does not rest on the system.
 
 deb_error : (one other : Option OsName) (path : Path) (found : Result (List DebPackage) FileBad) → result_err (deb_found one path found) ≡ result_err (deb_found other path found)
-deb_error one other path (Ok ps) = refl
+deb_error one other path (Ok found) = refl
 deb_error one other path (Err bad) = refl
 
 apk_error : (one other : Option OsName) (path : Path) (found : Result (List ApkPackage) FileBad) → result_err (apk_found one path found) ≡ result_err (apk_found other path found)
-apk_error one other path (Ok ps) = refl
+apk_error one other path (Ok found) = refl
 apk_error one other path (Err bad) = refl
 
 place_error : (one other : Option OsName) (path : Path) (place : Place) (bytes : List ℕ) → result_err (read_place one path place bytes) ≡ result_err (read_place other path place bytes)
