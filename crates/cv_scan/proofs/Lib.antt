@@ -1,5 +1,6 @@
 pub mod Finds
 mod Examples
+pub mod Laid
 pub mod Loaded
 pub mod OneLayer
 pub mod Ordered
