@@ -33,11 +33,10 @@ or_right false b h = h
 -- an entry of another path in front hides none
 behind : (e : Stored) (all es : List Stored) → list_any (λ f. same_path e.path f.path) es ≡ false → AreFound all es → AreFound (e ∷ all) es
 behind e all [] h found = tt
-behind e all (f ∷ fs) h found =
-    (
-        rw (or_left (same_path e.path f.path) (list_any (λ g. same_path e.path g.path) fs) h) found.0,
-        behind e all fs (or_right (same_path e.path f.path) (list_any (λ g. same_path e.path g.path) fs) h) found.1,
-    )
+behind e all (f ∷ fs) h found = (
+  rw (or_left (same_path e.path f.path) (list_any (λ g. same_path e.path g.path) fs) h) found.0,
+  behind e all fs (or_right (same_path e.path f.path) (list_any (λ g. same_path e.path g.path) fs) h) found.1,
+)
 
 not_false : (b c : Bool) → not b && c ≡ true → (b ≡ false) × (c ≡ true)
 not_false true c h = cc
@@ -80,9 +79,9 @@ loaded_whole es h = entries_loaded es es (found_all es h)
 pub all_snoc : {X : Type 0} (p : X → Bool) (xs : List X) (x : X) → list_all p xs ≡ true → p x ≡ true → list_all p (xs ++ x ∷ []) ≡ true
 all_snoc p [] x h k = rw k refl
 all_snoc p (y ∷ ys) x h k = by_test (p y) h (λ g. all_snoc p ys x g k) where
-    by_test : (b : Bool) → b && list_all p ys ≡ true → (list_all p ys ≡ true → list_all p (ys ++ x ∷ []) ≡ true) → b && list_all p (ys ++ x ∷ []) ≡ true
-    by_test true h others = others h
-    by_test false h others = cc
+  by_test : (b : Bool) → b && list_all p ys ≡ true → (list_all p ys ≡ true → list_all p (ys ++ x ∷ []) ≡ true) → b && list_all p (ys ++ x ∷ []) ≡ true
+  by_test true h others = others h
+  by_test false h others = cc
 
 -- the entries of what was loaded
 abbrev entries_in : Option Tree → Option (List TreeEntry)

@@ -37,13 +37,13 @@ tree_of_rows rows = fold with_row [] rows
 
 any_snoc : {X : Type 0} (p : X → Bool) (xs : List X) (x : X) → list_any p (xs ++ x ∷ []) ≡ list_any p xs || p x
 any_snoc p [] x = or_false (p x) where
-    or_false : (b : Bool) → b || false ≡ b
-    or_false true = refl
-    or_false false = refl
+  or_false : (b : Bool) → b || false ≡ b
+  or_false true = refl
+  or_false false = refl
 any_snoc p (y ∷ ys) x = by_test (p y) (any_snoc p ys x) where
-    by_test : (b : Bool) → list_any p (ys ++ x ∷ []) ≡ list_any p ys || p x → b || list_any p (ys ++ x ∷ []) ≡ (b || list_any p ys) || p x
-    by_test true h = refl
-    by_test false h = h
+  by_test : (b : Bool) → list_any p (ys ++ x ∷ []) ≡ list_any p ys || p x → b || list_any p (ys ++ x ∷ []) ≡ (b || list_any p ys) || p x
+  by_test true h = refl
+  by_test false h = h
 
 append_by : (x y z : Bool) (later longer : Bool) → not x && later ≡ true → y || z ≡ false → (later ≡ true → z ≡ false → longer ≡ true) → not (x || y) && longer ≡ true
 append_by true y z later longer d s others = cc
@@ -55,7 +55,7 @@ append_distinct [] entry d s = refl
 append_distinct (e ∷ es) entry d s =
     rw (any_snoc (λ f. same_path e.path f.path) es entry)
     (append_by (list_any (λ f. same_path e.path f.path) es) (same_path e.path entry.path) (stands es entry.path) (is_distinct es) (is_distinct (es ++ entry ∷ []))
-        d s (λ h k. append_distinct es entry h k))
+    d s (λ h k. append_distinct es entry h k))
 
 with_distinct : (entries : List Stored) (entry : Stored) (b : Bool) → stands entries entry.path ≡ b → is_distinct entries ≡ true
     → is_distinct (cond b entries (entries ++ entry ∷ [])) ≡ true

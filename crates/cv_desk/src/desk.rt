@@ -69,7 +69,13 @@ pub trait Desk {
         ensures counted { listings self.new ≡ listings self.old + 1 };
 
     /// Reads a file of a layer, if it has at most `limit` bytes.
-    fn read(&mut self, alloc: Global, layer: &Digest, path: &RelPath, limit: u32) -> Result<FileRead, DeskFault>
+    fn read(
+        &mut self,
+        alloc: Global,
+        layer: &Digest,
+        path: &RelPath,
+        limit: u32,
+    ) -> Result<FileRead, DeskFault>
         ensures file { IfSome (tree layer.now) (λ t. IfOk result (λ found. found ≡ file_read (item_in t path.now) limit)) }
         ensures cause { CausedBy (faults self.old) (faults self.new) (is_failed result) }
         ensures same { listings self.new ≡ listings self.old };

@@ -68,7 +68,13 @@ impl<D: Desk> Desk for Faulty<D> {
         self.desk.list(alloc, layer)
     }
 
-    fn read(&mut self, alloc: Global, layer: &Digest, path: &RelPath, limit: u32) -> Result<FileRead, DeskFault> {
+    fn read(
+        &mut self,
+        alloc: Global,
+        layer: &Digest,
+        path: &RelPath,
+        limit: u32,
+    ) -> Result<FileRead, DeskFault> {
         let fails = self.begin();
         if fails {
             return Err(DeskFault::Failed);

@@ -62,7 +62,13 @@ impl<R: Files + AllocGlobal + Clone + Drop> Desk for FolderDesk<R> {
         self.counted(found)
     }
 
-    fn read(&mut self, alloc: Global, layer: &Digest, path: &RelPath, limit: u32) -> Result<FileRead, DeskFault> {
+    fn read(
+        &mut self,
+        alloc: Global,
+        layer: &Digest,
+        path: &RelPath,
+        limit: u32,
+    ) -> Result<FileRead, DeskFault> {
         let found = read_file(&self.rt, alloc, layer, path, limit);
         self.counted(found)
     }

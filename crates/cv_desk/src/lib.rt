@@ -13,10 +13,8 @@ mod loading;
 mod table;
 mod walk;
 
-
 pub use desk::{Desk, DeskFault, FileRead};
 pub use faulty::Faulty;
 pub use folder::FolderDesk;
 pub use loading::load;
 pub use table::{Table, TableDesk, TableEntry};
-

@@ -7,7 +7,9 @@ ghost use Rattle.cv_desk.specs.Loaded.{is_read, is_read_node, loaded, loaded_by,
 ghost use Rattle.cv_desk.specs.Stored.{item_in};
 
 use crate::desk::{Desk, DeskFault, FileRead};
-use cv_base::{Content, Digest, Kind, ListEntry, Node, PACKAGE_FILE_LIMIT, RelPath, Tree, TreeEntry, place};
+use cv_base::{
+    Content, Digest, Kind, ListEntry, Node, PACKAGE_FILE_LIMIT, RelPath, Tree, TreeEntry, place,
+};
 use cv_seq::{NoMemory, Seq};
 use std::alloc::Global;
 
@@ -15,9 +17,7 @@ use std::alloc::Global;
 /// the meantime is `Other`.
 pub fn load<D: Desk>(alloc: Global, desk: &mut D, layer: &Digest) -> Result<Option<Tree>, DeskFault>
     requires room { D.listings desk.old < 2 ^ 63 + 2 ^ 62 }
-    ensures tree {
-        IfSome (D.tree layer.now) (λ t. IfOk result (λ found. option_map (λ tree. tree.entries) found ≡ option_map (map loaded) t))
-    }
+    ensures tree { IfSome (D.tree layer.now) (λ t. IfOk result (λ found. option_map (λ tree. tree.entries) found ≡ option_map (map loaded) t)) }
     ensures read { IfOk result (λ found. IfSome found (λ tree. list_all is_read tree.entries ≡ true)) }
     ensures cause { CausedBy (D.faults desk.old) (D.faults desk.new) (is_failed result) }
     ensures counted { D.listings desk.new ≡ D.listings desk.old + 1 }
@@ -33,9 +33,7 @@ fn load_listed<D: Desk>(
     layer: &Digest,
     listed: Option<Seq<ListEntry>>,
 ) -> Result<Option<Tree>, DeskFault>
-    ensures tree {
-        IfSome (D.tree layer.now) (λ t. IfOk result (λ found. option_map (λ tree. tree.entries) found ≡ option_map (map (loaded_by t)) listed))
-    }
+    ensures tree { IfSome (D.tree layer.now) (λ t. IfOk result (λ found. option_map (λ tree. tree.entries) found ≡ option_map (map (loaded_by t)) listed)) }
     ensures read { IfOk result (λ found. IfSome found (λ tree. list_all is_read tree.entries ≡ true)) }
     ensures cause { CausedBy (D.faults desk.old) (D.faults desk.new) (is_failed result) }
     ensures same { D.listings desk.new ≡ D.listings desk.old }
@@ -70,13 +68,22 @@ fn load_entries<D: Desk>(
     Ok(out)
 }
 
-fn load_entry<D: Desk>(alloc: Global, desk: &mut D, layer: &Digest, entry: ListEntry) -> Result<TreeEntry, DeskFault>
+fn load_entry<D: Desk>(
+    alloc: Global,
+    desk: &mut D,
+    layer: &Digest,
+    entry: ListEntry,
+) -> Result<TreeEntry, DeskFault>
     ensures entry { IfSome (D.tree layer.now) (λ t. IfOk result (λ out. out ≡ loaded_by t entry)) }
     ensures read { IfOk result (λ out. is_read out ≡ true) }
     ensures cause { CausedBy (D.faults desk.old) (D.faults desk.new) (is_failed result) }
     ensures same { D.listings desk.new ≡ D.listings desk.old }
 {
-    let ListEntry { path, kind, size: _ } = entry;
+    let ListEntry {
+        path,
+        kind,
+        size: _,
+    } = entry;
     let node = match kind {
         Kind::Dir => Node::Dir,
         Kind::File => load_file(alloc, desk, layer, &path)?,
@@ -85,7 +92,12 @@ fn load_entry<D: Desk>(alloc: Global, desk: &mut D, layer: &Digest, entry: ListE
     Ok(TreeEntry { path, node })
 }
 
-fn load_file<D: Desk>(alloc: Global, desk: &mut D, layer: &Digest, path: &RelPath) -> Result<Node, DeskFault>
+fn load_file<D: Desk>(
+    alloc: Global,
+    desk: &mut D,
+    layer: &Digest,
+    path: &RelPath,
+) -> Result<Node, DeskFault>
     ensures file { IfSome (D.tree layer.now) (λ t. IfOk result (λ node. node ≡ loaded_file path.now (item_in t path.now))) }
     ensures read { IfOk result (λ node. is_read_node path.now node ≡ true) }
     ensures cause { CausedBy (D.faults desk.old) (D.faults desk.new) (is_failed result) }

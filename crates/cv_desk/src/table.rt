@@ -70,7 +70,13 @@ impl<T: Table> Desk for TableDesk<T> {
         }
     }
 
-    fn read(&mut self, alloc: Global, layer: &Digest, path: &RelPath, limit: u32) -> Result<FileRead, DeskFault> {
+    fn read(
+        &mut self,
+        alloc: Global,
+        layer: &Digest,
+        path: &RelPath,
+        limit: u32,
+    ) -> Result<FileRead, DeskFault> {
         match T::layer(layer) {
             None => Ok(FileRead::NotFile),
             Some(rows) => Ok(file_read(alloc, entries(alloc, rows)?.as_slice(), path, limit)?),
@@ -109,9 +115,7 @@ fn add_row(alloc: Global, out: &mut Vec<Entry>, row: &TableEntry) -> Result<(), 
 }
 
 fn add_entry(out: &mut Vec<Entry>, path: RelPath, row: &TableEntry) -> Result<(), NoMemory>
-    ensures {
-        OnOk result (map stored_of out.new.items ≡ with_entry (map stored_of out.old.items) (record { path = path; item = item_of row.now.kind row.now.bytes.now }))
-    }
+    ensures { OnOk result (map stored_of out.new.items ≡ with_entry (map stored_of out.old.items) (record { path = path; item = item_of row.now.kind row.now.bytes.now })) }
 {
     if stands(out.as_slice(), &path) {
         return Ok(());
@@ -153,7 +157,12 @@ fn listed(alloc: Global, entries: Vec<Entry>) -> Result<Vec<ListEntry>, NoMemory
 }
 
 /// What reading a path gives.
-fn file_read(alloc: Global, entries: &[Entry], path: &RelPath, limit: u32) -> Result<FileRead, NoMemory>
+fn file_read(
+    alloc: Global,
+    entries: &[Entry],
+    path: &RelPath,
+    limit: u32,
+) -> Result<FileRead, NoMemory>
     ensures { IfOk result (λ found. found ≡ file_read (item_at (map stored_of entries.now) path.now) limit) }
 {
     match find(entries, path) {

@@ -48,7 +48,11 @@ fn folder_of(alloc: Global, layer: &Digest) -> Result<String, NoMemory> {
 }
 
 /// All entries below a folder, in the order of paths.
-fn walk<R: Files + AllocGlobal + Clone + Drop>(rt: &R, alloc: Global, folder: &str) -> Result<Vec<ListEntry>, DeskFault> {
+fn walk<R: Files + AllocGlobal + Clone + Drop>(
+    rt: &R,
+    alloc: Global,
+    folder: &str,
+) -> Result<Vec<ListEntry>, DeskFault> {
     let mut entries = Vec::new(alloc);
     let mut folders = Vec::new(alloc);
     folders.push(RelPath::top())?;
@@ -96,7 +100,9 @@ fn listed(alloc: Global, name: &str, found: &Metadata) -> Result<ListEntry, Desk
     let path = match RelPath::read(alloc, name) {
         Ok(path) => path,
         Err(PathError::NoMemory) => return Err(DeskFault::NoMemory),
-        Err(PathError::Empty | PathError::TooLong | PathError::BadComponent) => return Err(DeskFault::Failed),
+        Err(PathError::Empty | PathError::TooLong | PathError::BadComponent) => return Err(
+            DeskFault::Failed,
+        ),
     };
     let (kind, size) = if found.is_dir() {
         (Kind::Dir, 0)

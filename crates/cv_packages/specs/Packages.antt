@@ -57,19 +57,37 @@ system (file ∷ files) = or_name (named_by file) (system files)
 -- the packages of each database, with where they stand and the system that they are of
 abbrev pub deb_package : Option OsName → Path → DebPackage → Package
 deb_package os path p = record {
-  kind = kind.Deb; path = path; name = p.name; version = p.version; source = p.source; source_version = p.source_version; arch = p.arch;
+  kind = kind.Deb;
+  path = path;
+  name = p.name;
+  version = p.version;
+  source = p.source;
+  source_version = p.source_version;
+  arch = p.arch;
   ecosystem = eco os kind.Deb;
 }
 
 abbrev pub apk_package : Option OsName → Path → ApkPackage → Package
 apk_package os path p = record {
-  kind = kind.Apk; path = path; name = p.name; version = p.version; source = p.origin; source_version = p.version; arch = p.arch;
+  kind = kind.Apk;
+  path = path;
+  name = p.name;
+  version = p.version;
+  source = p.origin;
+  source_version = p.version;
+  arch = p.arch;
   ecosystem = eco os kind.Apk;
 }
 
 abbrev pub npm_package : Option OsName → Path → NpmPackage → Package
 npm_package os path p = record {
-  kind = kind.Npm; path = path; name = p.name; version = p.version; source = p.name; source_version = p.version; arch = [];
+  kind = kind.Npm;
+  path = path;
+  name = p.name;
+  version = p.version;
+  source = p.name;
+  source_version = p.version;
+  arch = [];
   ecosystem = eco os kind.Npm;
 }
 

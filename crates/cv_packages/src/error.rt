@@ -8,10 +8,16 @@ use thiserror::Error;
 pub enum PackagesError {
     /// A line of the file is bad. Lines are numbered from 1.
     #[error("{path:?}, line {line}: {what:?}")]
-    BadFile { path: RelPath, line: u64, what: What },
+    BadFile {
+        path: RelPath,
+        line: u64,
+        what: What,
+    },
     /// The file has more bytes than a package file may have.
     #[error("{path:?} is too large")]
-    TooLarge { path: RelPath },
+    TooLarge {
+        path: RelPath,
+    },
     #[error("out of memory")]
     NoMemory,
 }

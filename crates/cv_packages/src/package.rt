@@ -12,7 +12,12 @@ use cv_seq::{NoMemory, Text};
 use std::alloc::Global;
 
 /// Packages of a dpkg status file.
-pub fn deb_packages(alloc: Global, os: Option<&OsName>, path: &RelPath, found: Vec<DebPackage>) -> Result<Vec<Package>, NoMemory>
+pub fn deb_packages(
+    alloc: Global,
+    os: Option<&OsName>,
+    path: &RelPath,
+    found: Vec<DebPackage>,
+) -> Result<Vec<Package>, NoMemory>
     ensures { IfOk result (λ out. out.items ≡ map (deb_package (option_map (λ name. name.now) os.entry) path.now) found.items) }
 {
     let ecosystem = ecosystem(alloc, os, PackageKind::Deb)?;
@@ -40,7 +45,12 @@ pub fn deb_packages(alloc: Global, os: Option<&OsName>, path: &RelPath, found: V
 }
 
 /// Packages of apk's installed database. The version of the source is the package's own.
-pub fn apk_packages(alloc: Global, os: Option<&OsName>, path: &RelPath, found: Vec<ApkPackage>) -> Result<Vec<Package>, NoMemory>
+pub fn apk_packages(
+    alloc: Global,
+    os: Option<&OsName>,
+    path: &RelPath,
+    found: Vec<ApkPackage>,
+) -> Result<Vec<Package>, NoMemory>
     ensures { IfOk result (λ out. out.items ≡ map (apk_package (option_map (λ name. name.now) os.entry) path.now) found.items) }
 {
     let ecosystem = ecosystem(alloc, os, PackageKind::Apk)?;
@@ -82,10 +92,14 @@ pub fn npm_packages(
     Ok(out)
 }
 
-fn npm_package(alloc: Global, os: Option<&OsName>, path: &RelPath, name: Text, version: Text) -> Result<Package, NoMemory>
-    ensures {
-        IfOk result (λ out. out ≡ npm_package (option_map (λ system. system.now) os.entry) path.now (record { name = name; version = version }))
-    }
+fn npm_package(
+    alloc: Global,
+    os: Option<&OsName>,
+    path: &RelPath,
+    name: Text,
+    version: Text,
+) -> Result<Package, NoMemory>
+    ensures { IfOk result (λ out. out ≡ npm_package (option_map (λ system. system.now) os.entry) path.now (record { name = name; version = version })) }
 {
     Ok(Package {
         kind: PackageKind::Npm,

@@ -13,7 +13,7 @@ use crate::error::PackagesError;
 use crate::file::{PackageFile, has_etc, is_etc, is_usr, package_file};
 use crate::package::{apk_packages, deb_packages, npm_packages};
 use cv_apkdb::read_installed;
-use cv_base::{Content, FileBad, Package, PACKAGE_FILE_LIMIT, Place, ReadBad, RelPath, TreeEntry};
+use cv_base::{Content, FileBad, PACKAGE_FILE_LIMIT, Package, Place, ReadBad, RelPath, TreeEntry};
 use cv_dpkg::{StatusRule, read_status};
 use cv_npm::read_package;
 use cv_osrel::{OsName, read_os};
@@ -66,9 +66,7 @@ fn read_entries(
     etc: bool,
     entries: &[TreeEntry],
 ) -> Result<Seq<Package>, PackagesError>
-    ensures {
-        Gives is_packages_memory (λ packages. packages) result (read_entries (option_map (λ name. name.now) os.entry) etc entries.now)
-    }
+    ensures { Gives is_packages_memory (λ packages. packages) result (read_entries (option_map (λ name. name.now) os.entry) etc entries.now) }
 {
     let mut out = Vec::new(alloc);
     for entry in entries {
@@ -87,9 +85,7 @@ fn read_entry(
     etc: bool,
     entry: &TreeEntry,
 ) -> Result<Vec<Package>, PackagesError>
-    ensures {
-        Gives is_packages_memory (λ packages. packages.items) result (read_entry (option_map (λ name. name.now) os.entry) etc entry.now)
-    }
+    ensures { Gives is_packages_memory (λ packages. packages.items) result (read_entry (option_map (λ name. name.now) os.entry) etc entry.now) }
 {
     match package_file(etc, entry) {
         None => Ok(Vec::new(alloc)),
@@ -97,10 +93,12 @@ fn read_entry(
     }
 }
 
-fn read_file(alloc: Global, os: Option<&OsName>, file: &PackageFile<'_>) -> Result<Vec<Package>, PackagesError>
-    ensures {
-        Gives is_packages_memory (λ packages. packages.items) result (read_file (option_map (λ name. name.now) os.entry) (file_of file.now))
-    }
+fn read_file(
+    alloc: Global,
+    os: Option<&OsName>,
+    file: &PackageFile<'_>,
+) -> Result<Vec<Package>, PackagesError>
+    ensures { Gives is_packages_memory (λ packages. packages.items) result (read_file (option_map (λ name. name.now) os.entry) (file_of file.now)) }
 {
     match file.content {
         Content::Bytes(bytes) => read_bytes(alloc, os, file.path, file.place, bytes.as_slice()),
@@ -117,9 +115,7 @@ fn read_bytes(
     place: Place,
     bytes: &[u8],
 ) -> Result<Vec<Package>, PackagesError>
-    ensures {
-        Gives is_packages_memory (λ packages. packages.items) result (read_content (option_map (λ name. name.now) os.entry) path.now place (content.Bytes bytes.now))
-    }
+    ensures { Gives is_packages_memory (λ packages. packages.items) result (read_content (option_map (λ name. name.now) os.entry) path.now place (content.Bytes bytes.now)) }
 {
     if bytes.len() > PACKAGE_FILE_LIMIT as usize {
         too_large(path)
@@ -135,9 +131,7 @@ fn read_place(
     place: Place,
     bytes: &[u8],
 ) -> Result<Vec<Package>, PackagesError>
-    ensures {
-        Gives is_packages_memory (λ packages. packages.items) result (read_place (option_map (λ name. name.now) os.entry) path.now place bytes.now)
-    }
+    ensures { Gives is_packages_memory (λ packages. packages.items) result (read_place (option_map (λ name. name.now) os.entry) path.now place bytes.now) }
 {
     match place {
         Place::Status => read_deb(alloc, os, path, bytes, StatusRule::Needed),
@@ -158,9 +152,7 @@ fn read_deb(
     bytes: &[u8],
     rule: StatusRule,
 ) -> Result<Vec<Package>, PackagesError>
-    ensures {
-        Gives is_packages_memory (λ packages. packages.items) result (deb_found (option_map (λ name. name.now) os.entry) path.now (status bytes.now rule))
-    }
+    ensures { Gives is_packages_memory (λ packages. packages.items) result (deb_found (option_map (λ name. name.now) os.entry) path.now (status bytes.now rule)) }
 {
     match read_status(alloc, bytes, rule) {
         Ok(found) => Ok(deb_packages(alloc, os, path, found.into_vec())?),
@@ -170,10 +162,13 @@ fn read_deb(
 }
 
 #[tactic(auto, using(crate::proofs::Walks::installed_ok, crate::proofs::Walks::installed_bad))]
-fn read_apk(alloc: Global, os: Option<&OsName>, path: &RelPath, bytes: &[u8]) -> Result<Vec<Package>, PackagesError>
-    ensures {
-        Gives is_packages_memory (λ packages. packages.items) result (apk_found (option_map (λ name. name.now) os.entry) path.now (installed bytes.now))
-    }
+fn read_apk(
+    alloc: Global,
+    os: Option<&OsName>,
+    path: &RelPath,
+    bytes: &[u8],
+) -> Result<Vec<Package>, PackagesError>
+    ensures { Gives is_packages_memory (λ packages. packages.items) result (apk_found (option_map (λ name. name.now) os.entry) path.now (installed bytes.now)) }
 {
     match read_installed(alloc, bytes) {
         Ok(found) => Ok(apk_packages(alloc, os, path, found.into_vec())?),
@@ -183,9 +178,7 @@ fn read_apk(alloc: Global, os: Option<&OsName>, path: &RelPath, bytes: &[u8]) ->
 }
 
 fn bad_file(path: &RelPath, bad: FileBad) -> Result<Vec<Package>, PackagesError>
-    ensures {
-        Gives is_packages_memory (λ packages. packages.items) result (Err (error.BadFile path.now bad.line bad.what))
-    }
+    ensures { Gives is_packages_memory (λ packages. packages.items) result (Err (error.BadFile path.now bad.line bad.what)) }
 {
     match path.clone() {
         Ok(path) => Err(PackagesError::BadFile {

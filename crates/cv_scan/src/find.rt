@@ -21,7 +21,12 @@ struct ReadyKinds {
 
 /// The findings of packages with one record of a feed: all packages it affects, in rising order, each once.
 #[tactic(auto, using(crate::proofs::Finds::findings_one))]
-pub fn find_all(alloc: Global, packages: &[Package], feed: &Text, advisory: &Advisory) -> Result<Seq<Finding>, NoMemory>
+pub fn find_all(
+    alloc: Global,
+    packages: &[Package],
+    feed: &Text,
+    advisory: &Advisory,
+) -> Result<Seq<Finding>, NoMemory>
     ensures { IfOk result (λ out. out ≡ findings packages.now ((feed.now, advisory.now ∷ []) ∷ [])) }
 {
     let found = find_counted::<Brand>(Blank::new(1), alloc, packages, feed, advisory)?;
@@ -116,7 +121,11 @@ fn ready_for(ready: &ReadyKinds, kind: PackageKind) -> &ReadyAdvisory
 }
 
 /// The fixed version at a place of the record.
-fn fixed_of(alloc: Global, advisory: &Advisory, place: Option<FixedAt>) -> Result<Option<Text>, NoMemory>
+fn fixed_of(
+    alloc: Global,
+    advisory: &Advisory,
+    place: Option<FixedAt>,
+) -> Result<Option<Text>, NoMemory>
     ensures { IfOk result (λ text. text ≡ option_and_then (text_at advisory.now) place) }
 {
     let Some(at) = place else {

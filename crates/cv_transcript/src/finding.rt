@@ -24,19 +24,21 @@ pub fn finding_value(alloc: Global, finding: &Finding) -> Result<Value, NoMemory
     ensures { IfOk result (λ value. view value ≡ finding_data finding.now) }
 {
     let package: &Package = &finding.package;
-    Ok(Object::new(alloc)
-        .text(alloc, "advisory", finding.advisory.as_str())?
-        .text(alloc, "arch", package.arch.as_str())?
-        .text(alloc, "ecosystem", package.ecosystem.as_str())?
-        .text(alloc, "feed", finding.feed.as_str())?
-        .value(alloc, "fixed", fixed_value(alloc, finding.fixed.as_ref())?)?
-        .text(alloc, "kind", kind_text(package.kind))?
-        .text(alloc, "name", package.name.as_str())?
-        .text(alloc, "path", package.path.text())?
-        .text(alloc, "source", package.source.as_str())?
-        .text(alloc, "source_version", package.source_version.as_str())?
-        .text(alloc, "version", package.version.as_str())?
-        .done())
+    Ok(
+        Object::new(alloc)
+            .text(alloc, "advisory", finding.advisory.as_str())?
+            .text(alloc, "arch", package.arch.as_str())?
+            .text(alloc, "ecosystem", package.ecosystem.as_str())?
+            .text(alloc, "feed", finding.feed.as_str())?
+            .value(alloc, "fixed", fixed_value(alloc, finding.fixed.as_ref())?)?
+            .text(alloc, "kind", kind_text(package.kind))?
+            .text(alloc, "name", package.name.as_str())?
+            .text(alloc, "path", package.path.text())?
+            .text(alloc, "source", package.source.as_str())?
+            .text(alloc, "source_version", package.source_version.as_str())?
+            .text(alloc, "version", package.version.as_str())?
+            .done(),
+    )
 }
 
 /// A version that has the fix, or null.

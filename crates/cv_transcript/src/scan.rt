@@ -21,11 +21,13 @@ pub fn good_line(alloc: Global, image: &Digest, findings: &[Finding]) -> Result<
 fn good_value(alloc: Global, image: &Digest, findings: &[Finding]) -> Result<Value, NoMemory>
     ensures { IfOk result (λ value. view value ≡ good_data image.now findings.now) }
 {
-    Ok(Object::new(alloc)
-        .value(alloc, "findings", findings_value(alloc, findings)?)?
-        .text(alloc, "image", image.text(alloc)?.as_str())?
-        .text(alloc, "reply", "good")?
-        .done())
+    Ok(
+        Object::new(alloc)
+            .value(alloc, "findings", findings_value(alloc, findings)?)?
+            .text(alloc, "image", image.text(alloc)?.as_str())?
+            .text(alloc, "reply", "good")?
+            .done(),
+    )
 }
 
 /// The line of an input line that is refused: `{"line":1,"refused":"not_built"}`. Lines are numbered from 1.
@@ -40,10 +42,12 @@ pub fn refused_line(alloc: Global, line: u64, word: &str) -> Result<String, NoMe
 fn line_value(alloc: Global, line: u64, word: &str) -> Result<Value, NoMemory>
     ensures { IfOk result (λ value. view value ≡ line_data line word.now) }
 {
-    Ok(Object::new(alloc)
-        .value(alloc, "line", Value::from(line))?
-        .text(alloc, "refused", word)?
-        .done())
+    Ok(
+        Object::new(alloc)
+            .value(alloc, "line", Value::from(line))?
+            .text(alloc, "refused", word)?
+            .done(),
+    )
 }
 
 /// The line of an image that is refused: `{"image":"..","refused":"not_built"}`.
@@ -58,10 +62,12 @@ pub fn image_line(alloc: Global, image: &Digest, word: &str) -> Result<String, N
 fn image_value(alloc: Global, image: &Digest, word: &str) -> Result<Value, NoMemory>
     ensures { IfOk result (λ value. view value ≡ image_data image.now word.now) }
 {
-    Ok(Object::new(alloc)
-        .text(alloc, "image", image.text(alloc)?.as_str())?
-        .text(alloc, "refused", word)?
-        .done())
+    Ok(
+        Object::new(alloc)
+            .text(alloc, "image", image.text(alloc)?.as_str())?
+            .text(alloc, "refused", word)?
+            .done(),
+    )
 }
 
 /// The line of a layer that could not be read: `{"layer":"..","refused":"desk_fault"}`.
@@ -76,8 +82,10 @@ pub fn desk_fault_line(alloc: Global, layer: &Digest) -> Result<String, NoMemory
 fn layer_value(alloc: Global, layer: &Digest) -> Result<Value, NoMemory>
     ensures { IfOk result (λ value. view value ≡ layer_data layer.now) }
 {
-    Ok(Object::new(alloc)
-        .text(alloc, "layer", layer.text(alloc)?.as_str())?
-        .text(alloc, "refused", "desk_fault")?
-        .done())
+    Ok(
+        Object::new(alloc)
+            .text(alloc, "layer", layer.text(alloc)?.as_str())?
+            .text(alloc, "refused", "desk_fault")?
+            .done(),
+    )
 }

@@ -29,9 +29,9 @@ scans_same : (hash : List ℕ) (a : Advisory) (st : List Stored) (fault : Option
     → scanned hash (scan (Some (map loaded st) ∷ []) (feeds_of a)) ≡ scanned hash (scan (Some (map whole st) ∷ []) (feeds_of a))
 scans_same hash a st None good marks =
     ap (scanned hash) (
-        scan_one (map loaded st) (feeds_of a) (loaded_fault st ∙ good) (loaded_marks st ∙ marks)
-        ∙ ap (λ r. scan_packages r (feeds_of a)) (loaded_packages st)
-        ∙ sym (scan_one (map whole st) (feeds_of a) good marks))
+    scan_one (map loaded st) (feeds_of a) (loaded_fault st ∙ good) (loaded_marks st ∙ marks)
+    ∙ ap (λ r. scan_packages r (feeds_of a)) (loaded_packages st)
+    ∙ sym (scan_one (map whole st) (feeds_of a) good marks))
 scans_same hash a st (Some w) bad marks =
     scan_not_good hash (map loaded st) (feeds_of a) w (loaded_fault st ∙ bad) ∙ sym (scan_not_good hash (map whole st) (feeds_of a) w bad)
 

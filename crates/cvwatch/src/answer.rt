@@ -32,7 +32,11 @@ impl From<NoMemory> for AnswerError {
 }
 
 /// What is printed for the lines of an input.
-pub fn answer_to<D: Desk>(alloc: Global, desk: &mut D, lines: &[Seq<u8>]) -> Result<Answer, AnswerError>
+pub fn answer_to<D: Desk>(
+    alloc: Global,
+    desk: &mut D,
+    lines: &[Seq<u8>],
+) -> Result<Answer, AnswerError>
     requires room { D.listings desk.old < 2 ^ 62 }
     ensures told { IfSome (told D.tree lines.now) (IsTold result) }
     ensures blames { Blames (parsed_of lines.now) (D.listings desk.old) (D.listings desk.new) result }
@@ -49,7 +53,12 @@ pub fn answer_to<D: Desk>(alloc: Global, desk: &mut D, lines: &[Seq<u8>]) -> Res
 
 /// What is printed for an image of one layer.
 #[tactic(auto, using(crate::proofs::Answers::stored_answer))]
-fn image_answer<D: Desk>(alloc: Global, desk: &mut D, image: Image, advisory: Advisory) -> Result<Answer, AnswerError>
+fn image_answer<D: Desk>(
+    alloc: Global,
+    desk: &mut D,
+    image: Image,
+    advisory: Advisory,
+) -> Result<Answer, AnswerError>
     requires room { D.listings desk.old < 2 ^ 62 }
     ensures told { IfSome (parsed_told D.tree (parsed.Scan image advisory)) (IsTold result) }
     ensures blames { Blames (parsed.Scan image advisory) (D.listings desk.old) (D.listings desk.new) result }

@@ -21,9 +21,7 @@ pub fn scan_command<S: Source, K: Sink, D: Desk>(
     desk: &mut D,
 ) -> Status
     requires room { D.listings desk.old < 2 ^ 62 }
-    ensures told {
-        ScanEnds D.tree (S.left input.old) (S.left input.new) (D.listings desk.old) (D.listings desk.new) (K.contents output.old) (K.contents output.new) result
-    }
+    ensures told { ScanEnds D.tree (S.left input.old) (S.left input.new) (D.listings desk.old) (D.listings desk.new) (K.contents output.old) (K.contents output.new) result }
     ensures read_fault { result ≡ Status.ReadFault → Rose (S.faults input.old) (S.faults input.new) }
     ensures write_fault { result ≡ Status.WriteFault → Rose (K.faults output.old) (K.faults output.new) }
     ensures desk_fault { result ≡ Status.DeskFault → Rose (D.faults desk.old) (D.faults desk.new) }
@@ -38,11 +36,14 @@ pub fn scan_command<S: Source, K: Sink, D: Desk>(
 }
 
 /// Prints what is to be told for lines.
-fn answer_lines<K: Sink, D: Desk>(alloc: Global, output: &mut K, desk: &mut D, lines: &[Seq<u8>]) -> Status
+fn answer_lines<K: Sink, D: Desk>(
+    alloc: Global,
+    output: &mut K,
+    desk: &mut D,
+    lines: &[Seq<u8>],
+) -> Status
     requires room { D.listings desk.old < 2 ^ 62 }
-    ensures told {
-        IsAnswered D.tree (parsed_of lines.now) (D.listings desk.old) (D.listings desk.new) (K.contents output.old) (K.contents output.new) result
-    }
+    ensures told { IsAnswered D.tree (parsed_of lines.now) (D.listings desk.old) (D.listings desk.new) (K.contents output.old) (K.contents output.new) result }
     ensures write_fault { result ≡ Status.WriteFault → Rose (K.faults output.old) (K.faults output.new) }
     ensures desk_fault { result ≡ Status.DeskFault → Rose (D.faults desk.old) (D.faults desk.new) }
 {

@@ -22,10 +22,13 @@ pub struct Answer {
 }
 
 /// The answer for an image of one layer, as that was loaded.
-pub fn layer_answer(alloc: Global, hash: &Digest, advisory: &Advisory, layer: Option<Tree>) -> Result<Answer, NoMemory>
-    ensures {
-        IfOk result (λ answer. answer_of answer ≡ layer_told hash.now advisory.now (option_map (λ tree. tree.entries) layer))
-    }
+pub fn layer_answer(
+    alloc: Global,
+    hash: &Digest,
+    advisory: &Advisory,
+    layer: Option<Tree>,
+) -> Result<Answer, NoMemory>
+    ensures { IfOk result (λ answer. answer_of answer ≡ layer_told hash.now advisory.now (option_map (λ tree. tree.entries) layer)) }
 {
     match layer {
         None => refused_image(alloc, hash),
@@ -33,7 +36,12 @@ pub fn layer_answer(alloc: Global, hash: &Digest, advisory: &Advisory, layer: Op
     }
 }
 
-fn entries_answer(alloc: Global, hash: &Digest, advisory: &Advisory, entries: &[TreeEntry]) -> Result<Answer, NoMemory>
+fn entries_answer(
+    alloc: Global,
+    hash: &Digest,
+    advisory: &Advisory,
+    entries: &[TreeEntry],
+) -> Result<Answer, NoMemory>
     ensures { IfOk result (λ answer. answer_of answer ≡ entries_told hash.now advisory.now entries.now) }
 {
     if !has_no_marks(entries) {
@@ -59,7 +67,11 @@ fn refused_image(alloc: Global, hash: &Digest) -> Result<Answer, NoMemory>
 
 /// The findings of the one layer of an image, or none where the scan refuses.
 #[tactic(auto, using(crate::proofs::Scans::scan_bad, crate::proofs::Scans::scan_good, crate::proofs::Scans::scan_refused))]
-fn scan_entries(alloc: Global, advisory: &Advisory, entries: &[TreeEntry]) -> Result<Option<Seq<Finding>>, NoMemory>
+fn scan_entries(
+    alloc: Global,
+    advisory: &Advisory,
+    entries: &[TreeEntry],
+) -> Result<Option<Seq<Finding>>, NoMemory>
     requires { has_no_marks entries.now ≡ true }
     ensures { IfOk result (λ found. found ≡ found_by (scan (Some entries.now ∷ []) (feeds_of advisory.now))) }
 {
@@ -99,7 +111,8 @@ fn has_mark_in(path: &RelPath) -> bool
 fn has_mark_in_text(text: &str) -> bool
     ensures { result ≡ list_any has_mark (slice_split is_slash text.now) }
 {
-    text.split('/').any(|component| has_mark(component.as_bytes()))
+    text.split('/')
+        .any(|component| has_mark(component.as_bytes()))
 }
 
 fn has_mark(name: &[u8]) -> bool

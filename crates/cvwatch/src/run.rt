@@ -22,9 +22,7 @@ pub fn run<S: Source, K: Sink, D: Desk>(
     requires some { 1 ≤ length desks.old.items }
     requires few { length desks.old.items ≤ 8 }
     requires room { All (λ desk. D.listings desk < 2 ^ 62) desks.old.items }
-    ensures told {
-        RunEnds D.tree D.listings (map (λ word. string_bytes word) words.now) (S.left input.old) (S.left input.new) desks.old.items desks.new.items (K.contents output.old) (K.contents output.new) result
-    }
+    ensures told { RunEnds D.tree D.listings (map (λ word. string_bytes word) words.now) (S.left input.old) (S.left input.new) desks.old.items desks.new.items (K.contents output.old) (K.contents output.new) result }
     ensures read_fault { result ≡ Status.ReadFault → Rose (S.faults input.old) (S.faults input.new) }
     ensures write_fault { result ≡ Status.WriteFault → Rose (K.faults output.old) (K.faults output.new) }
     ensures desk_fault { result ≡ Status.DeskFault → FirstRose D.faults desks.old.items desks.new.items }
