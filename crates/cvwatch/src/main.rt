@@ -14,6 +14,8 @@ mod input;
 mod parsed;
 mod run;
 mod status;
+#[cfg(test)]
+mod tests;
 
 use crate::run::run;
 use crate::status::Status;
