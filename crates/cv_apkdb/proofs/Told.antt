@@ -1,7 +1,7 @@
 -- That reading line by line, package by package, tells what the definition says of the whole file.
-use Rattle.std.proofs.Common.{◌≡◌, ℕ, ◌+◌, Bool, true, false, cond, if◌then◌else◌, not, List, [], ◌∷◌, ◌++◌, Option, None, Some, Result, Ok, Err, refl, sym, ap, ◌∙◌, append_assoc, append-nil}
+use Rattle.std.proofs.Common.{◌≡◌, ℕ, ◌+◌, Bool, true, false, cond, if◌then◌else◌, List, [], ◌∷◌, ◌++◌, Option, None, Some, Result, Ok, Err, refl, sym, ap, ◌∙◌, append_assoc, append-nil}
 use Rattle.std.specs.List.{flat_map, onto_first, slice_split}
-use Rattle.std.specs.Option.{is_some, option_map, option_map_or, option_or}
+use Rattle.std.specs.Option.{is_some, option_map_or, option_or}
 use Rattle.cv_base.specs.Answer.{Gives}
 use Rattle.cv_base.specs.Reading.{is_read_memory}
 use Rattle.cv_base.specs.declared.fault.FileBad.{FileBad}
@@ -10,9 +10,9 @@ use Rattle.cv_base.specs.declared.fault.ReadBad.TheVariants.{Bad, NoMemory}
 use Rattle.cv_base.specs.declared.fault.What.{What}
 use Rattle.cv_base.specs.declared.fault.What.TheVariants.{NoColon, Repeated}
 use Rattle.cv_apkdb.specs.Installed.{answer, at, end_faults, entry_fault, faults, installed, last_number, line_fault, line_faults, packages, value_fault, whole_fault}
-use Rattle.cv_apkdb.specs.Lines.{Line, is_gap, is_lf, is_nil, numbered}
-use Rattle.cv_apkdb.specs.Package.{Entry, Facts, entry_of, facts, join, nothing, package_in, tells, told_by, value_in}
-use Rattle.cv_apkdb.specs.Reader.{State, and_then, as_read, bad, close, end_step, entry_by, letter_step, line_step, lines_left, opening, state_step, taken, told, told_with, value_by}
+use Rattle.cv_apkdb.specs.Lines.{Line, is_gap, is_lf, numbered}
+use Rattle.cv_apkdb.specs.Package.{Entry, Facts, entry_of, facts, join, nothing, tells, told_by, value_in}
+use Rattle.cv_apkdb.specs.Reader.{State, and_then, as_read, bad, close, end_step, entry_by, line_step, lines_left, opening, state_step, told, told_with, value_by}
 use Rattle.cv_apkdb.specs.declared.letter.Letter.{Letter}
 use Rattle.cv_apkdb.specs.declared.package.ApkPackage.{ApkPackage}
 

@@ -1,5 +1,5 @@
 -- How an installed database is read in one pass over its lines. It is shown in `proofs/` that this tells what `Installed.antt` says.
-use Rattle.std.specs.Prelude.{ℕ, ◌+◌, Bool, true, false, if◌then◌else◌, List, [], ◌∷◌, ◌++◌, Option, None, Some, Result, Ok, Err}
+use Rattle.std.specs.Prelude.{ℕ, ◌+◌, Bool, if◌then◌else◌, List, [], ◌∷◌, ◌++◌, Option, None, Some, Result, Ok, Err}
 use Rattle.std.specs.List.{slice_split}
 use Rattle.std.specs.Option.{is_some, option_map, option_map_or}
 use Rattle.cv_base.specs.declared.fault.FileBad.{FileBad}

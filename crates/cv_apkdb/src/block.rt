@@ -21,6 +21,7 @@ pub struct Block<'a> {
 }
 
 impl<'a> Block<'a> {
+    /// A package of which no line was read.
     pub fn new() -> Block<'a>
         ensures { state_view result ≡ opening }
     {

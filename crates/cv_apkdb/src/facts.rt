@@ -25,6 +25,7 @@ pub struct Facts<'a> {
 }
 
 impl<'a> Facts<'a> {
+    /// What is known before the first line: nothing.
     pub fn new() -> Facts<'a>
         ensures { facts_view result ≡ nothing }
     {

@@ -1,9 +1,9 @@
 -- Cutting a text at its slashes, one component after the other.
-use Rattle.std.proofs.Common.{◌≡◌, ℕ, ◌+◌, ◌-◌, ◌<◌, Bool, true, false, not, cond, nat_lt, List, [], ◌∷◌, length, take, drop, Option, Some, None, refl, sym, ◌∙◌, ap, arith}
-use Rattle.std.specs.List.{slice_split, onto_first, position, position_or_len, prefix_len}
+use Rattle.std.proofs.Common.{◌≡◌, ℕ, ◌+◌, ◌-◌, ◌<◌, Bool, true, false, not, cond, nat_lt, List, [], ◌∷◌, length, take, drop, Some, None, refl, arith}
+use Rattle.std.specs.List.{slice_split, onto_first, position, position_or_len}
 use Rattle.std.proofs.lemmas.Bool.Decides.{nat_tests}
 use Rattle.std.proofs.lemmas.List.{take_rest}
-use Rattle.std.proofs.lemmas.List.Splits.{slice_split_first, join_with_byte-slice_split}
+use Rattle.std.proofs.lemmas.List.Splits.{slice_split_first}
 use Rattle.cv_base.specs.Path.{Path, components, is_slash}
 use Rattle.cv_base.specs.Place.{is_npm, names_package}
 

@@ -1,6 +1,6 @@
 -- The places of package files (cvwatch's own): where dpkg (dpkg(1), FILES), apk (apk(8)), os-release(5) and
 -- npm (npm's folders) keep what is installed.
-use Rattle.std.specs.Prelude.{ℕ, Bool, true, false, ◌&&◌, ◌||◌, not, if◌then◌else◌, List, [], ◌∷◌, ◌++◌, take, drop, length, ◌-◌, codes, Option, Some, None}
+use Rattle.std.specs.Prelude.{ℕ, Bool, false, ◌&&◌, ◌||◌, not, if◌then◌else◌, List, [], ◌∷◌, take, drop, length, ◌-◌, codes, Option, Some, None}
 use Rattle.std.specs.Option.{option_or}
 use Rattle.std.specs.List.{list_any, join_with_byte, slice_split}
 use Rattle.cv_base.specs.Path.{Path, is_slash}

@@ -1,8 +1,8 @@
-ghost use Rattle.std.specs.Prelude.{◌≡◌, IfOk, MatchResult, Some, None};
+ghost use Rattle.std.specs.Prelude.{◌≡◌, ℕ, List, length, IfOk, MatchResult, Some, None};
 ghost use Rattle.std.specs.List.{list_all};
 ghost use Rattle.std.specs.Option.{option_map};
 ghost use Rattle.std.specs.Result.{result_ok};
-ghost use Rattle.hex.specs.Hex.{decode_sized};
+ghost use Rattle.hex.specs.Hex.{IsBytes, decode_sized};
 ghost use Rattle.cv_base.specs.Digest.{digest_of, digest_text, digits_of, is_lower_digit};
 
 use cv_seq::{NoMemory, Text};
@@ -68,6 +68,13 @@ impl Digest {
         Text::of(alloc, text.as_str())
     }
 }
+
+/// `Digest::read` takes exactly the texts that `Digest::text` gives: the text of any 32 bytes reads as them, `read_back`,
+/// and a text that reads as bytes is the text of them, `written_back`.
+pub fn digest_round_trip()
+    ensures read_back { (bytes : List ℕ) → length bytes ≡ 32 → IsBytes bytes → digest_of (digest_text bytes) ≡ Some bytes }
+    ensures written_back { (text bytes : List ℕ) → digest_of text ≡ Some bytes → digest_text bytes ≡ text }
+{}
 
 /// The encoded part of a text, where the algorithm is SHA-256 and there are digits alone.
 fn digits_of(text: &[u8]) -> Option<&[u8]>

@@ -20,7 +20,7 @@ mod tree;
 
 pub use advisory::{Advisory, Affected, Range, RangeKind, Turn};
 pub use cv_seq::{NoMemory, Seq, Text};
-pub use digest::{BadDigest, Digest};
+pub use digest::{BadDigest, Digest, digest_round_trip};
 pub use fault::{FileBad, ReadBad, What};
 pub use finding::{Finding, Reason, Row};
 pub use manifest::Manifest;

@@ -8,6 +8,7 @@ use Rattle.std.specs.Cmp.{IsTotalOrder, on_total, then_total}
 use Rattle.cv_order.specs.Digits.{number_cmp, number_total}
 use Rattle.cv_debver.specs.Parts.{part_cmp, part_total}
 
+-- a version cut into its parts
 pub record Version : Type 0 where
   pub epoch : List ℕ
   pub upstream : List ℕ

@@ -124,7 +124,8 @@ const VERSIONS: [&str; 10] = [
     "1.0-+",
 ];
 
-/// Texts that it refuses, but for the last two: a colon in the upstream version, and a sign before the epoch.
+/// Texts that are no versions here. Most of them it refuses as well, but not a colon in the upstream version or a sign
+/// before the epoch.
 const OTHERS: [&str; 20] = [
     "",
     ":",

@@ -1,12 +1,11 @@
 -- A layer that is loaded by its listing and its reads is the layer as it is loaded.
-use Rattle.std.proofs.Common.{◌≡◌, ℕ, Bool, true, false, ◌&&◌, ◌||◌, not, cond, nat_eq, ◌==◌, nat_lt, List, [], ◌∷◌, ◌++◌, map, length, Option, Some, None, is_none, refl, sym, ◌∙◌, ap}
+use Rattle.std.proofs.Common.{◌≡◌, ℕ, Bool, true, false, ◌&&◌, ◌||◌, not, cond, nat_lt, List, [], ◌∷◌, ◌++◌, map, length, Option, Some, None, is_none, refl, ◌∙◌, ap}
 use Rattle.std.specs.Prelude.{IfOk, IfSome, Result, Ok, Err}
 use Rattle.std.specs.Option.{option_map}
-use Rattle.std.specs.Cmp.Lexicographic.{pointwise, nat_list_eq_equiv, lists_equiv}
+use Rattle.std.specs.Cmp.Lexicographic.{nat_list_eq_equiv, lists_equiv}
 use Rattle.std.specs.List.{AllByRecursion, list_all, list_any}
 use Rattle.cv_base.specs.Path.{Path, same_path}
 use Rattle.cv_base.specs.Place.{place_of}
-use Rattle.cv_base.specs.Texts.{same}
 use Rattle.cv_base.specs.declared.tree.Content.{Content}
 use Rattle.cv_base.specs.declared.tree.Content.TheVariants.{Bytes, TooLarge, Unread}
 use Rattle.cv_base.specs.declared.tree.ListEntry.{ListEntry}
@@ -15,8 +14,8 @@ use Rattle.cv_base.specs.declared.tree.Node.TheVariants as node
 use Rattle.cv_base.specs.declared.tree.Tree.{Tree}
 use Rattle.cv_base.specs.declared.tree.TreeEntry.{TreeEntry}
 use Rattle.cv_desk.specs.declared.desk.DeskFault.{DeskFault}
-use Rattle.cv_desk.specs.Loaded.{answered, content_of, is_read, loaded, loaded_by, loaded_file, loaded_kind, node_of}
-use Rattle.cv_desk.specs.Stored.{Item, Dir, File, Other, Stored, IsDistinctIn, file_read, is_distinct, item_at, item_in, kind_of, listed}
+use Rattle.cv_desk.specs.Loaded.{answered, loaded, loaded_by, loaded_kind, node_of}
+use Rattle.cv_desk.specs.Stored.{Item, Dir, File, Other, Stored, IsDistinctIn, is_distinct, item_at, kind_of, listed}
 
 -- each of these entries is found at its path
 abbrev AreFound : List Stored → List Stored → Type 0

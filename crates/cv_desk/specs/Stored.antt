@@ -1,6 +1,6 @@
 -- A layer as it is stored: a list of paths, each with a directory, a file with its bytes, or something else
 -- (after the OCI image specification 1.1, layer.md; a link or a special file is "something else", cvwatch's own).
-use Rattle.std.specs.Prelude.{◌≡◌, ℕ, Bool, true, false, ◌&&◌, not, nat_lt, if◌then◌else◌, List, [], ◌∷◌, length, Option, Some, None}
+use Rattle.std.specs.Prelude.{◌≡◌, ℕ, Bool, true, ◌&&◌, not, nat_lt, if◌then◌else◌, List, [], ◌∷◌, length, Option, Some, None}
 use Rattle.std.specs.List.{list_any}
 use Rattle.cv_base.specs.Path.{Path, same_path}
 use Rattle.cv_base.specs.declared.tree.Kind.{Kind}

@@ -27,6 +27,7 @@ pub struct Paragraph<'a> {
 }
 
 impl<'a> Paragraph<'a> {
+    /// A paragraph of which no line was read.
     pub fn new(alloc: Global) -> Paragraph<'a>
         ensures { state_view result ≡ opening }
     {

@@ -1,12 +1,12 @@
 -- The events of a range are read one at a time.
-use Rattle.std.proofs.Common.{◌≡◌, ℕ, Bool, true, false, ◌&&◌, if◌then◌else◌, List, [], ◌∷◌, ◌++◌, map, Option, Some, None, option_map, refl, sym, ap, ◌∙◌, append_assoc}
+use Rattle.std.proofs.Common.{◌≡◌, ℕ, Bool, true, false, ◌&&◌, if◌then◌else◌, List, [], ◌∷◌, ◌++◌, map, Option, Some, None, refl, sym, append_assoc}
 use Rattle.std.specs.List.{list_all}
 use Rattle.cv_base.specs.declared.«package».PackageKind.{PackageKind}
 use Rattle.cv_base.specs.declared.advisory.Range.{Range}
 use Rattle.cv_base.specs.declared.advisory.Turn.{Turn}
 use Rattle.cv_match.specs.declared.placed.Placed.{Placed}
 use Rattle.cv_match.specs.Ready.{cons_read, events_of, onto, read_event, read_events}
-use Rattle.cv_match.specs.Within.{belongs, is_range_of, is_readable, placed}
+use Rattle.cv_match.specs.Within.{belongs, is_readable, placed}
 
 -- one event more was read
 pub onto_more : (kind : PackageKind) (front : List (Placed (List ℕ))) (turn : Turn) (turns : List Turn) (event : Placed (List ℕ))

@@ -13,7 +13,7 @@ use Rattle.cv_base.specs.declared.advisory.RangeKind.TheVariants.{Ecosystem, Sem
 use Rattle.cv_base.specs.declared.advisory.Turn.{Turn}
 use Rattle.cv_base.specs.declared.advisory.Turn.TheVariants.{Introduced, Fixed, LastAffected, Limit}
 use Rattle.cv_base.specs.declared.finding.Finding.{Finding}
-use Rattle.cv_match.specs.Order.{is_version_of, version_cmp_of}
+use Rattle.cv_match.specs.Order.{version_cmp_of}
 use Rattle.cv_match.specs.Within.{within}
 use Rattle.cv_match.specs.Affects.{affects, fixed, family}
 use Rattle.cv_match.specs.Findings.{findings}

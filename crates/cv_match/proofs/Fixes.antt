@@ -1,5 +1,5 @@
 -- The least fix above a version is found in one pass, which keeps the least so far.
-use Rattle.std.proofs.Common.{◌≡◌, ℕ, ◌+◌, Bool, true, false, not, ◌&&◌, ◌||◌, if◌then◌else◌, List, [], ◌∷◌, Option, Some, None, option_map, refl, sym, ap, ◌∙◌}
+use Rattle.std.proofs.Common.{◌≡◌, ℕ, ◌+◌, Bool, true, false, not, ◌&&◌, ◌||◌, if◌then◌else◌, List, [], ◌∷◌, Option, Some, None, refl, sym, ap, ◌∙◌}
 use Rattle.std.specs.List.{list_any, position_from}
 use Rattle.std.specs.declared.cmp.Ordering.{Ordering}
 use Rattle.std.specs.Ordering.{is_lt}
@@ -10,7 +10,7 @@ use Rattle.cv_match.specs.declared.placed.Placed.{Placed}
 use Rattle.cv_match.specs.declared.placed.Placed.TheVariants.{Introduced, Fixed, LastAffected, Limit}
 use Rattle.cv_match.specs.Affects.{is_fix_between, is_least_fix}
 use Rattle.cv_match.specs.Within.{bound_cmp, bound_total, le, lt}
-use Rattle.cv_match.specs.Walk.{least_place, lesser_fix, lesser_of}
+use Rattle.cv_match.specs.Walk.{least_place, lesser_of}
 use Rattle.cv_match.proofs.Introductions.{any_more, weaker, le_other, lt_to}
 
 and_last : (a b : Bool) → a && b ≡ true → b ≡ true

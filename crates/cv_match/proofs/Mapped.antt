@@ -1,5 +1,5 @@
 -- What holds of events, ranges and entries by their versions holds of them by the texts of these.
-use Rattle.std.proofs.Common.{◌≡◌, ℕ, ◌+◌, zero, suc, Bool, true, false, not, ◌&&◌, ◌||◌, List, [], ◌∷◌, map, Option, Some, None, option_map, refl, sym, ap, ◌∙◌}
+use Rattle.std.proofs.Common.{◌≡◌, ℕ, ◌+◌, zero, suc, Bool, List, [], ◌∷◌, map, Option, option_map, refl}
 use Rattle.std.specs.List.{list_any, position_from, slice_get}
 use Rattle.std.specs.declared.cmp.Ordering.{Ordering}
 use Rattle.std.specs.Ordering.{on}
@@ -12,7 +12,7 @@ use Rattle.cv_match.specs.declared.placed.Placed.TheVariants.{Introduced, Fixed,
 use Rattle.cv_match.specs.Affects.{is_fix_between, is_least_fix}
 use Rattle.cv_match.specs.Hit.{entry_holds, entry_lists, range_holds}
 use Rattle.cv_match.specs.Ready.{bound_text, entry_text, event_text, range_text}
-use Rattle.cv_match.specs.Within.{bound_cmp, brings, ends, holds, is_limit, is_limit_above, le, lt}
+use Rattle.cv_match.specs.Within.{bound_cmp, brings, ends, holds, is_limit, is_limit_above}
 
 -- ---- lists
 

@@ -1,5 +1,5 @@
 -- The answer of the entries of a record, once they are read, is what the record says of the package.
-use Rattle.std.proofs.Common.{◌≡◌, ℕ, ◌+◌, zero, suc, Bool, true, false, not, ◌&&◌, ◌||◌, if◌then◌else◌, List, [], ◌∷◌, ◌++◌, map, Option, Some, None, IsSome, option_map, refl, sym, ap, ◌∙◌, arith, find, filter}
+use Rattle.std.proofs.Common.{◌≡◌, ℕ, ◌+◌, suc, Bool, true, false, ◌&&◌, ◌||◌, if◌then◌else◌, List, [], ◌∷◌, map, Option, Some, None, IsSome, option_map, refl, sym, ap, ◌∙◌, arith, find, filter}
 use Rattle.std.specs.List.{flat_map, list_any, position_from, slice_get}
 use Rattle.std.specs.declared.cmp.Ordering.{Ordering}
 use Rattle.std.specs.Option.{option_and_then, option_or}
@@ -21,8 +21,8 @@ use Rattle.cv_match.specs.declared.key.PackageKey.{PackageKey}
 use Rattle.cv_match.specs.declared.placed.Placed.{Placed}
 use Rattle.cv_match.specs.declared.placed.Placed.TheVariants.{Introduced, Fixed, LastAffected, Limit}
 use Rattle.cv_match.specs.Affects.{affects, fix_text, fixed, has_within, is_affected_by, is_least_fix, least_fix, lists, matched_version, matches, matching_ranges}
-use Rattle.cv_match.specs.Answer.{Answers, TellsFixed, fix_of, text_at}
-use Rattle.cv_match.specs.Hit.{entry_holds, entry_lists, fix_in, fixed_at, fixed_in, hit_listed, hit_of, hit_within, key_matches, key_of, range_holds}
+use Rattle.cv_match.specs.Answer.{Answers, TellsFixed, fix_of}
+use Rattle.cv_match.specs.Hit.{entry_holds, entry_lists, fixed_at, fixed_in, hit_listed, hit_of, hit_within, key_matches, key_of, range_holds}
 use Rattle.cv_match.specs.Order.{is_version_of, version_cmp_of, version_in}
 use Rattle.cv_match.specs.Ready.{events_of, ready_entry}
 use Rattle.cv_match.specs.Within.{holds, is_range_of, placed, within}

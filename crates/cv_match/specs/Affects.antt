@@ -1,7 +1,7 @@
 -- Which packages an advisory affects, and which version has the fix, after the OSV schema 1.6. cvwatch's own are how the
 -- ecosystem of a record matches that of a package, and the choice of the fixed version.
-use Rattle.std.specs.Prelude.{ℕ, ◌+◌, Bool, true, false, not, ◌&&◌, ◌||◌, ◌==◌, List, take, Option, Some, None, map, find, filter, option_and_then}
-use Rattle.std.specs.List.{flat_map, list_any, position, slice_get}
+use Rattle.std.specs.Prelude.{ℕ, Bool, false, not, ◌&&◌, ◌||◌, ◌==◌, List, take, Option, Some, None, map, find, filter, option_and_then}
+use Rattle.std.specs.List.{flat_map, list_any, position}
 use Rattle.std.specs.declared.cmp.Ordering.{Ordering}
 use Rattle.cv_base.specs.Texts.{same}
 use Rattle.cv_base.specs.declared.«package».Package.{Package}

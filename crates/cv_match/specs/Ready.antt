@@ -1,5 +1,5 @@
 -- What an affected entry is once its versions are read, and what reading gives.
-use Rattle.std.specs.Prelude.{ℕ, ◌&&◌, Bool, if◌then◌else◌, List, [], ◌∷◌, ◌++◌, map, Option, Some, None, option_map}
+use Rattle.std.specs.Prelude.{ℕ, if◌then◌else◌, List, [], ◌∷◌, ◌++◌, map, Option, Some, None, option_map}
 use Rattle.cv_base.specs.declared.«package».PackageKind.{PackageKind}
 use Rattle.cv_base.specs.declared.advisory.Affected.{Affected}
 use Rattle.cv_base.specs.declared.advisory.Range.{Range}
@@ -9,7 +9,7 @@ use Rattle.cv_match.specs.declared.placed.Bound.{Bound}
 use Rattle.cv_match.specs.declared.placed.Bound.TheVariants.{Start, At, End}
 use Rattle.cv_match.specs.declared.placed.Placed.{Placed}
 use Rattle.cv_match.specs.declared.placed.Placed.TheVariants.{Introduced, Fixed, LastAffected, Limit}
-use Rattle.cv_match.specs.Within.{belongs, is_bound_of, is_range_of, is_readable, placed}
+use Rattle.cv_match.specs.Within.{is_bound_of, is_range_of, is_readable, placed}
 
 -- versions by their texts
 abbrev pub bound_text : {V : Type 0} → (V → List ℕ) → Bound V → Bound (List ℕ)

@@ -240,6 +240,60 @@ fn the_ecosystem_before_the_colon_matches(rt: HostRuntime) -> Result<(), Fail> {
     Ok(())
 }
 
+#[test]
+fn records_of_each_ecosystem_answer_for_its_packages(rt: HostRuntime) -> Result<(), Fail> {
+    let alloc = rt.alloc();
+    for (kind, ecosystem, range, fixed, version, want) in [
+        (
+            PackageKind::Deb,
+            "Debian:12",
+            RangeKind::Ecosystem,
+            "3.0.11-1",
+            "3.0.9-1",
+            "3.0.11-1",
+        ),
+        (
+            PackageKind::Deb,
+            "Debian:12",
+            RangeKind::Ecosystem,
+            "3.0.11-1",
+            "3.0.11-1",
+            "no",
+        ),
+        (
+            PackageKind::Apk,
+            "Alpine:v3.18",
+            RangeKind::Ecosystem,
+            "3.1.2-r0",
+            "3.1.1-r1",
+            "3.1.2-r0",
+        ),
+        (
+            PackageKind::Npm,
+            "npm",
+            RangeKind::Semver,
+            "1.0.1",
+            "1.0.0",
+            "1.0.1",
+        ),
+    ] {
+        let events: [(&str, &str); 2] = [("introduced", "0"), ("fixed", fixed)];
+        let told = row(alloc, kind, (ecosystem, ecosystem), range, &events, version)?;
+        assert_eq!(rt; told.as_str(), want, "{ecosystem} at {version}");
+    }
+    let endless: [(&str, &str); 1] = [("introduced", "0")];
+    let told = row(
+        alloc,
+        PackageKind::Npm,
+        ("npm", "npm"),
+        RangeKind::Semver,
+        &endless,
+        "1.0.0",
+    )?;
+    assert_eq!(rt; told.as_str(), "yes");
+    Ok(())
+}
+
 fn ordering(alloc: Global, a: &str, b: &str) -> Result<Option<Ordering>, NoMemory> {
     match SemanticVersion::read(alloc, &Text::of(alloc, a)?)? {
         Some(x) => match SemanticVersion::read(alloc, &Text::of(alloc, b)?)? {

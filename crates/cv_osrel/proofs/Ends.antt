@@ -1,5 +1,5 @@
 -- The bytes that are dropped at the end of a text.
-use Rattle.std.proofs.Common.{◌≡◌, ℕ, Bool, true, false, cond, List, [], ◌∷◌, ◌++◌, refl, sym, ap, ◌∙◌}
+use Rattle.std.proofs.Common.{◌≡◌, ℕ, Bool, true, false, List, [], ◌∷◌, ◌++◌, refl, sym, ap, ◌∙◌}
 use Rattle.cv_osrel.specs.System.{keep, without_end}
 
 more : (p : ℕ → Bool) (ys : List ℕ) (x : ℕ) → p x ≡ true → without_end p (ys ++ x ∷ []) ≡ without_end p ys

@@ -1,7 +1,7 @@
 -- The ecosystem of a package: cvwatch's own table, after the ecosystems of the OSV schema (`Debian:12`, `Alpine:v3.18`, `npm`).
 --
 -- `eco os kind` takes the system, or none where the root has no file os-release, and the kind of the package.
-use Rattle.std.specs.Prelude.{ℕ, Bool, ◌&&◌, ◌==◌, nat_le, if◌then◌else◌, not, List, [], ◌∷◌, ◌++◌, codes, Option, None, Some}
+use Rattle.std.specs.Prelude.{ℕ, Bool, ◌&&◌, ◌==◌, nat_le, if◌then◌else◌, List, [], ◌∷◌, ◌++◌, codes, Option, None, Some}
 use Rattle.std.specs.Option.{option_map_or}
 use Rattle.cv_base.specs.Texts.{same}
 use Rattle.cv_base.specs.declared.package.PackageKind.{PackageKind}

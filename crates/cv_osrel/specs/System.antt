@@ -3,7 +3,7 @@
 -- `os_of bytes` takes the bytes of the file and gives an `OsName`, its id and its version if it has one. It refuses nothing:
 -- a line that is no assignment is passed over. The last assignment of a name counts. An ID that is absent or empty is `linux`,
 -- and a VERSION_ID that is absent or empty is absent.
-use Rattle.std.specs.Prelude.{ℕ, Bool, true, false, ◌&&◌, ◌||◌, ◌==◌, nat_le, if◌then◌else◌, List, [], ◌∷◌, codes, map, Option, None, Some, option_and_then, unwrap_or}
+use Rattle.std.specs.Prelude.{ℕ, Bool, false, ◌&&◌, ◌||◌, ◌==◌, nat_le, if◌then◌else◌, List, [], ◌∷◌, codes, map, Option, None, Some, option_and_then, unwrap_or}
 use Rattle.std.specs.List.{list_all, slice_split}
 use Rattle.std.specs.Option.{option_map, option_or}
 use Rattle.std.specs.Str.{is_utf8}

@@ -1,4 +1,4 @@
-use cv_base::NoMemory;
+use cv_base::{NoMemory, RelPath, What};
 use thiserror::Error;
 
 /// The first fault of a tree. Entries are numbered from 0.
@@ -12,6 +12,27 @@ pub enum TreeFault {
     BadMark(u32),
     #[error("a layer has at most 1,000,000 entries")]
     TooMany,
+}
+
+/// Why an image has no packages. Layers are numbered from 0, the base first.
+#[derive(Debug, PartialEq, Eq, Drop, Error)]
+pub enum ImageFault {
+    #[error("layer {0} is not there")]
+    NoLayer(u32),
+    #[error("the tree of layer {0} is not good: {1}")]
+    BadTree(u32, TreeFault),
+    /// A line of a package file is bad. Lines are numbered from 1.
+    #[error("{path:?}, line {line}: {what:?}")]
+    BadFile {
+        path: RelPath,
+        line: u64,
+        what: What,
+    },
+    /// A package file has more bytes than a package file may have.
+    #[error("{path:?} is too large")]
+    TooLarge {
+        path: RelPath,
+    },
 }
 
 /// Why a tree was not laid.

@@ -18,7 +18,7 @@ mod outline;
 mod root;
 
 pub use check::{check_tree, fault_of};
-pub use fault::{OverlayError, TreeFault};
+pub use fault::{ImageFault, OverlayError, TreeFault};
 pub use mark::{Mark, mark_of};
 pub use outline::Outlined;
 pub use root::Root;

@@ -1,5 +1,5 @@
 -- Going over the entries of a root is going over its package files.
-use Rattle.std.proofs.Common.{◌≡◌, Bool, true, false, List, [], ◌∷◌, ◌++◌, map, refl, sym, ◌∙◌, ap, append_assoc}
+use Rattle.std.proofs.Common.{◌≡◌, Bool, true, false, List, [], ◌∷◌, ◌++◌, refl, sym, ◌∙◌, ap, append_assoc}
 use Rattle.std.specs.Prelude.{⊤, MatchBool, Option, Some, None, Result, Ok, Err}
 use Rattle.std.specs.List.{cons_option, filter_map}
 use Rattle.cv_base.specs.declared.fault.FileBad.{FileBad}

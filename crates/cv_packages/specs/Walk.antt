@@ -1,5 +1,5 @@
 -- The packages of a root as the code goes: entry by entry, where the definition goes over the package files.
-use Rattle.std.specs.Prelude.{Bool, List, [], ◌∷◌, ◌++◌, Option, Some, None, Result, Ok, Err}
+use Rattle.std.specs.Prelude.{Bool, List, [], ◌∷◌, ◌++◌, Option, Some, None, Result, Ok}
 use Rattle.cv_base.specs.declared.package.Package.{Package}
 use Rattle.cv_base.specs.declared.tree.TreeEntry.{TreeEntry}
 use Rattle.cv_osrel.specs.declared.name.OsName.{OsName}

@@ -64,12 +64,14 @@ fn content_in(node: &Node) -> Option<&Content>
     }
 }
 
+/// Whether a place is `etc/os-release`.
 pub fn is_etc(place: Place) -> bool
     ensures { result ≡ is_etc place }
 {
     matches!(place, Place::Os)
 }
 
+/// Whether a place is `usr/lib/os-release`.
 pub fn is_usr(place: Place) -> bool
     ensures { result ≡ is_usr place }
 {

@@ -1,9 +1,9 @@
 -- The layers of a manifest, one after the other.
 use Rattle.std.proofs.Common.{◌≡◌, ℕ, ◌+◌, Bool, true, false, List, [], ◌∷◌, ◌++◌, length, refl, ap, sym, ◌∙◌, arith, append_assoc}
 use Rattle.std.specs.Prelude.{⊤, MatchBool, Result, Ok, Err, codes}
-use Rattle.serde_json.specs.Data.{Data, Items, no_items, item}
+use Rattle.serde_json.specs.Data.{Data, Items, item}
 use Rattle.serde_json.specs.Find.{get}
-use Rattle.serde_json.specs.View.{view, items_view}
+use Rattle.serde_json.specs.View.{items_view}
 use Rattle.serde_json.specs.declared.value.Value.{Value}
 use Rattle.cv_osv.specs.Json.{◌>>=◌}
 use Rattle.cv_request.specs.Manifest.{count, digest_or, layer_of, layers_from, layers_in, manifest_of, object_or}

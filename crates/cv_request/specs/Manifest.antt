@@ -1,6 +1,6 @@
 -- What a JSON value is as the manifest of an image (after the manifests of Clair v4): its digest and those of its
 -- layers, or what is wrong with it. The order of what is wrong is cvwatch's own, and so is the limit of 128 layers.
-use Rattle.std.specs.Prelude.{ℕ, ◌+◌, ◌==◌, nat_lt, if◌then◌else◌, List, [], ◌∷◌, codes, Option, Some, None, is_some, option_and_then, Result, Ok, Err}
+use Rattle.std.specs.Prelude.{ℕ, ◌+◌, ◌==◌, nat_lt, if◌then◌else◌, List, [], ◌∷◌, codes, Option, is_some, option_and_then, Result, Ok, Err}
 use Rattle.std.specs.Option.{ok_or}
 use Rattle.serde_json.specs.Data.{Data, Items, no_items, item}
 use Rattle.serde_json.specs.Find.{get, as_array, as_object, as_str}

@@ -1,10 +1,10 @@
 -- No number of a line has a point.
-use Rattle.std.proofs.Common.{◌≡◌, ℕ, Bool, true, false, ◌||◌, List, [], ◌∷◌, map, refl}
+use Rattle.std.proofs.Common.{◌≡◌, ℕ, false, List, [], ◌∷◌, refl}
 use Rattle.std.specs.Prelude.{Option, Some, None}
-use Rattle.serde_json.specs.Data.{Data, Items, no_items, item, array}
+use Rattle.serde_json.specs.Data.{Data, Items}
 use Rattle.serde_json.specs.Written.{has_float}
 use Rattle.cv_base.specs.declared.finding.Finding.{Finding}
-use Rattle.cv_transcript.specs.Finding.{finding_data, findings_data, fixed_data, items_of}
+use Rattle.cv_transcript.specs.Finding.{finding_data, findings_data, fixed_data}
 use Rattle.cv_transcript.specs.Scan.{good_data}
 
 fixed_has_none : (fixed : Option (List ℕ)) → has_float (fixed_data fixed) ≡ false

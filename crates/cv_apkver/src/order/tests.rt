@@ -42,6 +42,9 @@ const RISING: [&str; 32] = [
     "1.0",
 ];
 
+// a release candidate, the release, a patch of it, its letter, one more number, and a build of that
+const RELEASES: [&str; 6] = ["1.2_rc1", "1.2", "1.2_p1", "1.2a", "1.2.0", "1.2.0-r1"];
+
 const EQUAL: [(&str, &str); 12] = [
     ("1.2", "1.2"),
     ("01.2", "1.2"),
@@ -61,6 +64,15 @@ const EQUAL: [(&str, &str); 12] = [
 fn orders_by_every_part(rt: HostRuntime) -> Result<(), Fail> {
     for (i, a) in SUFFIXES.iter().enumerate() {
         for (j, b) in SUFFIXES.iter().enumerate() {
+            assert_eq!(rt;
+                compare(a.as_bytes(), b.as_bytes()),
+                i.cmp(&j),
+                "{a} and {b}"
+            );
+        }
+    }
+    for (i, a) in RELEASES.iter().enumerate() {
+        for (j, b) in RELEASES.iter().enumerate() {
             assert_eq!(rt;
                 compare(a.as_bytes(), b.as_bytes()),
                 i.cmp(&j),

@@ -99,7 +99,16 @@ fn a_malformed_entry_is_refused(rt: HostRuntime) -> Result<(), Fail> {
             RecordWhat::BadPackage,
         ),
         ("{\"ranges\":{}}", RecordWhat::BadRange),
+        ("{}, {\"package\":7}", RecordWhat::BadPackage),
         ("{}, {\"ranges\":\"all\"}", RecordWhat::BadRange),
+        (
+            "{}, {\"ranges\":[{\"type\":\"GIT\"}, 7]}",
+            RecordWhat::BadRange,
+        ),
+        (
+            "{}, {\"ranges\":[{\"type\":\"GIT\",\"events\":[{}, 7]}]}",
+            RecordWhat::BadEvent,
+        ),
         ("{\"versions\":{}}", RecordWhat::BadVersions),
         ("{\"versions\":[7]}", RecordWhat::BadVersions),
         ("{\"versions\":[\"1\",null]}", RecordWhat::BadVersions),

@@ -1,4 +1,3 @@
-use Rattle.std.proofs.Common.{◌≡◌, refl}
 use Rattle.cv_match.proofs.matching.range_holds.Goals as goal
 
 pub returns-in-Some : goal.returns-in-Some

@@ -1,4 +1,4 @@
-use Rattle.std.proofs.Common.{◌≡◌, sym, ◌∙◌}
+use Rattle.std.proofs.Common.{sym, ◌∙◌}
 use Rattle.cv_osrel.proofs.Assignments.{other_name}
 use Rattle.cv_osrel.proofs.assignment.value_by.Goals as goal
 

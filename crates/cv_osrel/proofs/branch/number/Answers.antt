@@ -1,4 +1,3 @@
-use Rattle.std.proofs.Common.{◌≡◌}
 use Rattle.cv_osrel.proofs.Digits.{digits_utf8}
 use Rattle.cv_osrel.proofs.branch.number.Goals as goal
 

@@ -1,6 +1,5 @@
 use Rattle.std.proofs.Common.{◌≡◌, map}
 use Rattle.std.specs.Option.{option_map}
-use Rattle.cv_osrel.specs.Ecosystem.{eco}
 use Rattle.cv_packages.specs.Packages.{apk_package}
 use Rattle.cv_packages.proofs.package.apk_packages.Given as goal
 

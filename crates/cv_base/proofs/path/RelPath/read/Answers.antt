@@ -1,4 +1,4 @@
-use Rattle.std.proofs.Common.{◌≡◌, true, rules}
+use Rattle.std.proofs.Common.{rules}
 use Rattle.cv_base.proofs.PathLemmas.{components_no_nul}
 use Rattle.cv_base.proofs.path.RelPath.read.Goals as goal
 

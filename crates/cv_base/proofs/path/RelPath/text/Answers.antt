@@ -1,4 +1,4 @@
-use Rattle.std.proofs.Common.{◌≡◌, sym, ◌∙◌, ap}
+use Rattle.std.proofs.Common.{sym, ◌∙◌, ap}
 use Rattle.std.specs.List.{join_with_byte}
 use Rattle.cv_base.proofs.PathLemmas.{join_components}
 use Rattle.cv_base.proofs.path.RelPath.text.Goals as goal

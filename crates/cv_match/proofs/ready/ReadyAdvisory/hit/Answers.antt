@@ -1,4 +1,4 @@
-use Rattle.std.proofs.Common.{◌≡◌, ◌∙◌, ap, sym}
+use Rattle.std.proofs.Common.{◌∙◌, ap, sym}
 use Rattle.cv_base.specs.declared.«package».Package.{Package}
 use Rattle.cv_match.specs.Kinds.{Prepared, entries_kind, entries_text, version_text}
 use Rattle.cv_match.proofs.Meaning.{affects_withdrawn, ready_answer}
