@@ -12,8 +12,10 @@ mod json;
 mod part;
 mod range;
 mod record;
+mod record_list;
 mod records;
 
 pub use error::{AdvisoryError, OsvError, RecordWhat};
 pub use record::read_advisory;
-pub use records::{MAX_RECORDS, read_records};
+pub use record_list::{MAX_RECORDS, RecordList};
+pub use records::read_records;

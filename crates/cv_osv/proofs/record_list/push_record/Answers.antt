@@ -5,7 +5,7 @@ use Rattle.std.specs.Cmp.Lexicographic.{slice_cmp}
 use Rattle.std.specs.Ordering.{is_eq, nat_cmp}
 use Rattle.std.proofs.Common.{◌∙◌, sym, rules}
 use Rattle.cv_osv.proofs.Places.{distinct_more, indexes_more}
-use Rattle.cv_osv.proofs.records.push_record.Goals as goal
+use Rattle.cv_osv.proofs.record_list.push_record.Goals as goal
 
 -- no record had the id
 fresh : (c : goal.In_ok-push) → get (slice_cmp nat_cmp) c.args.places.now c.in_ok-record.record.id ≡ None
