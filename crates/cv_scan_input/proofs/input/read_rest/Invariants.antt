@@ -1,0 +1,18 @@
+-- The records so far, with what is left to read, are all, and each line took of the room.
+use Rattle.std.specs.Prelude.{◌≡◌, ◌+◌, ◌^◌, ◌≤◌, true, false}
+use Rattle.std.specs.Io.KnownBytes.{IsAtEnd}
+use Rattle.cv_io.specs.Reader.{reading, room_of}
+use Rattle.cv_scan_input.proofs.Going.{Going}
+use Rattle.cv_scan_input.proofs.input.read_rest.Given as goal
+
+abbrev pub invariant-loop-records : goal.invariant-loop-records
+invariant-loop-records g l = record {
+  going : l.reader.spent ≡ false;
+  told : Going l.fn.manifest (reading l.fn.reader (g.S.Source.left l.fn.input)) (reading l.reader (g.S.Source.left l.input)) l.records (l.number + 1);
+  seen : l.reader.ended ≡ true → IsAtEnd (g.S.Source.left l.input);
+  room : l.number + room_of l.reader ≤ 2 ^ 36 + 1;
+  later : g.S.Source.faults l.fn.input ≤ g.S.Source.faults l.input;
+}
+
+abbrev pub decreases-loop-records : goal.decreases-loop-records
+decreases-loop-records g l = room_of l.reader

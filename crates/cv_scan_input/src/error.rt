@@ -1,0 +1,49 @@
+use cv_io::LineError;
+use cv_request::RequestError;
+use cv_seq::NoMemory;
+use thiserror::Error;
+
+/// Why the input of a scan asks nothing.
+#[derive(Clone, Copy, Debug, PartialEq, Eq, Error)]
+pub enum InputError {
+    #[error("the input has no line")]
+    NoManifest,
+    /// Lines are numbered from 1, empty ones included.
+    #[error("line {line}: {error}")]
+    Refused { line: u64, error: RequestError },
+    #[error("the input could not be read")]
+    ReadFault,
+    #[error("a line is too long")]
+    LineTooLong,
+    #[error("the input is too long")]
+    InputTooLong,
+    #[error("out of memory")]
+    NoMemory,
+}
+
+impl From<NoMemory> for InputError {
+    ghost use Rattle.std.specs.Prelude.{◌≡◌};
+    ghost use Rattle.cv_scan_input.specs.declared.error.InputError.TheVariants as error;
+
+    ghost from_gives = { λ _ e. e ≡ error.NoMemory };
+
+    fn from(_error: NoMemory) -> InputError {
+        InputError::NoMemory
+    }
+}
+
+impl From<LineError> for InputError {
+    ghost use Rattle.std.specs.Prelude.{◌≡◌};
+    ghost use Rattle.cv_scan_input.specs.Answer.{stop_error};
+
+    ghost from_gives = { λ line e. e ≡ stop_error line };
+
+    fn from(error: LineError) -> InputError {
+        match error {
+            LineError::ReadFault => InputError::ReadFault,
+            LineError::LineTooLong => InputError::LineTooLong,
+            LineError::InputTooLong => InputError::InputTooLong,
+            LineError::NoMemory => InputError::NoMemory,
+        }
+    }
+}

@@ -1,0 +1,96 @@
+ghost use Rattle.std.specs.Prelude.{◌≡◌, ◌≤◌, ◌^◌, [], true, false, length, IfOk, IfSome, IsErrOf, OnOk};
+ghost use Rattle.std.specs.Io.KnownBytes.{IsAtEnd};
+ghost use Rattle.cv_seq.specs.Cause.{CausedBy};
+ghost use Rattle.cv_io.specs.Reader.{reading, room_of};
+ghost use Rattle.cv_osv.specs.Records.{HasDistinctIds};
+ghost use Rattle.cv_scan_input.specs.Answer.{IsAsked, is_input_fault};
+ghost use Rattle.cv_scan_input.specs.Asked.{asked_by, input_of};
+ghost use Rattle.cv_scan_input.specs.Left.{Begins, asked_left};
+ghost use Rattle.cv_scan_input.specs.declared.error.InputError.TheVariants as error;
+
+use crate::error::InputError;
+use crate::line::{manifest_line, record_line};
+use cv_base::{Advisory, Manifest, Seq};
+use cv_io::{Line, LineReader, Source};
+use cv_osv::RecordList;
+use std::alloc::Global;
+
+/// The most bytes of a line.
+const MAX_LINE: usize = 67_108_864;
+
+/// The input has fewer bytes.
+const MAX_INPUT: u64 = 1 << 36;
+
+/// What the input of a scan asks.
+#[derive(Debug, Drop)]
+pub struct ScanInput {
+    pub manifest: Manifest,
+    pub records: Seq<Advisory>,
+}
+
+/// Reads the input of a scan to its end, or up to the first line that is refused. Of the records one at a time stands
+/// in memory as JSON.
+pub fn read_scan_input<S: Source>(alloc: Global, input: &mut S) -> Result<ScanInput, InputError>
+    ensures told { IfSome (S.left input.old) (λ bytes. IsAsked (asked_by (input_of bytes)) result) }
+    ensures ended { OnOk result (IsAtEnd (S.left input.new)) }
+    ensures empty { IsErrOf result error.NoManifest → IsAtEnd (S.left input.new) }
+    ensures distinct { IfOk result (λ asked. HasDistinctIds asked.records) }
+    ensures within { IfOk result (λ asked. length asked.records ≤ 200000) }
+    ensures cause { CausedBy (S.faults input.old) (S.faults input.new) (is_input_fault result) }
+{
+    let mut reader = LineReader::new(alloc, MAX_LINE, MAX_INPUT)?;
+    let manifest = read_first(alloc, &mut reader, input)?;
+    read_rest(alloc, reader, input, manifest)
+}
+
+/// Reads line 1.
+#[tactic(auto, using(crate::proofs::Going::begins_more, crate::proofs::Going::begins_refused, crate::proofs::Going::begins_end, crate::proofs::Going::begins_stopped))]
+fn read_first<S: Source>(
+    alloc: Global,
+    reader: &mut LineReader,
+    input: &mut S,
+) -> Result<Manifest, InputError>
+    requires going { reader.old.spent ≡ false }
+    requires seen { reader.old.ended ≡ true → IsAtEnd (S.left input.old) }
+    ensures told { Begins (reading reader.old (S.left input.old)) (reading reader.new (S.left input.new)) result }
+    ensures going { OnOk result (reader.new.spent ≡ false) }
+    ensures seen { reader.new.ended ≡ true → IsAtEnd (S.left input.new) }
+    ensures empty { IsErrOf result error.NoManifest → IsAtEnd (S.left input.new) }
+    ensures room { OnOk result (room_of reader.new ≤ room_of reader.old) }
+    ensures cause { CausedBy (S.faults input.old) (S.faults input.new) (is_input_fault result) }
+{
+    match reader.next(alloc, input)? {
+        Line::Text(text) => manifest_line(alloc, text.as_slice()),
+        Line::End => Err(InputError::NoManifest),
+    }
+}
+
+/// Reads the lines behind line 1, to the end.
+#[tactic(auto, using(crate::proofs::Going::going_first, crate::proofs::Going::going_more, crate::proofs::Going::going_refused, crate::proofs::Going::going_end, crate::proofs::Going::going_stopped))]
+fn read_rest<S: Source>(
+    alloc: Global,
+    mut reader: LineReader,
+    input: &mut S,
+    manifest: Manifest,
+) -> Result<ScanInput, InputError>
+    requires going { reader.spent ≡ false }
+    requires seen { reader.ended ≡ true → IsAtEnd (S.left input.old) }
+    requires room { room_of reader ≤ 2 ^ 36 }
+    ensures told { IfSome (reading reader (S.left input.old)) (λ rest. IsAsked (asked_left manifest [] 2 rest) result) }
+    ensures ended { OnOk result (IsAtEnd (S.left input.new)) }
+    ensures begun { IsErrOf result error.NoManifest → ⊥ }
+    ensures distinct { IfOk result (λ asked. HasDistinctIds asked.records) }
+    ensures within { IfOk result (λ asked. length asked.records ≤ 200000) }
+    ensures cause { CausedBy (S.faults input.old) (S.faults input.new) (is_input_fault result) }
+{
+    let mut records = RecordList::new(alloc);
+    let mut number: u64 = 1;
+    while let Line::Text(text) = reader.next(alloc, input)? {
+        number += 1;
+        records = record_line(alloc, records, text.as_slice(), number)?;
+    }
+    Ok(ScanInput {
+        manifest,
+        records: records.into_seq(),
+    })
+}

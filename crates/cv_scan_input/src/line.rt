@@ -1,0 +1,100 @@
+ghost use Rattle.std.specs.Prelude.{◌≡◌, MatchBool, ⊤};
+ghost use Rattle.cv_base.specs.Answer.{Gives};
+ghost use Rattle.cv_request.specs.Line.{is_request_memory};
+ghost use Rattle.cv_scan_input.specs.Answer.{is_input_memory};
+ghost use Rattle.cv_scan_input.specs.Asked.{manifest_or};
+ghost use Rattle.cv_scan_input.specs.Left.{line_behind, record_behind, refused_at, requested, text_behind};
+ghost use Rattle.cv_scan_input.specs.declared.error.InputError.TheVariants as input;
+ghost use Rattle.serde_json.specs.View.{view};
+
+use crate::error::InputError;
+use cv_base::Manifest;
+use cv_osv::{OsvError, RecordList};
+use cv_request::{RequestError, RequestWhat, read_json, read_manifest};
+use serde_json::Value;
+use std::alloc::Global;
+
+/// The manifest that line 1 is.
+pub(crate) fn manifest_line(alloc: Global, line: &[u8]) -> Result<Manifest, InputError>
+    ensures { Gives is_input_memory (λ manifest. manifest) result (refused_at 1 (manifest_or line.now)) }
+{
+    match manifest_text(alloc, line) {
+        Ok(manifest) => Ok(manifest),
+        Err(error) => Err(refused_at(1, error)),
+    }
+}
+
+/// Reads a further line: one that is not empty puts its record behind the others.
+pub(crate) fn record_line(
+    alloc: Global,
+    records: RecordList,
+    line: &[u8],
+    number: u64,
+) -> Result<RecordList, InputError>
+    ensures { Gives is_input_memory (λ more. more) result (line_behind number records line.now) }
+{
+    if line.is_empty() {
+        return Ok(records);
+    }
+    match record_text(alloc, records, line) {
+        Ok(more) => Ok(more),
+        Err(error) => Err(refused_at(number, error)),
+    }
+}
+
+fn refused_at(line: u64, error: RequestError) -> InputError
+    ensures memory { is_input_memory result ≡ is_request_memory error }
+    ensures refused { MatchBool (is_request_memory error) ⊤ (result ≡ input.Refused line error) }
+{
+    match error {
+        RequestError::NoMemory => InputError::NoMemory,
+        error => InputError::Refused { line, error },
+    }
+}
+
+fn manifest_text(alloc: Global, text: &[u8]) -> Result<Manifest, RequestError>
+    ensures { Gives is_request_memory (λ manifest. manifest) result (manifest_or text.now) }
+{
+    match read_json(alloc, text) {
+        Ok(value) => read_manifest(alloc, &value),
+        Err(error) => Err(error),
+    }
+}
+
+fn record_text(alloc: Global, records: RecordList, text: &[u8]) -> Result<RecordList, RequestError>
+    ensures { Gives is_request_memory (λ more. more) result (text_behind records text.now) }
+{
+    match read_json(alloc, text) {
+        Ok(value) => record_value(alloc, records, &value),
+        Err(error) => Err(error),
+    }
+}
+
+fn record_value(
+    alloc: Global,
+    records: RecordList,
+    value: &Value,
+) -> Result<RecordList, RequestError>
+    ensures { Gives is_request_memory (λ more. more) result (record_behind records (view value.now)) }
+{
+    if records.is_full() {
+        return Err(RequestError::TooManyAdvisories);
+    }
+    match records.read(alloc, value) {
+        Ok(more) => Ok(more),
+        Err(error) => Err(requested(error)),
+    }
+}
+
+/// The refusal of records, as that of a line.
+fn requested(error: OsvError) -> RequestError
+    ensures { result ≡ requested error }
+{
+    match error {
+        OsvError::NotList => RequestError::BadRequest(RequestWhat::BadAdvisories),
+        OsvError::TooMany => RequestError::TooManyAdvisories,
+        OsvError::BadAdvisory { index, what } => RequestError::BadAdvisory { index, what },
+        OsvError::DuplicateId { first, second } => RequestError::DuplicateId { first, second },
+        OsvError::NoMemory => RequestError::NoMemory,
+    }
+}
