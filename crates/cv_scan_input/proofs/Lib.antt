@@ -1,2 +1,3 @@
+mod Examples
 pub mod Going
 pub mod Lines

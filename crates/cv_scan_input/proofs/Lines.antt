@@ -17,7 +17,7 @@ use Rattle.cv_request.specs.Line.{json_of}
 use Rattle.cv_request.specs.declared.error.RequestError.{RequestError}
 use Rattle.cv_request.specs.declared.error.RequestError.TheVariants.{BadJson, BadAdvisory, DuplicateId, TooManyAdvisories}
 use Rattle.cv_scan_input.specs.Answer.{IsRefusedBy}
-use Rattle.cv_scan_input.specs.Asked.{Asked, RefusedAt, Scan, NumberedLine, RecordRead, RefusedLine, at_stop, first_or, holds_id, line_fault, record_lines, records_in, refused_behind}
+use Rattle.cv_scan_input.specs.Asked.{Asked, RefusedAt, Scan, RecordLine, RecordRead, RefusedLine, at_stop, first_or, holds_id, line_fault, record_lines, records_in, refused_behind}
 use Rattle.cv_scan_input.specs.Left.{asked_left, line_behind, record_behind, reads_of, refused_at, requesting, text_behind}
 use Rattle.cv_scan_input.specs.declared.error.InputError.{InputError}
 use Rattle.cv_scan_input.specs.declared.error.InputError.TheVariants as input
@@ -41,18 +41,18 @@ fault_by count found (Err what) = cond (nat_le 200000 count) (Some TooManyAdviso
 fault_by count found (Ok here) = cond (nat_le 200000 count) (Some TooManyAdvisories) (option_map (λ first. DuplicateId first count) found)
 
 -- what a line asks that was read so and has this fault, with the lines behind it
-abbrev with_line : Manifest → Stop → ℕ → List NumberedLine → List Advisory → RecordRead → Option RequestError → Asked
+abbrev with_line : Manifest → Stop → ℕ → List RecordLine → List Advisory → RecordRead → Option RequestError → Asked
 with_line manifest stop number lines records found fault =
     first_or (option_to_list (option_map (at_line number) fault) ++ refused_behind (reads_of records ++ found ∷ []) lines)
     (at_stop stop (Scan manifest (records ++ (option_to_list (option_and_then (λ r. result_ok r) found) ++ records_in lines))))
 
 -- what the lines ask behind the records, or the refusal of the line before them
-abbrev then_lines : Manifest → Stop → ℕ → List NumberedLine → Result (List Advisory) RequestError → Asked
+abbrev then_lines : Manifest → Stop → ℕ → List RecordLine → Result (List Advisory) RequestError → Asked
 then_lines manifest stop number lines (Ok more) = first_or (refused_behind (reads_of more) lines) (at_stop stop (Scan manifest (more ++ records_in lines)))
 then_lines manifest stop number lines (Err error) = RefusedAt number error
 
 -- a record behind others, or the id of one of them
-new_record : (manifest : Manifest) (stop : Stop) (number : ℕ) (lines : List NumberedLine) (records : List Advisory) (here : Advisory) (is_full : Bool) (found : Option ℕ)
+new_record : (manifest : Manifest) (stop : Stop) (number : ℕ) (lines : List RecordLine) (records : List Advisory) (here : Advisory) (is_full : Bool) (found : Option ℕ)
     → with_line manifest stop number lines records (Some (Ok here)) (cond is_full (Some TooManyAdvisories) (option_map (λ first. DuplicateId first (length records)) found))
     ≡ then_lines manifest stop number lines (cond is_full (Err TooManyAdvisories) (requesting (pushed records here found)))
 new_record manifest stop number lines records here true found = refl
@@ -61,14 +61,14 @@ new_record manifest stop number lines records here false None =
     ap (λ before. first_or (refused_behind before lines) (at_stop stop (Scan manifest (records ++ here ∷ records_in lines)))) (sym (map-append (λ x. Some (Ok x)) records (here ∷ [])))
     ∙ ap (λ all. first_or (refused_behind (reads_of (records ++ here ∷ [])) lines) (at_stop stop (Scan manifest all))) (sym (append_assoc records (here ∷ []) (records_in lines)))
 
-bad_record : (manifest : Manifest) (stop : Stop) (number : ℕ) (lines : List NumberedLine) (records : List Advisory) (what : RecordWhat) (is_full : Bool)
+bad_record : (manifest : Manifest) (stop : Stop) (number : ℕ) (lines : List RecordLine) (records : List Advisory) (what : RecordWhat) (is_full : Bool)
     → with_line manifest stop number lines records (Some (Err what)) (cond is_full (Some TooManyAdvisories) (Some (BadAdvisory (length records) what)))
     ≡ then_lines manifest stop number lines (cond is_full (Err TooManyAdvisories) (Err (BadAdvisory (length records) what)))
 bad_record manifest stop number lines records what true = refl
 bad_record manifest stop number lines records what false = refl
 
 -- a value that was read as a record
-by_record : (manifest : Manifest) (stop : Stop) (number : ℕ) (lines : List NumberedLine) (records : List Advisory) (found : Result Advisory RecordWhat)
+by_record : (manifest : Manifest) (stop : Stop) (number : ℕ) (lines : List RecordLine) (records : List Advisory) (found : Result Advisory RecordWhat)
     → with_line manifest stop number lines records (Some found) (line_fault (reads_of records) (Some found))
     ≡ then_lines manifest stop number lines (cond (nat_le 200000 (length records)) (Err TooManyAdvisories) (requesting (one_more records found)))
 by_record manifest stop number lines records (Err what) =
@@ -80,7 +80,7 @@ by_record manifest stop number lines records (Ok here) =
     ∙ new_record manifest stop number lines records here (nat_le 200000 (length records)) (index_of here.id records)
 
 -- a text that was read as JSON, or not
-by_json : (manifest : Manifest) (stop : Stop) (number : ℕ) (lines : List NumberedLine) (records : List Advisory) (found : Option Data)
+by_json : (manifest : Manifest) (stop : Stop) (number : ℕ) (lines : List RecordLine) (records : List Advisory) (found : Option Data)
     → with_line manifest stop number lines records (option_map advisory_of found) (line_fault (reads_of records) (option_map advisory_of found))
     ≡ then_lines manifest stop number lines (ok_or found BadJson >>= record_behind records)
 by_json manifest stop number lines records None = refl

@@ -2,6 +2,7 @@
 use Rattle.std.specs.Prelude.{◌≡◌, Bool, true, false, Result, Ok, Err}
 use Rattle.cv_io.specs.declared.line.LineError.{LineError}
 use Rattle.cv_io.specs.declared.line.LineError.TheVariants as line
+use Rattle.cv_request.specs.Line.{is_request_memory}
 use Rattle.cv_scan_input.specs.Asked.{Asked, NoLine, RefusedAt, TooLongLine, TooLongInput, Scan}
 use Rattle.cv_scan_input.specs.declared.error.InputError.{InputError}
 use Rattle.cv_scan_input.specs.declared.error.InputError.TheVariants.{NoManifest, Refused, ReadFault, LineTooLong, InputTooLong, NoMemory}
@@ -22,6 +23,15 @@ is_input_memory ReadFault = false
 is_input_memory LineTooLong = false
 is_input_memory InputTooLong = false
 is_input_memory NoMemory = true
+
+-- a line is refused for want of memory
+abbrev pub refuses_memory : InputError → Bool
+refuses_memory NoManifest = false
+refuses_memory (Refused line error) = is_request_memory error
+refuses_memory ReadFault = false
+refuses_memory LineTooLong = false
+refuses_memory InputTooLong = false
+refuses_memory NoMemory = false
 
 -- the answer blames the source
 abbrev pub is_input_fault : {X : Type 0} → Result X InputError → Bool

@@ -1,7 +1,7 @@
 -- What the input of a scan asks (cvwatch's own): line 1 is the manifest of an image, and each further line that is not
 -- empty is one record of the OSV schema. Lines are numbered from 1, empty ones included, and records from 0. The first
 -- refused line is the answer; where no line is refused, how the reading stops; and else the manifest and the records.
-use Rattle.std.specs.Prelude.{ℕ, ◌+◌, ◌^◌, nat_le, Bool, true, false, if◌then◌else◌, List, [], ◌∷◌, ◌++◌, length, Option, Some, None, option_map, option_and_then, Result, Ok, Err}
+use Rattle.std.specs.Prelude.{ℕ, ◌+◌, ◌^◌, nat_le, Bool, true, false, if◌then◌else◌, List, [], ◌∷◌, ◌++◌, length, map, Option, Some, None, option_map, option_and_then, Result, Ok, Err}
 use Rattle.std.specs.List.{filter, flat_map, position_from}
 use Rattle.std.specs.Option.{option_to_list}
 use Rattle.std.specs.Result.{result_ok}
@@ -38,10 +38,6 @@ abbrev pub is_some_text : List ℕ → Bool
 is_some_text [] = false
 is_some_text (byte ∷ bytes) = true
 
--- of lines that are numbered on from here, those that are not empty
-abbrev pub record_lines : ℕ → List (List ℕ) → List NumberedLine
-record_lines number lines = filter (λ line. is_some_text line.text) (numbered number lines)
-
 -- the manifest that a line is, or why it is none
 abbrev pub manifest_or : List ℕ → Result Manifest RequestError
 manifest_or line = json_or line >>= λ d. refusing (manifest_of d)
@@ -54,6 +50,16 @@ RecordRead = Option (Result Advisory RecordWhat)
 
 abbrev pub record_read : List ℕ → RecordRead
 record_read text = option_map advisory_of (json_of text)
+
+-- a record line, by its number and what is read of it
+pub record RecordLine : Type 0 where
+  pub number : ℕ
+  pub found : RecordRead
+
+-- of lines that are numbered on from here, those that are not empty
+abbrev pub record_lines : ℕ → List (List ℕ) → List RecordLine
+record_lines number lines =
+    map (λ line. record { number = line.number; found = record_read line.text }) (filter (λ line. is_some_text line.text) (numbered number lines))
 
 -- a record with this id was read
 abbrev pub holds_id : List ℕ → RecordRead → Bool
@@ -76,15 +82,15 @@ pub record RefusedLine : Type 0 where
   pub error : RequestError
 
 -- the refused ones of record lines, in their order, behind what was read before
-abbrev pub refused_behind : List RecordRead → List NumberedLine → List RefusedLine
+abbrev pub refused_behind : List RecordRead → List RecordLine → List RefusedLine
 refused_behind before [] = []
 refused_behind before (line ∷ lines) =
-    option_to_list (option_map (λ error. record { line = line.number; error = error }) (line_fault before (record_read line.text)))
-    ++ refused_behind (before ++ record_read line.text ∷ []) lines
+    option_to_list (option_map (λ error. record { line = line.number; error = error }) (line_fault before line.found))
+    ++ refused_behind (before ++ line.found ∷ []) lines
 
 -- the records of record lines
-abbrev pub records_in : List NumberedLine → List Advisory
-records_in lines = flat_map (λ line. option_to_list (option_and_then (λ found. result_ok found) (record_read line.text))) lines
+abbrev pub records_in : List RecordLine → List Advisory
+records_in lines = flat_map (λ line. option_to_list (option_and_then (λ found. result_ok found) line.found)) lines
 
 -- ---- what is asked
 
@@ -113,7 +119,7 @@ first_or [] asked = asked
 first_or (refused ∷ later) asked = RefusedAt refused.line refused.error
 
 -- what record lines ask behind the manifest
-abbrev pub asked_behind : Result Manifest RequestError → List NumberedLine → Stop → Asked
+abbrev pub asked_behind : Result Manifest RequestError → List RecordLine → Stop → Asked
 asked_behind (Err error) lines stop = RefusedAt 1 error
 asked_behind (Ok manifest) lines stop = first_or (refused_behind [] lines) (at_stop stop (Scan manifest (records_in lines)))
 

@@ -1,9 +1,9 @@
-ghost use Rattle.std.specs.Prelude.{◌≡◌, ◌≤◌, ◌^◌, [], true, false, length, IfOk, IfSome, IsErrOf, OnOk};
+ghost use Rattle.std.specs.Prelude.{◌≡◌, ◌≤◌, ◌^◌, [], true, false, length, IfErr, IfOk, IfSome, IsErrOf, OnOk};
 ghost use Rattle.std.specs.Io.KnownBytes.{IsAtEnd};
 ghost use Rattle.cv_seq.specs.Cause.{CausedBy};
 ghost use Rattle.cv_io.specs.Reader.{reading, room_of};
 ghost use Rattle.cv_osv.specs.Records.{HasDistinctIds};
-ghost use Rattle.cv_scan_input.specs.Answer.{IsAsked, is_input_fault};
+ghost use Rattle.cv_scan_input.specs.Answer.{IsAsked, is_input_fault, refuses_memory};
 ghost use Rattle.cv_scan_input.specs.Asked.{asked_by, input_of};
 ghost use Rattle.cv_scan_input.specs.Left.{Begins, asked_left};
 ghost use Rattle.cv_scan_input.specs.declared.error.InputError.TheVariants as error;
@@ -34,6 +34,7 @@ pub fn read_scan_input<S: Source>(alloc: Global, input: &mut S) -> Result<ScanIn
     ensures told { IfSome (S.left input.old) (λ bytes. IsAsked (asked_by (input_of bytes)) result) }
     ensures ended { OnOk result (IsAtEnd (S.left input.new)) }
     ensures empty { IsErrOf result error.NoManifest → IsAtEnd (S.left input.new) }
+    ensures named { IfErr result (λ refused. refuses_memory refused ≡ false) }
     ensures distinct { IfOk result (λ asked. HasDistinctIds asked.records) }
     ensures within { IfOk result (λ asked. length asked.records ≤ 200000) }
     ensures cause { CausedBy (S.faults input.old) (S.faults input.new) (is_input_fault result) }
@@ -56,6 +57,7 @@ fn read_first<S: Source>(
     ensures going { OnOk result (reader.new.spent ≡ false) }
     ensures seen { reader.new.ended ≡ true → IsAtEnd (S.left input.new) }
     ensures empty { IsErrOf result error.NoManifest → IsAtEnd (S.left input.new) }
+    ensures named { IfErr result (λ refused. refuses_memory refused ≡ false) }
     ensures room { OnOk result (room_of reader.new ≤ room_of reader.old) }
     ensures cause { CausedBy (S.faults input.old) (S.faults input.new) (is_input_fault result) }
 {
@@ -79,6 +81,7 @@ fn read_rest<S: Source>(
     ensures told { IfSome (reading reader (S.left input.old)) (λ rest. IsAsked (asked_left manifest [] 2 rest) result) }
     ensures ended { OnOk result (IsAtEnd (S.left input.new)) }
     ensures begun { IsErrOf result error.NoManifest → ⊥ }
+    ensures named { IfErr result (λ refused. refuses_memory refused ≡ false) }
     ensures distinct { IfOk result (λ asked. HasDistinctIds asked.records) }
     ensures within { IfOk result (λ asked. length asked.records ≤ 200000) }
     ensures cause { CausedBy (S.faults input.old) (S.faults input.new) (is_input_fault result) }
@@ -94,3 +97,6 @@ fn read_rest<S: Source>(
         records: records.into_seq(),
     })
 }
+
+#[cfg(test)]
+mod tests;

@@ -1,7 +1,7 @@
-ghost use Rattle.std.specs.Prelude.{◌≡◌, MatchBool, ⊤};
+ghost use Rattle.std.specs.Prelude.{◌≡◌, false, MatchBool, ⊤, IfErr};
 ghost use Rattle.cv_base.specs.Answer.{Gives};
 ghost use Rattle.cv_request.specs.Line.{is_request_memory};
-ghost use Rattle.cv_scan_input.specs.Answer.{is_input_memory};
+ghost use Rattle.cv_scan_input.specs.Answer.{is_input_memory, refuses_memory};
 ghost use Rattle.cv_scan_input.specs.Asked.{manifest_or};
 ghost use Rattle.cv_scan_input.specs.Left.{line_behind, record_behind, refused_at, requested, text_behind};
 ghost use Rattle.cv_scan_input.specs.declared.error.InputError.TheVariants as input;
@@ -16,12 +16,10 @@ use std::alloc::Global;
 
 /// The manifest that line 1 is.
 pub(crate) fn manifest_line(alloc: Global, line: &[u8]) -> Result<Manifest, InputError>
-    ensures { Gives is_input_memory (λ manifest. manifest) result (refused_at 1 (manifest_or line.now)) }
+    ensures told { Gives is_input_memory (λ manifest. manifest) result (refused_at 1 (manifest_or line.now)) }
+    ensures named { IfErr result (λ error. refuses_memory error ≡ false) }
 {
-    match manifest_text(alloc, line) {
-        Ok(manifest) => Ok(manifest),
-        Err(error) => Err(refused_at(1, error)),
-    }
+    manifest_text(alloc, line).map_err(|error| refused_at(1, error))
 }
 
 /// Reads a further line: one that is not empty puts its record behind the others.
@@ -31,18 +29,18 @@ pub(crate) fn record_line(
     line: &[u8],
     number: u64,
 ) -> Result<RecordList, InputError>
-    ensures { Gives is_input_memory (λ more. more) result (line_behind number records line.now) }
+    ensures told { Gives is_input_memory (λ more. more) result (line_behind number records line.now) }
+    ensures named { IfErr result (λ error. refuses_memory error ≡ false) }
 {
     if line.is_empty() {
         return Ok(records);
     }
-    match record_text(alloc, records, line) {
-        Ok(more) => Ok(more),
-        Err(error) => Err(refused_at(number, error)),
-    }
+    record_text(alloc, records, line).map_err(|error| refused_at(number, error))
 }
 
+/// A refusal at its line. Want of memory refuses no line.
 fn refused_at(line: u64, error: RequestError) -> InputError
+    ensures named { refuses_memory result ≡ false }
     ensures memory { is_input_memory result ≡ is_request_memory error }
     ensures refused { MatchBool (is_request_memory error) ⊤ (result ≡ input.Refused line error) }
 {
@@ -80,10 +78,7 @@ fn record_value(
     if records.is_full() {
         return Err(RequestError::TooManyAdvisories);
     }
-    match records.read(alloc, value) {
-        Ok(more) => Ok(more),
-        Err(error) => Err(requested(error)),
-    }
+    records.read(alloc, value).map_err(requested)
 }
 
 /// The refusal of records, as that of a line.

@@ -15,5 +15,5 @@ returns-in_err-records-clause-told g c =
     let error = c.in_err-records.field-0.0 in
     going_handed c.args.manifest whole error _
     (going_refused c.args.manifest whole before now c.loop-records.records _ c.in-Text.text error c.loop-records.invariant.told read
-    (rw (← c.as_slice.ensures) c.in_err-records.ensures))
+    (rw (← c.as_slice.ensures) c.in_err-records.ensures.told))
     c.from_residual-in_err-records.ensures.1
