@@ -53,19 +53,15 @@ fn refused_at(line: u64, error: RequestError) -> InputError
 fn manifest_text(alloc: Global, text: &[u8]) -> Result<Manifest, RequestError>
     ensures { Gives is_request_memory (λ manifest. manifest) result (manifest_or text.now) }
 {
-    match read_json(alloc, text) {
-        Ok(value) => read_manifest(alloc, &value),
-        Err(error) => Err(error),
-    }
+    let value = read_json(alloc, text)?;
+    read_manifest(alloc, &value)
 }
 
 fn record_text(alloc: Global, records: RecordList, text: &[u8]) -> Result<RecordList, RequestError>
     ensures { Gives is_request_memory (λ more. more) result (text_behind records text.now) }
 {
-    match read_json(alloc, text) {
-        Ok(value) => record_value(alloc, records, &value),
-        Err(error) => Err(error),
-    }
+    let value = read_json(alloc, text)?;
+    record_value(alloc, records, &value)
 }
 
 fn record_value(
