@@ -58,7 +58,7 @@ impl RecordList {
     }
 
     /// Reads a record as `read_advisory` does, and puts it behind the others. Its own fault is told, and else an
-    /// earlier record with its id.
+    /// earlier record with its id. A refusal drops the list.
     pub fn read(mut self, alloc: Global, value: &Value) -> Result<RecordList, OsvError>
         requires room { length self < 200000 }
         ensures told { Gives is_osv_memory (λ records. records) result (one_more self (advisory_of (view value.now))) }
