@@ -1,5 +1,3 @@
-ghost use Rattle.std.specs.Prelude.{◌≡◌};
-
 use super::*;
 use cv_io::{CalmSource, MemSource};
 use cv_osv::RecordWhat;
