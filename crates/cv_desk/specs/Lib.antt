@@ -1,3 +1,4 @@
+pub mod Failing
 pub mod Fault
 pub mod Loaded
 pub mod Row
