@@ -4,4 +4,6 @@ pub mod Loaded
 pub mod Row
 pub mod Stored
 pub mod Table
+pub mod TableLaws
 pub mod TableRow
+pub mod TableSteps

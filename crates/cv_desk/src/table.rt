@@ -2,8 +2,9 @@ ghost use Rattle.std.specs.Prelude.{◌≡◌, ℕ, List, Option, map, IfOk, OnO
 ghost use Rattle.std.specs.Option.{option_map};
 ghost use Rattle.cv_desk.specs.Row.{Row};
 ghost use Rattle.cv_desk.specs.Stored.{file_read, item_at, listed};
-ghost use Rattle.cv_desk.specs.Table.{item_of, stands, tree_of_rows, with_entry, with_row};
+ghost use Rattle.cv_desk.specs.Table.{item_of, tree_of_rows};
 ghost use Rattle.cv_desk.specs.TableRow.{row_of, stored_of};
+ghost use Rattle.cv_desk.specs.TableSteps.{stands, with_entry, with_row};
 
 use crate::desk::{Desk, DeskFault, FileRead};
 use cv_base::{Digest, Kind, ListEntry, PathError, RelPath};
@@ -52,7 +53,8 @@ impl<T: Table> TableDesk<T> {
 impl<T: Table> Desk for TableDesk<T> {
     ghost use Rattle.std.specs.Prelude.{Some};
     ghost use Rattle.std.specs.Option.{option_map};
-    ghost use Rattle.cv_desk.specs.Table.{table_distinct, tree_of_rows};
+    ghost use Rattle.cv_desk.specs.Table.{tree_of_rows};
+    ghost use Rattle.cv_desk.specs.TableLaws.{table_distinct};
 
     ghost tree = { λ d. Some (option_map tree_of_rows (T.rows d)) };
 
@@ -93,6 +95,7 @@ struct Entry {
 }
 
 /// The entries that rows make.
+#[tactic(auto, using(crate::specs::TableLaws::rows_added))]
 fn entries(alloc: Global, rows: &[TableEntry]) -> Result<Vec<Entry>, NoMemory>
     ensures { IfOk result (λ out. map stored_of out.items ≡ tree_of_rows (map row_of rows.now)) }
 {

@@ -1,7 +1,8 @@
 use Rattle.std.proofs.Common.{◌≡◌, map, drop}
 use Rattle.std.specs.Prelude.{fold}
-use Rattle.cv_desk.specs.Table.{tree_of_rows, with_row}
+use Rattle.cv_desk.specs.Table.{tree_of_rows}
 use Rattle.cv_desk.specs.TableRow.{row_of, stored_of}
+use Rattle.cv_desk.specs.TableSteps.{with_row}
 use Rattle.cv_desk.proofs.table.entries.Given as goal
 
 -- the entries so far, with the rows that are left, make the tree of all

@@ -1,5 +1,5 @@
 use Rattle.std.proofs.Common.{◌≡◌, map, drop}
-use Rattle.cv_desk.specs.Table.{stands}
+use Rattle.cv_desk.specs.TableSteps.{stands}
 use Rattle.cv_desk.specs.TableRow.{stored_of}
 use Rattle.cv_desk.proofs.table.stands.Given as goal
 

@@ -1,0 +1,24 @@
+-- How one more row of a table is added to the entries of those before it. The law of TableLaws ties it to the tree.
+use Rattle.std.specs.Prelude.{Bool, if◌then◌else◌, List, [], ◌∷◌, ◌++◌, Result, Ok, Err}
+use Rattle.std.specs.List.{list_any}
+use Rattle.cv_base.specs.Path.{Path, path_of, same_path}
+use Rattle.cv_base.specs.declared.path.PathError.{PathError}
+use Rattle.cv_desk.specs.Row.{Row}
+use Rattle.cv_desk.specs.Stored.{Stored}
+use Rattle.cv_desk.specs.Table.{item_of}
+
+-- whether a path stands among the entries
+abbrev pub stands : List Stored → Path → Bool
+stands entries path = list_any (λ e. same_path e.path path) entries
+
+-- the entries with one more, unless its path stands among them
+abbrev pub with_entry : List Stored → Stored → List Stored
+with_entry entries entry = if stands entries entry.path then entries else entries ++ entry ∷ []
+
+-- the entries with that of one more row, if its text is a path
+abbrev pub with_read : List Stored → Row → Result Path PathError → List Stored
+with_read entries row (Ok path) = with_entry entries (record { path = path; item = item_of row.kind row.bytes })
+with_read entries row (Err error) = entries
+
+abbrev pub with_row : List Stored → Row → List Stored
+with_row entries row = with_read entries row (path_of row.path)
