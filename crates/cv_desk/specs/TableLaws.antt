@@ -13,7 +13,7 @@ use Rattle.cv_desk.specs.TableSteps.{stands, with_entry, with_read, with_row}
 
 -- No path stands twice in entries that were added one by one.
 
-any_snoc : {X : Type 0} (p : X → Bool) (xs : List X) (x : X) → list_any p (xs ++ x ∷ []) ≡ list_any p xs || p x
+pub any_snoc : {X : Type 0} (p : X → Bool) (xs : List X) (x : X) → list_any p (xs ++ x ∷ []) ≡ list_any p xs || p x
 any_snoc p [] x = or_false (p x) where
   or_false : (b : Bool) → b || false ≡ b
   or_false true = refl
@@ -75,7 +75,7 @@ same_is (x ∷ xs) (y ∷ ys) h =
     let rest = same_is xs ys (and_right (x == y) (same xs ys) h) in
     cc
 
-path_is : (p q : Path) → same_path p q ≡ true → p ≡ q
+pub path_is : (p q : Path) → same_path p q ≡ true → p ≡ q
 path_is [] [] h = refl
 path_is [] (y ∷ ys) h = cc
 path_is (x ∷ xs) [] h = cc

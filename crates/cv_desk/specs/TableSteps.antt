@@ -1,7 +1,8 @@
 -- How one more row of a table is added to the entries of those before it. The law of TableLaws ties it to the tree.
-use Rattle.std.specs.Prelude.{Bool, if◌then◌else◌, List, [], ◌∷◌, ◌++◌, Result, Ok, Err}
+use Rattle.std.specs.Prelude.{◌≡◌, Bool, if◌then◌else◌, List, [], ◌∷◌, ◌++◌, Result, Ok, Err}
+use Rattle.std.specs.BTreeSet.{BTreeSet, contains}
 use Rattle.std.specs.List.{list_any}
-use Rattle.cv_base.specs.Path.{Path, path_of, same_path}
+use Rattle.cv_base.specs.Path.{Path, path_cmp, path_of, same_path}
 use Rattle.cv_base.specs.declared.path.PathError.{PathError}
 use Rattle.cv_desk.specs.Row.{Row}
 use Rattle.cv_desk.specs.Stored.{Stored}
@@ -10,6 +11,10 @@ use Rattle.cv_desk.specs.Table.{item_of}
 -- whether a path stands among the entries
 abbrev pub stands : List Stored → Path → Bool
 stands entries path = list_any (λ e. same_path e.path path) entries
+
+-- the set has the paths of the entries, and no others
+abbrev pub HasPaths : BTreeSet Path → List Stored → Type 0
+HasPaths paths entries = (p : Path) → contains path_cmp paths p ≡ stands entries p
 
 -- the entries with one more, unless its path stands among them
 abbrev pub with_entry : List Stored → Stored → List Stored

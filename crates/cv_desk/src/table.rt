@@ -4,12 +4,13 @@ ghost use Rattle.cv_desk.specs.Row.{Row};
 ghost use Rattle.cv_desk.specs.Stored.{file_read, item_at, listed};
 ghost use Rattle.cv_desk.specs.Table.{item_of, tree_of_rows};
 ghost use Rattle.cv_desk.specs.TableRow.{row_of, stored_of};
-ghost use Rattle.cv_desk.specs.TableSteps.{stands, with_entry, with_row};
+ghost use Rattle.cv_desk.specs.TableSteps.{HasPaths, with_entry, with_row};
 
 use crate::desk::{Desk, DeskFault, FileRead};
 use cv_base::{Digest, Kind, ListEntry, PathError, RelPath};
 use cv_seq::{NoMemory, Seq};
 use std::alloc::Global;
+use std::collections::BTreeSet;
 use std::marker::PhantomData;
 
 /// A row of a table of layers.
@@ -100,27 +101,43 @@ fn entries(alloc: Global, rows: &[TableEntry]) -> Result<Vec<Entry>, NoMemory>
     ensures { IfOk result (λ out. map stored_of out.items ≡ tree_of_rows (map row_of rows.now)) }
 {
     let mut out = Vec::new(alloc);
+    let mut paths = BTreeSet::new(alloc);
     for row in rows {
-        add_row(alloc, &mut out, row)?;
+        add_row(alloc, &mut out, &mut paths, row)?;
     }
     Ok(out)
 }
 
-/// Adds the entry of one more row, if it makes one.
-fn add_row(alloc: Global, out: &mut Vec<Entry>, row: &TableEntry) -> Result<(), NoMemory>
-    ensures { OnOk result (map stored_of out.new.items ≡ with_row (map stored_of out.old.items) (row_of row.now)) }
+/// Adds the entry of one more row, if it makes one. `paths` has the paths of the entries.
+fn add_row(
+    alloc: Global,
+    out: &mut Vec<Entry>,
+    paths: &mut BTreeSet<RelPath>,
+    row: &TableEntry,
+) -> Result<(), NoMemory>
+    requires { HasPaths paths.old (map stored_of out.old.items) }
+    ensures entries { OnOk result (map stored_of out.new.items ≡ with_row (map stored_of out.old.items) (row_of row.now)) }
+    ensures paths { OnOk result (HasPaths paths.new (map stored_of out.new.items)) }
 {
     match RelPath::read(alloc, row.path) {
-        Ok(path) => add_entry(out, path, row),
+        Ok(path) => add_entry(out, paths, path, row),
         Err(PathError::NoMemory) => Err(NoMemory),
         Err(PathError::Empty | PathError::TooLong | PathError::BadComponent) => Ok(()),
     }
 }
 
-fn add_entry(out: &mut Vec<Entry>, path: RelPath, row: &TableEntry) -> Result<(), NoMemory>
-    ensures { OnOk result (map stored_of out.new.items ≡ with_entry (map stored_of out.old.items) (record { path = path; item = item_of row.now.kind row.now.bytes.now })) }
+/// Adds the entry of a row of this path, unless the path stands already.
+fn add_entry(
+    out: &mut Vec<Entry>,
+    paths: &mut BTreeSet<RelPath>,
+    path: RelPath,
+    row: &TableEntry,
+) -> Result<(), NoMemory>
+    requires { HasPaths paths.old (map stored_of out.old.items) }
+    ensures entries { OnOk result (map stored_of out.new.items ≡ with_entry (map stored_of out.old.items) (record { path = path; item = item_of row.now.kind row.now.bytes.now })) }
+    ensures paths { OnOk result (HasPaths paths.new (map stored_of out.new.items)) }
 {
-    if stands(out.as_slice(), &path) {
+    if !paths.insert(path.clone()?)? {
         return Ok(());
     }
     out.push(Entry {
@@ -129,17 +146,6 @@ fn add_entry(out: &mut Vec<Entry>, path: RelPath, row: &TableEntry) -> Result<()
         bytes: row.bytes,
     })?;
     Ok(())
-}
-
-fn stands(entries: &[Entry], path: &RelPath) -> bool
-    ensures { result ≡ stands (map stored_of entries.now) path.now }
-{
-    for entry in entries {
-        if entry.path == *path {
-            return true;
-        }
-    }
-    false
 }
 
 /// The entries as a listing tells them.
