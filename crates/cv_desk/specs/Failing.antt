@@ -1,6 +1,6 @@
 -- A desk before another one, whose calls fail by a list (cvwatch's own, for tests). Listings and reads are numbered
 -- together, from 1 up to the last value of 64 bits.
-use Rattle.std.specs.Prelude.{◌≡◌, ℕ, ◌+◌, ◌-◌, ◌^◌, ◌==◌, min, Bool, true, false, if◌then◌else◌, List}
+use Rattle.std.specs.Prelude.{ℕ, ◌+◌, ◌-◌, ◌^◌, ◌==◌, min, Bool, if◌then◌else◌, List}
 use Rattle.std.specs.List.{list_any}
 
 -- such a desk: the one behind it, the numbers of the calls that are to fail, how many calls were made, how many of them

@@ -130,6 +130,9 @@ fn the_second_and_third_call_fail_be_they_listings_or_reads(rt: HostRuntime) -> 
     assert_eq!(rt; desk.list(alloc, &layer), Ok(Some(entries(alloc)?)));
     assert_eq!(rt; desk.read(alloc, &layer, &path, 4), Err(DeskFault::Failed));
     assert_eq!(rt; desk.list(alloc, &layer), Err(DeskFault::Failed));
-    assert_eq!(rt; desk.read(alloc, &layer, &path, 4), Ok(bytes(alloc, "four")?));
+    assert_eq!(rt;
+        desk.read(alloc, &layer, &path, 4),
+        Ok(bytes(alloc, "four")?)
+    );
     Ok(())
 }

@@ -12,5 +12,5 @@ returns-clause-paths c =
     let key : c.in_ok-clone.field-0 ≡ c.args.path = c.in_ok-clone.ensures.cases in
     let more : HasOneMore c.args.paths.now c.insert.new.self c.args.path = λ q. rw (← key) (c.in_ok-insert.ensures.updates.0 q) in
     let items : map stored_of c.push.new.self.items ≡ map stored_of c.args.out.now.items ++ entry ∷ [] =
-        ap (map stored_of) c.in_ok-push.ensures.items ∙ map-append stored_of c.args.out.now.items (record { path = c.args.path; kind = c.args.row.now.kind; bytes = c.args.row.now.bytes } ∷ []) in
+    ap (map stored_of) c.in_ok-push.ensures.items ∙ map-append stored_of c.args.out.now.items (record { path = c.args.path; kind = c.args.row.now.kind; bytes = c.args.row.now.bytes } ∷ []) in
     rw items (paths_more c.args.paths.now c.insert.new.self (map stored_of c.args.out.now.items) entry c.requires more)
