@@ -1,1 +1,3 @@
+pub mod Failures
 pub mod LoadedLayers
+pub mod PathSets

@@ -6,10 +6,8 @@ use Rattle.std.specs.Cmp.Lexicographic.{nat_list_eq_equiv, lists_equiv}
 use Rattle.std.specs.List.{AllByRecursion, list_all, list_any}
 use Rattle.cv_base.specs.Path.{Path, same_path}
 use Rattle.cv_base.specs.Place.{place_of}
-use Rattle.cv_base.specs.declared.tree.Content.{Content}
 use Rattle.cv_base.specs.declared.tree.Content.TheVariants.{Bytes, TooLarge, Unread}
 use Rattle.cv_base.specs.declared.tree.ListEntry.{ListEntry}
-use Rattle.cv_base.specs.declared.tree.Node.{Node}
 use Rattle.cv_base.specs.declared.tree.Node.TheVariants as node
 use Rattle.cv_base.specs.declared.tree.Tree.{Tree}
 use Rattle.cv_base.specs.declared.tree.TreeEntry.{TreeEntry}

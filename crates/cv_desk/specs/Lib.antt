@@ -1,6 +1,10 @@
+pub mod Failing
 pub mod Fault
 pub mod Loaded
 pub mod Row
+pub mod Sample
 pub mod Stored
 pub mod Table
+pub mod TableLaws
 pub mod TableRow
+pub mod TableSteps

@@ -1,5 +1,4 @@
 -- A row of a table in the program, as plain data.
-use Rattle.std.specs.Prelude.{ℕ}
 use Rattle.cv_desk.specs.Row.{Row}
 use Rattle.cv_desk.specs.Stored.{Stored}
 use Rattle.cv_desk.specs.Table.{item_of}

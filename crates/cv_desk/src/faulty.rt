@@ -1,12 +1,18 @@
-ghost use Rattle.std.specs.Prelude.{◌≡◌, ◌<◌, ◌≤◌, ◌^◌, MatchBool};
-ghost use Rattle.cv_seq.specs.Cause.{Rose};
+ghost use Rattle.std.specs.Prelude.{◌≡◌, ◌+◌, ◌<◌, ◌^◌, MatchBool, IfOk, IfSome, map};
+ghost use Rattle.std.specs.Option.{option_map};
+ghost use Rattle.cv_seq.specs.Cause.{CausedBy};
+ghost use Rattle.cv_desk.specs.Failing.{fails_next, faults_after, next};
+ghost use Rattle.cv_desk.specs.Fault.{is_failed};
+ghost use Rattle.cv_desk.specs.Stored.{file_read, item_in, listed};
 
 use crate::desk::{Desk, DeskFault, FileRead};
 use cv_base::{Digest, ListEntry, RelPath};
 use cv_seq::Seq;
 use std::alloc::Global;
+use std::marker::Model;
 
-/// A desk before another one, some of whose calls fail. Listings and reads are numbered together, from 1.
+/// A desk before another one, some of whose calls fail. Listings and reads are numbered together, from 1. A call
+/// that is to fail answers `Failed` and does not reach the desk behind; every other call is that desk's own.
 #[derive(Drop)]
 pub struct Faulty<D: Desk> {
     desk: D,
@@ -14,14 +20,26 @@ pub struct Faulty<D: Desk> {
     calls: u64,
     faults: u64,
     listings: u64,
-    ghost inner: { D.listings desk ≤ listings },
+}
+
+impl<D: Desk> Model for Faulty<D> {
+    ghost use Rattle.std.specs.Prelude.{◌≤◌};
+    ghost use Rattle.cv_desk.specs.Failing.{Failing};
+
+    ghost Value = { Failing D };
+
+    ghost view = { λ s. record { desk = s.desk; fails = s.fails; calls = s.calls; faults = s.faults; listings = s.listings } };
+
+    ghost invariant = { λ s. D.listings s.desk ≤ s.listings };
 }
 
 impl<D: Desk> Faulty<D> {
-    /// A desk of which the calls with these numbers are to fail.
+    /// A desk of which the calls with these numbers are to fail. No call was made yet.
     pub fn new(desk: D, fails: Seq<u64>) -> Faulty<D>
         requires { D.listings desk ≡ 0 }
-        ensures listings { ⟦<Faulty<D> as Desk>⟧.listings result ≡ 0 }
+        ensures made { result ≡ record { desk = desk; fails = fails; calls = 0; faults = 0; listings = 0 } }
+        ensures faults { ⟦<Faulty<D> as Desk>⟧.faults result ≡ D.faults desk }
+        ensures listings { ⟦<Faulty<D> as Desk>⟧.listings result ≡ D.listings desk }
     {
         Faulty {
             desk,
@@ -34,15 +52,14 @@ impl<D: Desk> Faulty<D> {
 
     /// Counts a call, and whether it is to fail.
     fn begin(&mut self) -> bool
-        ensures same { (self.new.desk ≡ self.old.desk) × (self.new.listings ≡ self.old.listings) }
+        ensures fails { result ≡ fails_next self.old }
         ensures small { self.old.faults < 2 ^ 64 }
-        ensures rose { MatchBool result (Rose self.old.faults self.new.faults) (self.new.faults ≡ self.old.faults) }
+        ensures counted { self.new ≡ record self.old { calls = next self.old.calls; faults = faults_after (fails_next self.old) self.old.faults } }
     {
-        let faults = self.faults;
         self.calls = self.calls.saturating_add(1);
         let fails = self.fails.as_slice().contains(&self.calls);
         if fails {
-            self.faults = faults.saturating_add(1);
+            self.faults = self.faults.saturating_add(1);
         }
         fails
     }
@@ -59,7 +76,17 @@ impl<D: Desk> Desk for Faulty<D> {
 
     ghost distinct = { D.distinct };
 
-    fn list(&mut self, alloc: Global, layer: &Digest) -> Result<Option<Seq<ListEntry>>, DeskFault> {
+    fn list(&mut self, alloc: Global, layer: &Digest) -> Result<Option<Seq<ListEntry>>, DeskFault>
+        requires room { self.old.listings < 2 ^ 63 + 2 ^ 62 }
+        ensures entries { IfSome (D.tree layer.now) (λ t. IfOk result (λ found. found ≡ option_map (map listed) t)) }
+        ensures cause { CausedBy (self.old.faults + D.faults self.old.desk) (self.new.faults + D.faults self.new.desk) (is_failed result) }
+        ensures counted { self.new.listings ≡ self.old.listings + 1 }
+        ensures fails { self.new.fails ≡ self.old.fails }
+        ensures call { self.new.calls ≡ next self.old.calls }
+        ensures faults { self.new.faults ≡ faults_after (fails_next self.old) self.old.faults }
+        ensures answer { MatchBool (fails_next self.old) (result ≡ Err DeskFault.Failed) (CausedBy (D.faults self.old.desk) (D.faults self.new.desk) (is_failed result)) }
+        ensures behind { MatchBool (fails_next self.old) (self.new.desk ≡ self.old.desk) (D.listings self.new.desk ≡ D.listings self.old.desk + 1) }
+    {
         let fails = self.begin();
         self.listings += 1;
         if fails {
@@ -74,7 +101,16 @@ impl<D: Desk> Desk for Faulty<D> {
         layer: &Digest,
         path: &RelPath,
         limit: u32,
-    ) -> Result<FileRead, DeskFault> {
+    ) -> Result<FileRead, DeskFault>
+        ensures file { IfSome (D.tree layer.now) (λ t. IfOk result (λ found. found ≡ file_read (item_in t path.now) limit)) }
+        ensures cause { CausedBy (self.old.faults + D.faults self.old.desk) (self.new.faults + D.faults self.new.desk) (is_failed result) }
+        ensures same { self.new.listings ≡ self.old.listings }
+        ensures fails { self.new.fails ≡ self.old.fails }
+        ensures call { self.new.calls ≡ next self.old.calls }
+        ensures faults { self.new.faults ≡ faults_after (fails_next self.old) self.old.faults }
+        ensures answer { MatchBool (fails_next self.old) (result ≡ Err DeskFault.Failed) (CausedBy (D.faults self.old.desk) (D.faults self.new.desk) (is_failed result)) }
+        ensures behind { MatchBool (fails_next self.old) (self.new.desk ≡ self.old.desk) (D.listings self.new.desk ≡ D.listings self.old.desk) }
+    {
         let fails = self.begin();
         if fails {
             return Err(DeskFault::Failed);

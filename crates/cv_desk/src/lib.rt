@@ -11,6 +11,8 @@ mod faulty;
 mod folder;
 mod loading;
 mod table;
+#[cfg(test)]
+mod tests;
 mod walk;
 
 pub use desk::{Desk, DeskFault, FileRead};

@@ -1,14 +1,17 @@
 ghost use Rattle.std.specs.Prelude.{◌≡◌, ℕ, List, Option, map, IfOk, OnOk, Some};
 ghost use Rattle.std.specs.Option.{option_map};
+ghost use Rattle.cv_base.specs.Path.{path_of};
 ghost use Rattle.cv_desk.specs.Row.{Row};
 ghost use Rattle.cv_desk.specs.Stored.{file_read, item_at, listed};
-ghost use Rattle.cv_desk.specs.Table.{item_of, stands, tree_of_rows, with_entry, with_row};
+ghost use Rattle.cv_desk.specs.Table.{is_path, item_of, tree_of_rows};
 ghost use Rattle.cv_desk.specs.TableRow.{row_of, stored_of};
+ghost use Rattle.cv_desk.specs.TableSteps.{HasPaths, first_at, with_entry, with_row};
 
 use crate::desk::{Desk, DeskFault, FileRead};
 use cv_base::{Digest, Kind, ListEntry, PathError, RelPath};
 use cv_seq::{NoMemory, Seq};
 use std::alloc::Global;
+use std::collections::BTreeSet;
 use std::marker::PhantomData;
 
 /// A row of a table of layers.
@@ -30,7 +33,7 @@ pub trait Table {
 }
 
 /// A desk over a fixed table, which never fails. A row whose text is no path, or whose path an earlier row
-/// has, is no entry.
+/// has, is no entry. Tables are small: each listing reads all rows anew, and each read those up to its path.
 #[derive(Drop)]
 pub struct TableDesk<T: Table> {
     listings: u64,
@@ -52,7 +55,8 @@ impl<T: Table> TableDesk<T> {
 impl<T: Table> Desk for TableDesk<T> {
     ghost use Rattle.std.specs.Prelude.{Some};
     ghost use Rattle.std.specs.Option.{option_map};
-    ghost use Rattle.cv_desk.specs.Table.{table_distinct, tree_of_rows};
+    ghost use Rattle.cv_desk.specs.Table.{tree_of_rows};
+    ghost use Rattle.cv_desk.specs.TableLaws.{table_distinct};
 
     ghost tree = { λ d. Some (option_map tree_of_rows (T.rows d)) };
 
@@ -79,7 +83,7 @@ impl<T: Table> Desk for TableDesk<T> {
     ) -> Result<FileRead, DeskFault> {
         match T::layer(layer) {
             None => Ok(FileRead::NotFile),
-            Some(rows) => Ok(file_read(alloc, entries(alloc, rows)?.as_slice(), path, limit)?),
+            Some(rows) => Ok(file_read(alloc, rows, path, limit)?),
         }
     }
 }
@@ -93,31 +97,48 @@ struct Entry {
 }
 
 /// The entries that rows make.
+#[tactic(auto, using(crate::specs::TableLaws::rows_added))]
 fn entries(alloc: Global, rows: &[TableEntry]) -> Result<Vec<Entry>, NoMemory>
     ensures { IfOk result (λ out. map stored_of out.items ≡ tree_of_rows (map row_of rows.now)) }
 {
     let mut out = Vec::new(alloc);
+    let mut paths = BTreeSet::new(alloc);
     for row in rows {
-        add_row(alloc, &mut out, row)?;
+        add_row(alloc, &mut out, &mut paths, row)?;
     }
     Ok(out)
 }
 
-/// Adds the entry of one more row, if it makes one.
-fn add_row(alloc: Global, out: &mut Vec<Entry>, row: &TableEntry) -> Result<(), NoMemory>
-    ensures { OnOk result (map stored_of out.new.items ≡ with_row (map stored_of out.old.items) (row_of row.now)) }
+/// Adds the entry of one more row, if it makes one. `paths` has the paths of the entries.
+fn add_row(
+    alloc: Global,
+    out: &mut Vec<Entry>,
+    paths: &mut BTreeSet<RelPath>,
+    row: &TableEntry,
+) -> Result<(), NoMemory>
+    requires { HasPaths paths.old (map stored_of out.old.items) }
+    ensures entries { OnOk result (map stored_of out.new.items ≡ with_row (map stored_of out.old.items) (row_of row.now)) }
+    ensures paths { OnOk result (HasPaths paths.new (map stored_of out.new.items)) }
 {
     match RelPath::read(alloc, row.path) {
-        Ok(path) => add_entry(out, path, row),
+        Ok(path) => add_entry(out, paths, path, row),
         Err(PathError::NoMemory) => Err(NoMemory),
         Err(PathError::Empty | PathError::TooLong | PathError::BadComponent) => Ok(()),
     }
 }
 
-fn add_entry(out: &mut Vec<Entry>, path: RelPath, row: &TableEntry) -> Result<(), NoMemory>
-    ensures { OnOk result (map stored_of out.new.items ≡ with_entry (map stored_of out.old.items) (record { path = path; item = item_of row.now.kind row.now.bytes.now })) }
+/// Adds the entry of a row of this path, unless the path stands already.
+fn add_entry(
+    out: &mut Vec<Entry>,
+    paths: &mut BTreeSet<RelPath>,
+    path: RelPath,
+    row: &TableEntry,
+) -> Result<(), NoMemory>
+    requires { HasPaths paths.old (map stored_of out.old.items) }
+    ensures entries { OnOk result (map stored_of out.new.items ≡ with_entry (map stored_of out.old.items) (record { path = path; item = item_of row.now.kind row.now.bytes.now })) }
+    ensures paths { OnOk result (HasPaths paths.new (map stored_of out.new.items)) }
 {
-    if stands(out.as_slice(), &path) {
+    if !paths.insert(path.clone()?)? {
         return Ok(());
     }
     out.push(Entry {
@@ -126,17 +147,6 @@ fn add_entry(out: &mut Vec<Entry>, path: RelPath, row: &TableEntry) -> Result<()
         bytes: row.bytes,
     })?;
     Ok(())
-}
-
-fn stands(entries: &[Entry], path: &RelPath) -> bool
-    ensures { result ≡ stands (map stored_of entries.now) path.now }
-{
-    for entry in entries {
-        if entry.path == *path {
-            return true;
-        }
-    }
-    false
 }
 
 /// The entries as a listing tells them.
@@ -156,42 +166,58 @@ fn listed(alloc: Global, entries: Vec<Entry>) -> Result<Vec<ListEntry>, NoMemory
     Ok(out)
 }
 
-/// What reading a path gives.
+/// What reading a path of the rows gives.
+#[tactic(auto, using(crate::specs::TableLaws::first_found))]
 fn file_read(
     alloc: Global,
-    entries: &[Entry],
+    rows: &[TableEntry],
     path: &RelPath,
     limit: u32,
 ) -> Result<FileRead, NoMemory>
-    ensures { IfOk result (λ found. found ≡ file_read (item_at (map stored_of entries.now) path.now) limit) }
+    ensures { IfOk result (λ found. found ≡ file_read (item_at (tree_of_rows (map row_of rows.now)) path.now) limit) }
 {
-    match find(entries, path) {
+    match first_at(alloc, rows, path)? {
         None => Ok(FileRead::NotFile),
-        Some(entry) => entry_read(alloc, entry, limit),
+        Some(row) => row_read(alloc, row, limit),
     }
 }
 
-fn find<'a>(entries: &'a [Entry], path: &RelPath) -> Option<&'a Entry>
-    ensures { option_map (λ e. (stored_of e.now).item) result ≡ item_at (map stored_of entries.now) path.now }
+/// The first row that has this path.
+fn first_at<'a>(
+    alloc: Global,
+    rows: &'a [TableEntry],
+    path: &RelPath,
+) -> Result<Option<&'a TableEntry>, NoMemory>
+    ensures { IfOk result (λ found. option_map (λ row. item_of row.now.kind row.now.bytes.now) found ≡ first_at (map row_of rows.now) path.now) }
 {
-    for entry in entries {
-        if entry.path == *path {
-            return Some(entry);
+    for row in rows {
+        if has_path(alloc, row, path)? {
+            return Ok(Some(row));
         }
     }
-    None
+    Ok(None)
 }
 
-fn entry_read(alloc: Global, entry: &Entry, limit: u32) -> Result<FileRead, NoMemory>
-    ensures { IfOk result (λ found. found ≡ file_read (Some (item_of entry.now.kind entry.now.bytes.now)) limit) }
+fn has_path(alloc: Global, row: &TableEntry, path: &RelPath) -> Result<bool, NoMemory>
+    ensures { IfOk result (λ has. has ≡ is_path (path_of row.now.path.now) path.now) }
 {
-    match entry.kind {
+    match RelPath::read(alloc, row.path) {
+        Ok(read) => Ok(read == *path),
+        Err(PathError::NoMemory) => Err(NoMemory),
+        Err(PathError::Empty | PathError::TooLong | PathError::BadComponent) => Ok(false),
+    }
+}
+
+fn row_read(alloc: Global, row: &TableEntry, limit: u32) -> Result<FileRead, NoMemory>
+    ensures { IfOk result (λ found. found ≡ file_read (Some (item_of row.now.kind row.now.bytes.now)) limit) }
+{
+    match row.kind {
         Kind::Dir => Ok(FileRead::NotFile),
         Kind::File => {
-            if entry.bytes.len() > limit as usize {
+            if row.bytes.len() > limit as usize {
                 Ok(FileRead::TooLarge)
             } else {
-                Ok(FileRead::Bytes(Seq::of(entry.bytes.to_vec(alloc)?)))
+                Ok(FileRead::Bytes(Seq::of(row.bytes.to_vec(alloc)?)))
             }
         }
         Kind::Other => Ok(FileRead::NotFile),

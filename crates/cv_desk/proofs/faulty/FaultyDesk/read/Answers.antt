@@ -1,8 +1,8 @@
-use Rattle.std.proofs.Common.{arith, ap}
+use Rattle.std.proofs.Common.{ap, sym, ◌∙◌}
+use Rattle.cv_desk.proofs.Failures.{blamed}
 use Rattle.cv_desk.proofs.faulty.FaultyDesk.read.Goals as goal
 
 pub returns-then-fails-clause-cause : goal.returns-then-fails-clause-cause
 returns-then-fails-clause-cause g c =
-    let same = ap g.D.Desk.faults c.begin-fails.ensures.same.0 in
-    let rose = c.if-fails.ensures.rose in
-    record { later = omega (arith, rose, same); rose = omega (arith, rose, same) }
+    let counted = c.begin-fails.ensures.counted in
+    blamed _ _ _ _ _ (sym c.begin-fails.ensures.fails ∙ c.if-fails.true) (ap (λ s. s.faults) counted) (ap (λ s. g.D.Desk.faults s.desk) counted) c.begin-fails.ensures.small

@@ -1,0 +1,29 @@
+-- A desk before another one, whose calls fail by a list (cvwatch's own, for tests). Listings and reads are numbered
+-- together, from 1 up to the last value of 64 bits.
+use Rattle.std.specs.Prelude.{ℕ, ◌+◌, ◌-◌, ◌^◌, ◌==◌, min, Bool, if◌then◌else◌, List}
+use Rattle.std.specs.List.{list_any}
+
+-- such a desk: the one behind it, the numbers of the calls that are to fail, how many calls were made, how many of them
+-- were failed, and how many were listings
+pub record Failing (D : Type 0) : Type 0 where
+  pub desk : D
+  pub fails : List ℕ
+  pub calls : ℕ
+  pub faults : ℕ
+  pub listings : ℕ
+
+-- the number of the call after so many, and the count of faults after one more
+abbrev pub next : ℕ → ℕ
+next count = min (count + 1) (2 ^ 64 - 1)
+
+-- whether the call with this number is to fail
+abbrev pub is_to_fail : List ℕ → ℕ → Bool
+is_to_fail fails call = list_any (λ number. number == call) fails
+
+-- whether the next call is to fail
+abbrev pub fails_next : {D : Type 0} → Failing D → Bool
+fails_next desk = is_to_fail desk.fails (next desk.calls)
+
+-- the count of faults after a call, if it was to fail or not
+abbrev pub faults_after : Bool → ℕ → ℕ
+faults_after fails faults = if fails then next faults else faults

@@ -1,0 +1,138 @@
+ghost use Rattle.cv_desk.specs.Sample.{sample_rows};
+
+use crate::desk::{Desk, DeskFault, FileRead};
+use crate::faulty::Faulty;
+use crate::loading::load;
+use crate::table::{Table, TableDesk, TableEntry};
+use cv_base::{Content, Digest, Kind, ListEntry, Node, RelPath, Tree, TreeEntry};
+use cv_seq::Seq;
+use std::alloc::Global;
+use std::test::Fail;
+
+static ROWS: [TableEntry; 5] = [
+    TableEntry {
+        path: "etc",
+        kind: Kind::Dir,
+        bytes: b"",
+    },
+    TableEntry {
+        path: "etc/os-release",
+        kind: Kind::File,
+        bytes: b"ID=debian\n",
+    },
+    TableEntry {
+        path: "etc//shadow",
+        kind: Kind::File,
+        bytes: b"",
+    },
+    TableEntry {
+        path: "etc/os-release",
+        kind: Kind::Dir,
+        bytes: b"",
+    },
+    TableEntry {
+        path: "notes",
+        kind: Kind::File,
+        bytes: b"four",
+    },
+];
+
+/// One layer, for all digests. Its third row is no path, and the fourth has the path of the second.
+struct Sample;
+
+impl Table for Sample {
+    ghost rows = { sample_rows };
+
+    fn layer(_digest: &Digest) -> Option<&'static [TableEntry]> {
+        Some(&ROWS)
+    }
+}
+
+fn entry(alloc: Global, path: &str, kind: Kind, size: u64) -> Result<ListEntry, Fail> {
+    let path = RelPath::read(alloc, path)?;
+    Ok(ListEntry { path, kind, size })
+}
+
+/// What a listing of the sample tells.
+fn entries(alloc: Global) -> Result<Seq<ListEntry>, Fail> {
+    let first = entry(alloc, "etc", Kind::Dir, 0)?;
+    let second = entry(alloc, "etc/os-release", Kind::File, 10)?;
+    let third = entry(alloc, "notes", Kind::File, 4)?;
+    Ok(Seq::of(vec![in alloc; first, second, third]?))
+}
+
+/// What a read of the sample gives.
+fn read(alloc: Global, path: &str, limit: u32) -> Result<FileRead, Fail> {
+    let mut desk = TableDesk::<Sample>::new();
+    let path = RelPath::read(alloc, path)?;
+    Ok(desk.read(alloc, &Digest::of([0; 32]), &path, limit)?)
+}
+
+fn bytes(alloc: Global, text: &str) -> Result<FileRead, Fail> {
+    Ok(FileRead::Bytes(Seq::of(text.as_bytes().to_vec(alloc)?)))
+}
+
+fn node(alloc: Global, path: &str, node: Node) -> Result<TreeEntry, Fail> {
+    let path = RelPath::read(alloc, path)?;
+    Ok(TreeEntry { path, node })
+}
+
+#[test]
+fn rows_of_no_path_or_of_one_that_stands_are_no_entries(rt: HostRuntime) -> Result<(), Fail> {
+    let mut desk = TableDesk::<Sample>::new();
+    let found = desk.list(rt.alloc(), &Digest::of([0; 32]))?;
+    assert_eq!(rt; found, Some(entries(rt.alloc())?));
+    Ok(())
+}
+
+#[test]
+fn a_file_of_the_limits_size_is_read_and_none_above(rt: HostRuntime) -> Result<(), Fail> {
+    assert_eq!(rt; read(rt.alloc(), "notes", 4)?, bytes(rt.alloc(), "four")?);
+    assert_eq!(rt; read(rt.alloc(), "notes", 3)?, FileRead::TooLarge);
+    Ok(())
+}
+
+#[test]
+fn of_two_rows_with_one_path_the_first_is_read(rt: HostRuntime) -> Result<(), Fail> {
+    let found = read(rt.alloc(), "etc/os-release", 10)?;
+    assert_eq!(rt; found, bytes(rt.alloc(), "ID=debian\n")?);
+    Ok(())
+}
+
+#[test]
+fn a_directory_and_an_absent_path_are_no_files(rt: HostRuntime) -> Result<(), Fail> {
+    assert_eq!(rt; read(rt.alloc(), "etc", 10)?, FileRead::NotFile);
+    assert_eq!(rt; read(rt.alloc(), "etc/shadow", 10)?, FileRead::NotFile);
+    Ok(())
+}
+
+#[test]
+fn only_files_at_package_places_are_loaded_with_their_bytes(rt: HostRuntime) -> Result<(), Fail> {
+    let alloc = rt.alloc();
+    let mut desk = TableDesk::<Sample>::new();
+    let found = load(alloc, &mut desk, &Digest::of([0; 32]))?;
+    let known = Content::Bytes(Seq::of("ID=debian\n".as_bytes().to_vec(alloc)?));
+    let first = node(alloc, "etc", Node::Dir)?;
+    let second = node(alloc, "etc/os-release", Node::File(known))?;
+    let third = node(alloc, "notes", Node::File(Content::Unread))?;
+    let entries = Seq::of(vec![in alloc; first, second, third]?);
+    assert_eq!(rt; found, Some(Tree { entries }));
+    Ok(())
+}
+
+#[test]
+fn the_second_and_third_call_fail_be_they_listings_or_reads(rt: HostRuntime) -> Result<(), Fail> {
+    let alloc = rt.alloc();
+    let layer = Digest::of([0; 32]);
+    let path = RelPath::read(alloc, "notes")?;
+    let fails = Seq::of(vec![in alloc; 2, 3]?);
+    let mut desk = Faulty::new(TableDesk::<Sample>::new(), fails);
+    assert_eq!(rt; desk.list(alloc, &layer), Ok(Some(entries(alloc)?)));
+    assert_eq!(rt; desk.read(alloc, &layer, &path, 4), Err(DeskFault::Failed));
+    assert_eq!(rt; desk.list(alloc, &layer), Err(DeskFault::Failed));
+    assert_eq!(rt;
+        desk.read(alloc, &layer, &path, 4),
+        Ok(bytes(alloc, "four")?)
+    );
+    Ok(())
+}
