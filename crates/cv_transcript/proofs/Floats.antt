@@ -1,7 +1,6 @@
 -- No number of a line has a point.
 use Rattle.std.proofs.Common.{◌≡◌, ℕ, false, List, [], ◌∷◌, refl}
 use Rattle.std.specs.Prelude.{Option, Some, None}
-use Rattle.serde_json.specs.Data.{Data, Items}
 use Rattle.serde_json.specs.Written.{has_float}
 use Rattle.cv_base.specs.declared.finding.Finding.{Finding}
 use Rattle.cv_transcript.specs.Finding.{finding_data, findings_data, fixed_data}
