@@ -1,9 +1,8 @@
 -- Findings as JSON (cvwatch's own): objects whose members stand in the order of their names.
 use Rattle.std.specs.Prelude.{ℕ, List, [], ◌∷◌, map, codes, Option, Some, None}
 use Rattle.std.specs.List.{join_with_byte}
-use Rattle.serde_json.specs.Data.{Data, Items, no_items, item, Members, no_members, member, null, string, array, object}
+use Rattle.serde_json.specs.Data.{Data, Items, no_items, item, no_members, member, null, string, array, object}
 use Rattle.cv_base.specs.declared.finding.Finding.{Finding}
-use Rattle.cv_base.specs.declared.package.Package.{Package}
 use Rattle.cv_base.specs.declared.package.PackageKind.{PackageKind}
 use Rattle.cv_base.specs.declared.package.PackageKind.TheVariants.{Deb, Apk, Npm}
 

@@ -39,7 +39,7 @@ pub fn refused_line(alloc: Global, line: u64, word: &str) -> Result<String, NoMe
     line_of(alloc, &value)
 }
 
-fn line_value(alloc: Global, line: u64, word: &str) -> Result<Value, NoMemory>
+pub(crate) fn line_value(alloc: Global, line: u64, word: &str) -> Result<Value, NoMemory>
     ensures { IfOk result (λ value. view value ≡ line_data line word.now) }
 {
     Ok(

@@ -1,35 +1,23 @@
--- What the program does (cvwatch's own): the one word `scan` runs that command over the first desk, and all other words
--- print the line of use.
-use Rattle.std.specs.Prelude.{◌≡◌, ℕ, Bool, true, false, List, [], ◌∷◌, codes, Option}
-use Rattle.std.specs.Io.KnownBytes.{Appends}
+-- What the program does (cvwatch's own): the one word `scan` runs that command over the first desk, the word `order` runs
+-- that command on the words behind it, and all other words print the line of use.
+use Rattle.std.specs.Prelude.{ℕ, Bool, true, false, if◌then◌else◌, List, [], ◌∷◌, codes, Option}
 use Rattle.cv_base.specs.Texts.{same}
 use Rattle.cv_desk.specs.Stored.{Stored}
-use Rattle.cv_io.specs.Writes.{AppendsPrefix}
 use Rattle.cv_seq.specs.Cause.{Rose}
 use Rattle.cvwatch.specs.Command.{ScanEnds}
+use Rattle.cvwatch.specs.Order.{order_of}
+use Rattle.cvwatch.specs.Printed.{IsPrinted, Printed, usage}
 use Rattle.cvwatch.specs.declared.status.Status.{Status}
-use Rattle.cvwatch.specs.declared.status.Status.TheVariants as status
-
--- the line of use
-abbrev pub usage_text : List ℕ
-usage_text = codes "usage: cvwatch serve|scan|order|drill\n"
 
 -- the words are the one word `scan`
 abbrev pub is_scan : List (List ℕ) → Bool
 is_scan (word ∷ []) = same word (codes "scan")
 is_scan _ = false
 
--- the line of use was written, by how that ended
-abbrev pub UsageWritten : Option (List ℕ) → Option (List ℕ) → Status → Type 0
-UsageWritten before now status.Usage = Appends before now usage_text
-UsageWritten before now status.WriteFault = AppendsPrefix before now usage_text
-UsageWritten before now status.NoMemory = AppendsPrefix before now usage_text
-UsageWritten before now status.Done = ⊥
-UsageWritten before now status.ReadFault = ⊥
-UsageWritten before now status.LineTooLong = ⊥
-UsageWritten before now status.InputTooLong = ⊥
-UsageWritten before now status.Refused = ⊥
-UsageWritten before now status.DeskFault = ⊥
+-- what is printed for words that are no scan
+abbrev pub printed_of : List (List ℕ) → Printed
+printed_of [] = usage
+printed_of (word ∷ words) = if same word (codes "order") then order_of words else usage
 
 -- the count of the first desk rose
 abbrev pub FirstRose : {D : Type 0} → (D → ℕ) → List D → List D → Type 0
@@ -41,10 +29,10 @@ abbrev pub FirstScans : {D : Type 0} → (List ℕ → Option (Option (List Stor
 FirstScans trees listings left left_now (d ∷ ds) (e ∷ es) before now ended = ScanEnds trees left left_now (listings d) (listings e) before now ended
 FirstScans trees listings left left_now _ _ before now ended = ⊥
 
-abbrev pub RunsAs : {D : Type 0} → Bool → (List ℕ → Option (Option (List Stored))) → (D → ℕ) → Option (List ℕ) → Option (List ℕ) → List D → List D → Option (List ℕ) → Option (List ℕ) → Status → Type 0
-RunsAs true trees listings left left_now desks desks_now before now ended = FirstScans trees listings left left_now desks desks_now before now ended
-RunsAs false trees listings left left_now desks desks_now before now ended = UsageWritten before now ended
+abbrev pub RunsAs : {D : Type 0} → Bool → (List ℕ → Option (Option (List Stored))) → (D → ℕ) → List (List ℕ) → Option (List ℕ) → Option (List ℕ) → List D → List D → Option (List ℕ) → Option (List ℕ) → Status → Type 0
+RunsAs true trees listings words left left_now desks desks_now before now ended = FirstScans trees listings left left_now desks desks_now before now ended
+RunsAs false trees listings words left left_now desks desks_now before now ended = IsPrinted (printed_of words) before now ended
 
 -- how a run ends, by its words
 abbrev pub RunEnds : {D : Type 0} → (List ℕ → Option (Option (List Stored))) → (D → ℕ) → List (List ℕ) → Option (List ℕ) → Option (List ℕ) → List D → List D → Option (List ℕ) → Option (List ℕ) → Status → Type 0
-RunEnds trees listings words left left_now desks desks_now before now ended = RunsAs (is_scan words) trees listings left left_now desks desks_now before now ended
+RunEnds trees listings words left left_now desks desks_now before now ended = RunsAs (is_scan words) trees listings words left left_now desks desks_now before now ended

@@ -11,11 +11,13 @@ mod answer;
 mod command;
 mod image;
 mod input;
+mod order;
 mod parsed;
 mod run;
 mod status;
 #[cfg(test)]
 mod tests;
+mod usage;
 
 use crate::run::run;
 use crate::status::Status;

@@ -1,17 +1,17 @@
 ghost use Rattle.std.specs.Prelude.{◌≡◌, ◌^◌, ◌<◌, ◌≤◌, length, map, string_bytes, All};
 ghost use Rattle.cv_seq.specs.Cause.{Rose};
-ghost use Rattle.cvwatch.specs.Run.{FirstRose, RunEnds, UsageWritten};
+ghost use Rattle.cvwatch.specs.Printed.{IsPrinted};
+ghost use Rattle.cvwatch.specs.Run.{FirstRose, RunEnds, printed_of};
 
 use crate::command::scan_command;
+use crate::order::order_command;
 use crate::status::Status;
+use crate::usage::print_usage;
 use cv_desk::Desk;
-use cv_io::{Sink, Source, WriteError, write_all};
+use cv_io::{Sink, Source};
 use std::alloc::Global;
 
-/// What is printed where the words are no command.
-const USAGE: &str = "usage: cvwatch serve|scan|order|drill\n";
-
-/// Runs the command that the words name: today `scan` alone.
+/// Runs the command that the words name: today `scan` and `order`.
 pub fn run<S: Source, K: Sink, D: Desk>(
     alloc: Global,
     words: &[String],
@@ -32,18 +32,17 @@ pub fn run<S: Source, K: Sink, D: Desk>(
             let first = &mut desks[0];
             scan_command(alloc, input, output, first)
         }
-        _ => print_usage(output),
+        _ => print_command(alloc, words, output),
     }
 }
 
-/// Says what the program takes.
-fn print_usage<K: Sink>(output: &mut K) -> Status
-    ensures told { UsageWritten (K.contents output.old) (K.contents output.new) result }
+/// Runs a command that reads no input. Words that are no command print the line of use.
+fn print_command<K: Sink>(alloc: Global, words: &[String], output: &mut K) -> Status
+    ensures told { IsPrinted (printed_of (map (λ word. string_bytes word) words.now)) (K.contents output.old) (K.contents output.new) result }
     ensures write_fault { result ≡ Status.WriteFault → Rose (K.faults output.old) (K.faults output.new) }
 {
-    match write_all(output, USAGE.as_bytes()) {
-        Ok(()) => Status::Usage,
-        Err(WriteError::WriteFault) => Status::WriteFault,
-        Err(WriteError::NoMemory) => Status::NoMemory,
+    match words {
+        [word, rest @ ..] if word.as_str() == "order" => order_command(alloc, rest, output),
+        _ => print_usage(output),
     }
 }

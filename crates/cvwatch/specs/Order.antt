@@ -1,0 +1,53 @@
+-- What the command `order` prints (cvwatch's own): how two versions compare, by the order of Debian, of Alpine or of semantic
+-- versions, or which of the two is no version.
+use Rattle.std.specs.Prelude.{ℕ, if◌then◌else◌, List, [], ◌∷◌, codes, Option, Some, None}
+use Rattle.std.specs.declared.cmp.Ordering.TheVariants.{Less, Equal, Greater}
+use Rattle.cv_base.specs.Texts.{same}
+use Rattle.cv_base.specs.declared.«package».PackageKind.{PackageKind}
+use Rattle.cv_base.specs.declared.«package».PackageKind.TheVariants.{Deb, Apk, Npm}
+use Rattle.cv_match.specs.Order.{is_version_of, version_cmp_of}
+use Rattle.cvwatch.specs.Printed.{Printed, usage}
+use Rattle.cvwatch.specs.declared.order.Compared.{Compared}
+use Rattle.cvwatch.specs.declared.order.Compared.TheVariants.{Ordered, NotFirst, NotSecond}
+use Rattle.cvwatch.specs.declared.status.Status.{Status}
+use Rattle.cvwatch.specs.declared.status.Status.TheVariants as status
+
+-- the packages whose versions a word names; npm has semantic versions
+abbrev pub kind_of : List ℕ → Option PackageKind
+kind_of word =
+    if same word (codes "deb") then Some Deb
+    else (if same word (codes "apk") then Some Apk
+    else (if same word (codes "semver") then Some Npm else None))
+
+-- how two texts compare: the first one that is no version is told
+abbrev pub compared_as : PackageKind → List ℕ → List ℕ → Compared
+compared_as kind first second =
+    if is_version_of kind first then (if is_version_of kind second then Ordered (version_cmp_of kind first second) else NotSecond)
+    else NotFirst
+
+-- the line of a comparison
+abbrev pub compared_text : Compared → List ℕ
+compared_text (Ordered Less) = codes "<\n"
+compared_text (Ordered Equal) = codes "=\n"
+compared_text (Ordered Greater) = codes ">\n"
+compared_text NotFirst = codes "not a version: first\n"
+compared_text NotSecond = codes "not a version: second\n"
+
+-- how the command ends once that is printed
+abbrev pub compared_status : Compared → Status
+compared_status (Ordered order) = status.Done
+compared_status NotFirst = status.Refused
+compared_status NotSecond = status.Refused
+
+abbrev pub compared_printed : Compared → Printed
+compared_printed compared = record { text = compared_text compared; ended = compared_status compared }
+
+-- what is printed where the words name these packages, if any, and two texts
+abbrev pub order_printed : Option PackageKind → List ℕ → List ℕ → Printed
+order_printed None first second = usage
+order_printed (Some kind) first second = compared_printed (compared_as kind first second)
+
+-- what is printed for the words: a kind and two texts are compared, and all other words print the line of use
+abbrev pub order_of : List (List ℕ) → Printed
+order_of (word ∷ first ∷ second ∷ []) = order_printed (kind_of word) first second
+order_of _ = usage

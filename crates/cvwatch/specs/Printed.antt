@@ -1,0 +1,27 @@
+-- What is printed where no input is read (cvwatch's own), and how the command then ends.
+use Rattle.std.specs.Prelude.{◌≡◌, ℕ, List, codes, Option}
+use Rattle.std.specs.Io.KnownBytes.{Appends}
+use Rattle.cv_io.specs.Writes.{AppendsPrefix}
+use Rattle.cvwatch.specs.declared.status.Status.{Status}
+use Rattle.cvwatch.specs.declared.status.Status.TheVariants as status
+
+-- a text, and the status once it is written
+pub record Printed : Type 0 where
+  pub text : List ℕ
+  pub ended : Status
+
+-- the line of use, for words that are no command
+abbrev pub usage : Printed
+usage = record { text = codes "usage: cvwatch serve|scan|order|drill\n"; ended = status.Usage }
+
+-- it was written, or a front part of it, by how that ended
+abbrev pub IsPrinted : Printed → Option (List ℕ) → Option (List ℕ) → Status → Type 0
+IsPrinted printed before now status.Done = (printed.ended ≡ status.Done) × Appends before now printed.text
+IsPrinted printed before now status.Usage = (printed.ended ≡ status.Usage) × Appends before now printed.text
+IsPrinted printed before now status.Refused = (printed.ended ≡ status.Refused) × Appends before now printed.text
+IsPrinted printed before now status.WriteFault = AppendsPrefix before now printed.text
+IsPrinted printed before now status.NoMemory = AppendsPrefix before now printed.text
+IsPrinted printed before now status.ReadFault = ⊥
+IsPrinted printed before now status.LineTooLong = ⊥
+IsPrinted printed before now status.InputTooLong = ⊥
+IsPrinted printed before now status.DeskFault = ⊥

@@ -1,0 +1,159 @@
+ghost use Rattle.std.specs.Prelude.{◌≡◌, IfOk, map, string_bytes};
+ghost use Rattle.cv_base.specs.declared.«package».PackageKind.TheVariants as kind;
+ghost use Rattle.cv_match.specs.Order.{version_in};
+ghost use Rattle.cv_seq.specs.Cause.{Rose};
+ghost use Rattle.cvwatch.specs.Order.{compared_as, compared_printed, compared_text, kind_of, order_of, order_printed};
+ghost use Rattle.cvwatch.specs.Printed.{IsPrinted};
+
+use crate::status::Status;
+use crate::usage::print_usage;
+use cv_base::{NoMemory, PackageKind, Text};
+use cv_io::{Sink, WriteError, write_all};
+use cv_match::SemanticVersion;
+use std::alloc::Global;
+use std::cmp::Ordering;
+
+/// How two texts compare as versions.
+#[derive(Clone, Copy, Debug, PartialEq, Eq)]
+pub enum Compared {
+    Ordered(Ordering),
+    /// The first one is no version.
+    NotFirst,
+    /// The first one is a version, and the second is none.
+    NotSecond,
+}
+
+/// Prints how two versions compare. The words are `deb`, `apk` or `semver`, and the two; all other words print the line
+/// of use.
+pub fn order_command<K: Sink>(alloc: Global, words: &[String], output: &mut K) -> Status
+    ensures told { IsPrinted (order_of (map (λ word. string_bytes word) words.now)) (K.contents output.old) (K.contents output.new) result }
+    ensures write_fault { result ≡ Status.WriteFault → Rose (K.faults output.old) (K.faults output.new) }
+{
+    match words {
+        [word, first, second] => {
+            let (word, first, second) = (word.as_str(), first.as_str(), second.as_str());
+            print_order(alloc, word, first, second, output)
+        }
+        _ => print_usage(output),
+    }
+}
+
+/// Prints how two texts compare as versions of the packages that the word names.
+fn print_order<K: Sink>(
+    alloc: Global,
+    word: &str,
+    first: &str,
+    second: &str,
+    output: &mut K,
+) -> Status
+    ensures told { IsPrinted (order_printed (kind_of word.now) first.now second.now) (K.contents output.old) (K.contents output.new) result }
+    ensures write_fault { result ≡ Status.WriteFault → Rose (K.faults output.old) (K.faults output.new) }
+{
+    let Some(kind) = kind_of(word) else {
+        return print_usage(output);
+    };
+    match compare_as(alloc, kind, first, second) {
+        Ok(compared) => print_compared(output, compared),
+        Err(NoMemory) => Status::NoMemory,
+    }
+}
+
+/// The packages whose versions a word names.
+fn kind_of(word: &str) -> Option<PackageKind>
+    ensures { result ≡ kind_of word.now }
+{
+    match word {
+        "deb" => Some(PackageKind::Deb),
+        "apk" => Some(PackageKind::Apk),
+        "semver" => Some(PackageKind::Npm),
+        _ => None,
+    }
+}
+
+fn compare_as(
+    alloc: Global,
+    kind: PackageKind,
+    first: &str,
+    second: &str,
+) -> Result<Compared, NoMemory>
+    ensures { IfOk result (λ compared. compared ≡ compared_as kind first.now second.now) }
+{
+    match kind {
+        PackageKind::Deb => Ok(compare_deb(first.as_bytes(), second.as_bytes())),
+        PackageKind::Apk => Ok(compare_apk(first.as_bytes(), second.as_bytes())),
+        PackageKind::Npm => compare_semantic(alloc, first, second),
+    }
+}
+
+fn compare_deb(first: &[u8], second: &[u8]) -> Compared
+    ensures { result ≡ compared_as kind.Deb first.now second.now }
+{
+    if !cv_debver::is_version(first) {
+        return Compared::NotFirst;
+    }
+    if !cv_debver::is_version(second) {
+        return Compared::NotSecond;
+    }
+    Compared::Ordered(cv_debver::compare(first, second))
+}
+
+fn compare_apk(first: &[u8], second: &[u8]) -> Compared
+    ensures { result ≡ compared_as kind.Apk first.now second.now }
+{
+    if !cv_apkver::is_version(first) {
+        return Compared::NotFirst;
+    }
+    if !cv_apkver::is_version(second) {
+        return Compared::NotSecond;
+    }
+    Compared::Ordered(cv_apkver::compare(first, second))
+}
+
+#[tactic(auto, using(crate::proofs::Versions::both_read))]
+fn compare_semantic(alloc: Global, first: &str, second: &str) -> Result<Compared, NoMemory>
+    ensures { IfOk result (λ compared. compared ≡ compared_as kind.Npm first.now second.now) }
+{
+    let Some(one) = read_semantic(alloc, first)? else {
+        return Ok(Compared::NotFirst);
+    };
+    let Some(other) = read_semantic(alloc, second)? else {
+        return Ok(Compared::NotSecond);
+    };
+    Ok(Compared::Ordered(one.compare(&other)))
+}
+
+fn read_semantic(alloc: Global, text: &str) -> Result<Option<SemanticVersion>, NoMemory>
+    ensures { IfOk result (λ found. found ≡ version_in kind.Npm text.now) }
+{
+    let text = Text::of(alloc, text)?;
+    SemanticVersion::read(alloc, &text)
+}
+
+fn print_compared<K: Sink>(output: &mut K, compared: Compared) -> Status
+    ensures told { IsPrinted (compared_printed compared) (K.contents output.old) (K.contents output.new) result }
+    ensures write_fault { result ≡ Status.WriteFault → Rose (K.faults output.old) (K.faults output.new) }
+{
+    match write_all(output, compared_text(compared).as_bytes()) {
+        Ok(()) => match compared {
+            Compared::Ordered(_) => Status::Done,
+            Compared::NotFirst | Compared::NotSecond => Status::Refused,
+        },
+        Err(WriteError::WriteFault) => Status::WriteFault,
+        Err(WriteError::NoMemory) => Status::NoMemory,
+    }
+}
+
+fn compared_text(compared: Compared) -> &'static str
+    ensures { result.now ≡ compared_text compared }
+{
+    match compared {
+        Compared::Ordered(Ordering::Less) => "<\n",
+        Compared::Ordered(Ordering::Equal) => "=\n",
+        Compared::Ordered(Ordering::Greater) => ">\n",
+        Compared::NotFirst => "not a version: first\n",
+        Compared::NotSecond => "not a version: second\n",
+    }
+}
+
+#[cfg(test)]
+mod tests;
