@@ -105,8 +105,10 @@ found_from p feed all n (a ∷ rest) s = by_test (is_of p a) refl (found_from p 
   where
     later : StandsAt all (n + 1) rest
     later i = ap (slice_get all) (omega arith) ∙ s (suc i)
+
     here : found_at p feed all n ≡ found p feed a
     here = ap (λ x. flat_map (found p feed) (option_to_list x)) (ap (slice_get all) (omega arith) ∙ s 0) ∙ append-nil (found p feed a)
+
     by_test : (t : Bool) → is_of p a ≡ t → flat_map (found_at p feed all) (numbers_from (is_of p) (n + 1) rest) ≡ flat_map (found p feed) rest
         → flat_map (found_at p feed all) (cond t (n ∷ numbers_from (is_of p) (n + 1) rest) (numbers_from (is_of p) (n + 1) rest)) ≡ found p feed a ++ flat_map (found p feed) rest
     by_test true e more = ap (λ (front : List Finding). front ++ flat_map (found_at p feed all) (numbers_from (is_of p) (n + 1) rest)) here ∙ ap (λ (back : List Finding). found p feed a ++ back) more
@@ -116,4 +118,4 @@ found_from p feed all n (a ∷ rest) s = by_test (is_of p a) refl (found_from p 
 pub found_named : (p : Package) (feed : List ℕ) (records : List Advisory)
     → flat_map (found_at p feed records) (merged (numbers_from (is_named (whole_key p)) 0 records) (numbers_from (is_named (family_key p)) 0 records)) ≡ found_by feed records p
 found_named p feed records = ap (flat_map (found_at p feed records)) (merged_numbers (is_named (whole_key p)) (is_named (family_key p)) 0 records)
-    ∙ found_from p feed records 0 records (λ i. refl)
+    ∙ found_from p feed records 0 records (λ i. ap (slice_get records) (omega arith))

@@ -55,10 +55,12 @@ merged_numbers one two n [] = refl
 merged_numbers one two n (a ∷ rest) = by_tests (one a) (two a) (merged_numbers one two (n + 1) rest) where
   xs : List ℕ
   xs = numbers_from one (n + 1) rest
+
   ys : List ℕ
   ys = numbers_from two (n + 1) rest
+
   by_tests : (first second : Bool) → merged xs ys ≡ numbers_from (λ a. one a || two a) (n + 1) rest
-      → merged (cond first (n ∷ xs) xs) (cond second (n ∷ ys) ys) ≡ cond (cond first true second) (n ∷ numbers_from (λ a. one a || two a) (n + 1) rest) (numbers_from (λ a. one a || two a) (n + 1) rest)
+      → merged (cond first (n ∷ xs) xs) (cond second (n ∷ ys) ys) ≡ cond (first || second) (n ∷ numbers_from (λ a. one a || two a) (n + 1) rest) (numbers_from (λ a. one a || two a) (n + 1) rest)
   by_tests true true more = first_both n xs ys ∙ ap (λ (more : List ℕ). n ∷ more) more
   by_tests true false more = first_left n xs ys (numbers_above two n (n + 1) rest (omega arith)) ∙ ap (λ (more : List ℕ). n ∷ more) more
   by_tests false true more = first_right n xs ys (numbers_above one n (n + 1) rest (omega arith)) ∙ ap (λ (more : List ℕ). n ∷ more) more

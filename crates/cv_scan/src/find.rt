@@ -83,12 +83,29 @@ fn find_numbered<L: Ledger>(
     let prepared = prepare_package(alloc, package)?;
     let mut out = Vec::new(alloc);
     for number in numbers {
-        if let Some(advisory) = advisories.get(*number) {
-            let found = find_one(alloc, package, &prepared, feed, advisory, steps)?;
-            add(&mut out, found)?;
-        }
+        let found = find_at(alloc, package, &prepared, feed, advisories, *number, steps)?;
+        add(&mut out, found)?;
     }
     Ok(out)
+}
+
+/// What the record of this number says of a package.
+fn find_at<L: Ledger>(
+    alloc: Global,
+    package: &Package,
+    prepared: &ReadyPackage,
+    feed: &Text,
+    advisories: &[Advisory],
+    number: usize,
+    steps: &mut Steps<L>,
+) -> Result<Option<Finding>, NoMemory>
+    requires prepared { prepared.now ≡ «package».now }
+    ensures { IfOk result (λ finding. option_to_list finding ≡ found_at «package».now feed.now advisories.now number) }
+{
+    match advisories.get(number) {
+        Some(advisory) => find_one(alloc, package, prepared, feed, advisory, steps),
+        None => Ok(None),
+    }
 }
 
 /// Adds findings.

@@ -105,7 +105,10 @@ fn records_are_found_with_and_without_the_release(rt: HostRuntime) -> Result<(),
         "zlib1g", "a", "X-1", "4", "zlib1g", "a", "X-2", "2", "zlib1g", "a", "X-3", "3", "lodash",
         "a", "X-7", "4.17.21",
     ];
-    assert_eq!(rt; rows(alloc, found.as_slice())?.as_slice(), texts(alloc, &want)?.as_slice());
+    assert_eq!(rt;
+        rows(alloc, found.as_slice())?.as_slice(),
+        texts(alloc, &want)?.as_slice()
+    );
     Ok(())
 }
 
@@ -124,7 +127,10 @@ fn of_two_records_with_one_id_the_later_is_told(rt: HostRuntime) -> Result<(), F
         records.as_slice(),
     )?;
     let want = ["zlib1g", "a", "X-1", "3"];
-    assert_eq!(rt; rows(alloc, found.as_slice())?.as_slice(), texts(alloc, &want)?.as_slice());
+    assert_eq!(rt;
+        rows(alloc, found.as_slice())?.as_slice(),
+        texts(alloc, &want)?.as_slice()
+    );
     Ok(())
 }
 
