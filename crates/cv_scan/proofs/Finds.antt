@@ -1,14 +1,14 @@
 -- What records say of packages.
-use Rattle.std.proofs.Common.{◌≡◌, ℕ, Bool, true, false, cond, List, [], ◌∷◌, ◌++◌, refl, sym, ◌∙◌, ap}
+use Rattle.std.proofs.Common.{◌≡◌, ℕ, true, false, List, [], ◌∷◌, ◌++◌, refl, sym, ◌∙◌, ap}
 use Rattle.std.specs.Prelude.{Option, Some, None}
 use Rattle.std.specs.List.{flat_map}
-use Rattle.std.specs.Option.{option_and_then, option_to_list}
+use Rattle.std.specs.Option.{option_and_then}
 use Rattle.std.proofs.lemmas.List.{append-nil}
 use Rattle.cv_base.specs.declared.advisory.Advisory.{Advisory}
 use Rattle.cv_base.specs.declared.finding.Finding.{Finding}
 use Rattle.cv_base.specs.declared.package.Package.{Package}
 use Rattle.cv_match.specs.Affects.{affects, fixed}
-use Rattle.cv_match.specs.Answer.{Answers, TellsFixed, text_at}
+use Rattle.cv_match.specs.Answer.{TellsFixed, text_at}
 use Rattle.cv_match.specs.Findings.{findings, found, found_in, in_order}
 use Rattle.cv_match.specs.declared.answer.FixedAt.{FixedAt}
 use Rattle.cv_scan.specs.Found.{found_all, found_by}
