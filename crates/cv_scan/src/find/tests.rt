@@ -2,7 +2,7 @@ use super::*;
 use cv_base::{Affected, PackageKind, PackageName, Range, RangeKind, RelPath, Turn};
 use std::test::Fail;
 
-/// A package of the source `zlib`, itself named `zlib1g`, or an npm package with this name and no such source.
+/// A package at version 1.0.0, which is that of its source too.
 fn installed(
     alloc: Global,
     kind: PackageKind,
@@ -55,6 +55,17 @@ fn record(alloc: Global, id: &str, rows: &[(&str, &str, &str)]) -> Result<Adviso
     })
 }
 
+fn records(
+    alloc: Global,
+    rows: &[(&str, &[(&str, &str, &str)])],
+) -> Result<Vec<Advisory>, NoMemory> {
+    let mut out = Vec::new(alloc);
+    for (id, entries) in rows {
+        out.push(record(alloc, id, entries)?)?;
+    }
+    Ok(out)
+}
+
 /// Each finding as the name of its package, its feed, its id and its fixed version.
 fn rows(alloc: Global, found: &[Finding]) -> Result<Vec<Text>, NoMemory> {
     let mut out = Vec::new(alloc);
@@ -77,36 +88,38 @@ fn texts(alloc: Global, words: &[&str]) -> Result<Vec<Text>, NoMemory> {
     Ok(out)
 }
 
+/// What is found for an npm package and a Debian one.
+fn told(alloc: Global, given: &[(&str, &[(&str, &str, &str)])]) -> Result<Vec<Text>, Fail> {
+    let advisories = records(alloc, given)?;
+    let npm = installed(alloc, PackageKind::Npm, "lodash", "zlib", "npm")?;
+    let deb = installed(alloc, PackageKind::Deb, "zlib1g", "zlib", "Debian:12")?;
+    let packages = vec![in alloc; npm, deb]?;
+    let feed = Text::of(alloc, "a")?;
+    let found = find_all(alloc, packages.as_slice(), &feed, advisories.as_slice())?;
+    Ok(rows(alloc, found.as_slice())?)
+}
+
 #[test]
 fn records_are_found_with_and_without_the_release(rt: HostRuntime) -> Result<(), Fail> {
     let alloc = rt.alloc();
-    let deb = installed(alloc, PackageKind::Deb, "zlib1g", "zlib", "Debian:12")?;
-    let npm = installed(alloc, PackageKind::Npm, "lodash", "zlib", "npm")?;
-    let mut records = Vec::new(alloc);
-    records.push(record(alloc, "X-3", &[("Debian", "zlib", "3")])?)?;
-    records.push(record(alloc, "X-2", &[("Debian:12", "zlib", "2")])?)?;
-    records.push(record(alloc, "X-4", &[("Debian:11", "zlib", "2")])?)?;
-    records.push(record(alloc, "X-5", &[("Debian:12", "curl", "2")])?)?;
-    records.push(record(
-        alloc,
-        "X-1",
-        &[("Debian", "zlib", "4"), ("Debian:12", "zlib", "5")],
-    )?)?;
-    records.push(record(alloc, "X-6", &[("npm", "zlib", "2")])?)?;
-    records.push(record(alloc, "X-7", &[("npm", "lodash", "4.17.21")])?)?;
-    let packages = vec![in alloc; npm, deb]?;
-    let found = find_all(
-        alloc,
-        packages.as_slice(),
-        &Text::of(alloc, "a")?,
-        records.as_slice(),
-    )?;
+    let given: [(&str, &[(&str, &str, &str)]); 7] = [
+        ("X-3", &[("Debian", "zlib", "3")]),
+        ("X-2", &[("Debian:12", "zlib", "2")]),
+        ("X-4", &[("Debian:11", "zlib", "2")]),
+        ("X-5", &[("Debian:12", "curl", "2")]),
+        (
+            "X-1",
+            &[("Debian", "zlib", "4"), ("Debian:12", "zlib", "5")],
+        ),
+        ("X-6", &[("npm", "zlib", "2")]),
+        ("X-7", &[("npm", "lodash", "4.17.21")]),
+    ];
     let want = [
         "zlib1g", "a", "X-1", "4", "zlib1g", "a", "X-2", "2", "zlib1g", "a", "X-3", "3", "lodash",
         "a", "X-7", "4.17.21",
     ];
     assert_eq!(rt;
-        rows(alloc, found.as_slice())?.as_slice(),
+        told(alloc, &given)?.as_slice(),
         texts(alloc, &want)?.as_slice()
     );
     Ok(())
@@ -115,31 +128,15 @@ fn records_are_found_with_and_without_the_release(rt: HostRuntime) -> Result<(),
 #[test]
 fn of_two_records_with_one_id_the_later_is_told(rt: HostRuntime) -> Result<(), Fail> {
     let alloc = rt.alloc();
-    let deb = installed(alloc, PackageKind::Deb, "zlib1g", "zlib", "Debian:12")?;
-    let mut records = Vec::new(alloc);
-    records.push(record(alloc, "X-1", &[("Debian:12", "zlib", "2")])?)?;
-    records.push(record(alloc, "X-1", &[("Debian", "zlib", "3")])?)?;
-    let packages = vec![in alloc; deb]?;
-    let found = find_all(
-        alloc,
-        packages.as_slice(),
-        &Text::of(alloc, "a")?,
-        records.as_slice(),
-    )?;
+    let given: [(&str, &[(&str, &str, &str)]); 2] = [
+        ("X-1", &[("Debian:12", "zlib", "2")]),
+        ("X-1", &[("Debian", "zlib", "3")]),
+    ];
     let want = ["zlib1g", "a", "X-1", "3"];
     assert_eq!(rt;
-        rows(alloc, found.as_slice())?.as_slice(),
+        told(alloc, &given)?.as_slice(),
         texts(alloc, &want)?.as_slice()
     );
-    Ok(())
-}
-
-#[test]
-fn no_records_make_no_findings(rt: HostRuntime) -> Result<(), Fail> {
-    let alloc = rt.alloc();
-    let deb = installed(alloc, PackageKind::Deb, "zlib1g", "zlib", "Debian:12")?;
-    let packages = vec![in alloc; deb]?;
-    let found = find_all(alloc, packages.as_slice(), &Text::of(alloc, "a")?, &[])?;
-    assert_eq!(rt; found.as_slice().len(), 0);
+    assert_eq!(rt; told(alloc, &[])?.as_slice().len(), 0);
     Ok(())
 }
