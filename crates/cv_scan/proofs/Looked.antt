@@ -81,10 +81,6 @@ none_affects p (e ∷ es) h = by_key (has_key p e.«package») (matches_key p e.
     by_key true m h more = absurd (search (rules, h))
     by_key false m h more = rw m (more h)
 
-off : (t : Bool) → (t && false) ≡ false
-off true = refl
-off false = refl
-
 -- a record that has no entry about the package does not affect it
 not_affected : (p : Package) (a : Advisory) → is_of p a ≡ false → affects a p ≡ false
 unfolding affects
