@@ -1,33 +1,30 @@
--- What one record says of packages.
-use Rattle.std.proofs.Common.{◌≡◌, ℕ, Bool, true, false, cond, List, [], ◌∷◌, ◌++◌, refl, sym, ◌∙◌, ap}
+-- What records say of packages.
+use Rattle.std.proofs.Common.{◌≡◌, ℕ, true, false, List, [], ◌∷◌, ◌++◌, refl, sym, ◌∙◌, ap}
 use Rattle.std.specs.Prelude.{Option, Some, None}
 use Rattle.std.specs.List.{flat_map}
-use Rattle.std.specs.Option.{option_and_then, option_to_list}
+use Rattle.std.specs.Option.{option_and_then}
 use Rattle.std.proofs.lemmas.List.{append-nil}
 use Rattle.cv_base.specs.declared.advisory.Advisory.{Advisory}
 use Rattle.cv_base.specs.declared.finding.Finding.{Finding}
 use Rattle.cv_base.specs.declared.package.Package.{Package}
 use Rattle.cv_match.specs.Affects.{affects, fixed}
-use Rattle.cv_match.specs.Answer.{Answers, TellsFixed, text_at}
+use Rattle.cv_match.specs.Answer.{TellsFixed, text_at}
 use Rattle.cv_match.specs.Findings.{findings, found, found_in, in_order}
 use Rattle.cv_match.specs.declared.answer.FixedAt.{FixedAt}
-use Rattle.cv_scan.specs.Found.{found_all}
+use Rattle.cv_scan.specs.Found.{found_all, found_by}
 
--- one record of one feed
-abbrev one : List ℕ → Advisory → List (List ℕ × List Advisory)
-one feed advisory = (feed, advisory ∷ []) ∷ []
+-- one feed
+abbrev feed_of : List ℕ → List Advisory → List (List ℕ × List Advisory)
+feed_of feed advisories = (feed, advisories) ∷ []
 
-found_one : (feed : List ℕ) (advisory : Advisory) (p : Package) → found_in (one feed advisory) p ≡ found p feed advisory
-found_one feed advisory p = append-nil (found p feed advisory ++ []) ∙ append-nil (found p feed advisory)
+all_feed : (feed : List ℕ) (advisories : List Advisory) (ps : List Package) → flat_map (found_in (feed_of feed advisories)) ps ≡ found_all feed advisories ps
+all_feed feed advisories [] = refl
+all_feed feed advisories (p ∷ ps) = ap (λ (front : List Finding). front ++ flat_map (found_in (feed_of feed advisories)) ps) (append-nil (found_by feed advisories p)) ∙ ap (λ (rest : List Finding). found_by feed advisories p ++ rest) (all_feed feed advisories ps)
 
-all_one : (feed : List ℕ) (advisory : Advisory) (ps : List Package) → flat_map (found_in (one feed advisory)) ps ≡ found_all feed advisory ps
-all_one feed advisory [] = refl
-all_one feed advisory (p ∷ ps) = ap (λ (front : List Finding). front ++ flat_map (found_in (one feed advisory)) ps) (found_one feed advisory p) ∙ ap (λ (rest : List Finding). found p feed advisory ++ rest) (all_one feed advisory ps)
-
--- the findings of packages with one record
-pub findings_one : (feed : List ℕ) (advisory : Advisory) (ps : List Package) → in_order (found_all feed advisory ps) ≡ findings ps (one feed advisory)
+-- the findings of packages with the records of one feed
+pub findings_feed : (feed : List ℕ) (advisories : List Advisory) (ps : List Package) → in_order (found_all feed advisories ps) ≡ findings ps (feed_of feed advisories)
 unfolding findings
-findings_one feed advisory ps = ap in_order (sym (all_one feed advisory ps))
+findings_feed feed advisories ps = ap in_order (sym (all_feed feed advisories ps))
 
 -- a record that does not affect a package says nothing
 pub found_not : (p : Package) (feed : List ℕ) (advisory : Advisory) → affects advisory p ≡ false → found p feed advisory ≡ []

@@ -1,4 +1,5 @@
 pub mod Found
+pub mod Index
 pub mod Keyed
 pub mod Root
 pub mod Scan

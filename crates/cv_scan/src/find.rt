@@ -1,35 +1,31 @@
 ghost use Rattle.std.specs.Prelude.{◌≡◌, ◌∷◌, ◌++◌, [], ◌<◌, IfOk, OnOk, option_and_then};
+ghost use Rattle.std.specs.List.{flat_map};
 ghost use Rattle.std.specs.Option.{option_to_list};
 ghost use Rattle.cv_match.specs.Answer.{text_at};
 ghost use Rattle.cv_match.specs.Findings.{findings, found};
-ghost use Rattle.cv_scan.specs.Found.{IsReady, found_all, ready_of};
+ghost use Rattle.cv_scan.specs.Found.{found_all, found_by};
+ghost use Rattle.cv_scan.specs.Index.{Indexes, found_at};
 
+use crate::index::{Index, index_records, numbers_for};
 use crate::order::in_order;
-use cv_base::{Advisory, Finding, NoMemory, Package, PackageKind, Seq, Steps, Text};
-use cv_match::{FixedAt, Hit, ReadyAdvisory, affects, fixed_text, prepare, prepare_package};
+use cv_base::{Advisory, Finding, NoMemory, Package, Seq, Steps, Text};
+use cv_match::{FixedAt, Hit, ReadyPackage, affects, fixed_text, prepare, prepare_package};
 use std::alloc::Global;
 use std::marker::Brand;
 use std::sync::ledger::{Blank, Ledger};
 
-/// A record with its versions read for each kind of package.
-#[derive(Drop)]
-struct ReadyKinds {
-    deb: ReadyAdvisory,
-    apk: ReadyAdvisory,
-    npm: ReadyAdvisory,
-}
-
-/// The findings of packages with one record of a feed: all packages it affects, in rising order, each once.
-#[tactic(auto, using(crate::proofs::Finds::findings_one))]
+/// The findings of packages with the records of a feed: each package with each record that affects it, in rising order by
+/// package, feed and id, each once. A record is tried against a package only where it names the package.
+#[tactic(auto, using(crate::proofs::Finds::findings_feed))]
 pub fn find_all(
     alloc: Global,
     packages: &[Package],
     feed: &Text,
-    advisory: &Advisory,
+    advisories: &[Advisory],
 ) -> Result<Seq<Finding>, NoMemory>
-    ensures { IfOk result (λ out. out ≡ findings packages.now ((feed.now, advisory.now ∷ []) ∷ [])) }
+    ensures { IfOk result (λ out. out ≡ findings packages.now ((feed.now, advisories.now) ∷ [])) }
 {
-    let found = find_counted::<Brand>(Blank::new(1), alloc, packages, feed, advisory)?;
+    let found = find_counted::<Brand>(Blank::new(1), alloc, packages, feed, advisories)?;
     in_order(alloc, found)
 }
 
@@ -39,39 +35,85 @@ fn find_counted<L: Ledger>(
     alloc: Global,
     packages: &[Package],
     feed: &Text,
-    advisory: &Advisory,
+    advisories: &[Advisory],
 ) -> Result<Vec<Finding>, NoMemory>
     requires name { blank.name ≡ L.name }
     requires parts { blank.parts ≡ L.parts }
     requires some { 0 < L.parts }
-    ensures { IfOk result (λ out. out.items ≡ found_all feed.now advisory.now packages.now) }
+    ensures { IfOk result (λ out. out.items ≡ found_all feed.now advisories.now packages.now) }
 {
     let mut steps = Steps::<L>::open(blank);
-    let ready = ReadyKinds {
-        deb: prepare(alloc, advisory, PackageKind::Deb)?,
-        apk: prepare(alloc, advisory, PackageKind::Apk)?,
-        npm: prepare(alloc, advisory, PackageKind::Npm)?,
-    };
-    find_each(alloc, packages, feed, advisory, &ready, &mut steps)
-}
-
-fn find_each<L: Ledger>(
-    alloc: Global,
-    packages: &[Package],
-    feed: &Text,
-    advisory: &Advisory,
-    ready: &ReadyKinds,
-    steps: &mut Steps<L>,
-) -> Result<Vec<Finding>, NoMemory>
-    requires ready { IsReady ready.now advisory.now }
-    ensures { IfOk result (λ out. out.items ≡ found_all feed.now advisory.now packages.now) }
-{
+    let index = index_records(alloc, advisories)?;
     let mut out = Vec::new(alloc);
     for package in packages {
-        let found = find_one(alloc, package, feed, advisory, ready, steps)?;
+        let found = find_in(alloc, package, feed, advisories, &index, &mut steps)?;
+        add_all(&mut out, found)?;
+    }
+    Ok(out)
+}
+
+/// What the records say of a package, in their order.
+#[tactic(auto, using(crate::proofs::Looked::found_named))]
+fn find_in<L: Ledger>(
+    alloc: Global,
+    package: &Package,
+    feed: &Text,
+    advisories: &[Advisory],
+    index: &Index,
+    steps: &mut Steps<L>,
+) -> Result<Vec<Finding>, NoMemory>
+    requires indexed { Indexes index.now advisories.now }
+    ensures { IfOk result (λ found. found.items ≡ found_by feed.now advisories.now «package».now) }
+{
+    let numbers = numbers_for(alloc, index, package)?;
+    find_numbered(alloc, package, feed, advisories, numbers.as_slice(), steps)
+}
+
+/// What the records of these numbers say of a package.
+fn find_numbered<L: Ledger>(
+    alloc: Global,
+    package: &Package,
+    feed: &Text,
+    advisories: &[Advisory],
+    numbers: &[usize],
+    steps: &mut Steps<L>,
+) -> Result<Vec<Finding>, NoMemory>
+    ensures { IfOk result (λ found. found.items ≡ flat_map (found_at «package».now feed.now advisories.now) numbers.now) }
+{
+    let prepared = prepare_package(alloc, package)?;
+    let mut out = Vec::new(alloc);
+    for number in numbers {
+        let found = find_at(alloc, package, &prepared, feed, advisories, *number, steps)?;
         add(&mut out, found)?;
     }
     Ok(out)
+}
+
+/// What the record of this number says of a package.
+fn find_at<L: Ledger>(
+    alloc: Global,
+    package: &Package,
+    prepared: &ReadyPackage,
+    feed: &Text,
+    advisories: &[Advisory],
+    number: usize,
+    steps: &mut Steps<L>,
+) -> Result<Option<Finding>, NoMemory>
+    requires prepared { prepared.now ≡ «package».now }
+    ensures { IfOk result (λ finding. option_to_list finding ≡ found_at «package».now feed.now advisories.now number) }
+{
+    match advisories.get(number) {
+        Some(advisory) => find_one(alloc, package, prepared, feed, advisory, steps),
+        None => Ok(None),
+    }
+}
+
+/// Adds findings.
+fn add_all(out: &mut Vec<Finding>, mut found: Vec<Finding>) -> Result<(), NoMemory>
+    ensures { OnOk result (out.new.items ≡ out.old.items ++ found.items) }
+{
+    out.append(&mut found)?;
+    Ok(())
 }
 
 /// Adds a finding, if there is one.
@@ -89,16 +131,16 @@ fn add(out: &mut Vec<Finding>, found: Option<Finding>) -> Result<(), NoMemory>
 fn find_one<L: Ledger>(
     alloc: Global,
     package: &Package,
+    prepared: &ReadyPackage,
     feed: &Text,
     advisory: &Advisory,
-    ready: &ReadyKinds,
     steps: &mut Steps<L>,
 ) -> Result<Option<Finding>, NoMemory>
-    requires ready { IsReady ready.now advisory.now }
+    requires prepared { prepared.now ≡ «package».now }
     ensures { IfOk result (λ finding. option_to_list finding ≡ found «package».now feed.now advisory.now) }
 {
-    let prepared = prepare_package(alloc, package)?;
-    match affects(ready_for(ready, package.kind), &prepared, steps) {
+    let ready = prepare(alloc, advisory, package.kind)?;
+    match affects(&ready, prepared, steps) {
         Hit::No => Ok(None),
         Hit::Yes { fixed } => Ok(Some(Finding {
             package: package.clone()?,
@@ -106,17 +148,6 @@ fn find_one<L: Ledger>(
             advisory: advisory.id.clone()?,
             fixed: fixed_of(alloc, advisory, fixed)?,
         })),
-    }
-}
-
-/// The record, read for this kind of package.
-fn ready_for(ready: &ReadyKinds, kind: PackageKind) -> &ReadyAdvisory
-    ensures { result.now ≡ ready_of ready.now kind }
-{
-    match kind {
-        PackageKind::Deb => &ready.deb,
-        PackageKind::Apk => &ready.apk,
-        PackageKind::Npm => &ready.npm,
     }
 }
 
@@ -136,3 +167,6 @@ fn fixed_of(
         Some(text) => Ok(Some(Text::of(alloc, text)?)),
     }
 }
+
+#[cfg(test)]
+mod tests;

@@ -2,6 +2,7 @@
 #![tactic(auto)]
 
 mod find;
+mod index;
 mod order;
 
 pub use find::find_all;

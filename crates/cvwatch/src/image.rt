@@ -13,6 +13,7 @@ use cv_packages::{PackagesError, read_packages};
 use cv_scan::find_all;
 use cv_transcript::{good_line, image_line};
 use std::alloc::Global;
+use std::slice::from_ref;
 
 /// A line to be printed, and whether it tells of a whole scan.
 #[derive(Debug, Drop)]
@@ -81,7 +82,8 @@ fn scan_entries(
     match read_packages(alloc, entries) {
         Ok(packages) => {
             let feed = Text::of(alloc, "scan")?;
-            Ok(Some(find_all(alloc, packages.as_slice(), &feed, advisory)?))
+            let advisories = from_ref(advisory);
+            Ok(Some(find_all(alloc, packages.as_slice(), &feed, advisories)?))
         }
         Err(PackagesError::NoMemory) => Err(NoMemory),
         Err(PackagesError::BadFile { .. } | PackagesError::TooLarge { .. }) => Ok(None),
