@@ -1,5 +1,5 @@
 -- The definitions, computed on small images.
-use Rattle.std.specs.Prelude.{◌≡◌, ℕ, true, false, List, [], ◌∷◌, ◌++◌, codes, Some, None, refl}
+use Rattle.std.specs.Prelude.{◌≡◌, ℕ, false, List, [], ◌∷◌, ◌++◌, codes, Some, None, Ok, Err, refl}
 use Rattle.cv_base.specs.Path.{components}
 use Rattle.cv_base.specs.declared.advisory.Advisory.{Advisory}
 use Rattle.cv_base.specs.declared.finding.Finding.{Finding}
@@ -10,12 +10,13 @@ use Rattle.cv_base.specs.declared.tree.Node.TheVariants as node
 use Rattle.cv_base.specs.declared.tree.TreeEntry.{TreeEntry}
 use Rattle.cv_match.specs.Affects.{affects, fixed}
 use Rattle.cv_match.specs.Findings.{findings}
-use Rattle.cv_overlay.specs.declared.fault.TreeFault.TheVariants.{Unsorted}
+use Rattle.cv_base.specs.declared.fault.What.TheVariants as what
+use Rattle.cv_overlay.specs.declared.fault.ImageFault.TheVariants.{NoLayer, BadTree, BadFile, TooLarge as LargeFile}
+use Rattle.cv_overlay.specs.declared.fault.TreeFault.TheVariants.{BadMark, Unsorted}
 use Rattle.cv_packages.specs.Packages.{packages}
-use Rattle.cv_packages.specs.declared.error.PackagesError.TheVariants as error
 use Rattle.cv_scan.specs.Root.{root_entries}
-use Rattle.cv_scan.specs.Scan.{NoLayer, BadTree, BadFile, Good, scan}
-use Rattle.cv_scan.specs.Unmarked.{has_no_marks}
+use Rattle.cv_scan.specs.Layers.{distinct}
+use Rattle.cv_scan.specs.Scan.{scan}
 
 abbrev dir : List ℕ → TreeEntry
 dir text = record { path = components text; node = node.Dir }
@@ -29,9 +30,9 @@ abbrev base : List TreeEntry
 base = dir (codes "app") ∷ file (codes "app/old") (Bytes (codes "1")) ∷ file (codes "app/status") (Bytes (codes "2")) ∷ dir (codes "etc") ∷ []
 
 -- one layer is its own root
-one : (root_entries (base ∷ []) ≡ base) × (has_no_marks base ≡ true)
+one : root_entries (base ∷ []) ≡ base
 unfolding root_entries
-one = (refl, refl)
+one = refl
 
 -- a whiteout is gone with what it hides, what is new stands at its place, and what is there twice is the upper one
 two : root_entries
@@ -49,20 +50,34 @@ abbrev with_status : Content → List TreeEntry
 with_status content = dir (codes "var") ∷ dir (codes "var/lib") ∷ dir (codes "var/lib/dpkg") ∷ file (codes "var/lib/dpkg/status") content ∷ []
 
 -- a layer that is not there is told before a bad tree, wherever the two stand
-absent : (scan (None ∷ []) [] ≡ NoLayer 0) × (scan (Some falling ∷ None ∷ None ∷ []) [] ≡ NoLayer 1)
+absent : (scan (None ∷ []) [] ≡ Err (NoLayer 0)) × (scan (Some falling ∷ None ∷ None ∷ []) [] ≡ Err (NoLayer 1))
 unfolding scan
 absent = (refl, refl)
 
 -- the first bad tree is told before a bad file
-bad_tree : scan (Some (with_status TooLarge) ∷ Some falling ∷ Some falling ∷ []) [] ≡ BadTree 1 (Unsorted 1)
+bad_tree : scan (Some (with_status TooLarge) ∷ Some falling ∷ Some falling ∷ []) [] ≡ Err (BadTree 1 (Unsorted 1))
 unfolding scan
 bad_tree = refl
 
+-- a mark without a name
+bad_mark : scan (Some (file (codes ".wh.") (Bytes []) ∷ []) ∷ []) [] ≡ Err (BadTree 0 (BadMark 0))
+unfolding scan
+bad_mark = refl
+
 -- a file that no layer hides is refused, and one that is hidden is not looked at
-bad_file : (scan (Some (with_status TooLarge) ∷ []) [] ≡ BadFile (error.TooLarge (components (codes "var/lib/dpkg/status"))))
-    × (scan (Some (with_status TooLarge) ∷ Some (file (codes ".wh.var") (Bytes []) ∷ []) ∷ []) [] ≡ Good [])
+bad_file : (scan (Some (with_status TooLarge) ∷ []) [] ≡ Err (LargeFile (components (codes "var/lib/dpkg/status"))))
+    × (scan (Some (with_status TooLarge) ∷ Some (file (codes ".wh.var") (Bytes []) ∷ []) ∷ []) [] ≡ Ok [])
 unfolding scan root_entries packages findings
 bad_file = (refl, refl)
+
+-- the first bad line of a package file
+bad_line : scan (Some (with_status (Bytes (codes "Package: a\nStatus: install ok installed\nnocolon\n"))) ∷ []) [] ≡ Err (BadFile (components (codes "var/lib/dpkg/status")) 3 what.NoColon)
+unfolding scan root_entries packages findings
+bad_line = refl
+
+-- a layer that is named twice is one layer, at its first place
+twice : distinct (codes "a" ∷ codes "b" ∷ codes "a" ∷ []) ≡ codes "a" ∷ codes "b" ∷ []
+twice = refl
 
 abbrev zlib : List ℕ
 zlib = codes "Package: zlib" ++ 10 ∷ codes "Status: install ok installed" ++ 10 ∷ codes "Version: 1" ++ 10 ∷ []
@@ -94,6 +109,6 @@ told id = record {
 
 -- a package that is listed twice has one finding for each record, in the order of their ids
 found : scan (Some (with_status (Bytes (zlib ++ 10 ∷ zlib))) ∷ []) ((codes "f", listed (codes "X-2") ∷ listed (codes "X-1") ∷ []) ∷ [])
-    ≡ Good (told (codes "X-1") ∷ told (codes "X-2") ∷ [])
+    ≡ Ok (told (codes "X-1") ∷ told (codes "X-2") ∷ [])
 unfolding scan root_entries packages findings affects fixed
 found = refl

@@ -1,5 +1,5 @@
--- A layer as it is loaded has the packages, the fault and the marks of the whole layer: what loading leaves out is not
--- looked at, or refused at the same place.
+-- A root as it is loaded has the packages and the fault of the whole root: what loading leaves out is not looked at, or
+-- refused at the same place.
 use Rattle.std.specs.Prelude.{◌≡◌, ℕ, Bool, true, false, ◌&&◌, ◌||◌, nat_lt, is_none, if◌then◌else◌, List, [], ◌∷◌, ◌++◌, length, map, Option, Some, None, Result, Ok, Err, refl}
 use Rattle.std.specs.List.{cons_option, filter_map, list_any}
 use Rattle.std.specs.Option.{option_map}
@@ -13,9 +13,12 @@ use Rattle.cv_base.specs.declared.places.Place.{Place}
 use Rattle.cv_base.specs.declared.places.Place.TheVariants.{Status, StatusFolder, Installed, UsrInstalled, Os, UsrOs, Npm}
 use Rattle.cv_base.specs.declared.tree.Content.{Content}
 use Rattle.cv_base.specs.declared.tree.Content.TheVariants.{Bytes, TooLarge, Unread}
+use Rattle.cv_base.specs.declared.tree.Node.{Node}
+use Rattle.cv_base.specs.declared.tree.Node.TheVariants as node
+use Rattle.cv_base.specs.declared.tree.TreeEntry.{TreeEntry}
 use Rattle.cv_apkdb.specs.Installed.{installed}
 use Rattle.cv_apkdb.specs.declared.package.ApkPackage.{ApkPackage}
-use Rattle.cv_desk.specs.Loaded.{loaded, node_of, whole, whole_node}
+use Rattle.cv_desk.specs.Loaded.{content_of, loaded, node_of, whole, whole_node}
 use Rattle.cv_desk.specs.Stored.{Dir, File, Item, Other, Stored}
 use Rattle.cv_dpkg.specs.Status.{status}
 use Rattle.cv_dpkg.specs.declared.package.DebPackage.{DebPackage}
@@ -27,7 +30,6 @@ use Rattle.cv_packages.specs.Files.{PackageFile, content_in, counted, file_at, h
 use Rattle.cv_packages.specs.Packages.{◌>>=◌, apk_found, deb_found, packages, read_content, read_file, read_files, read_place, system}
 use Rattle.cv_packages.specs.declared.error.PackagesError.{PackagesError}
 use Rattle.cv_packages.specs.declared.error.PackagesError.TheVariants as error
-use Rattle.cv_scan.specs.Unmarked.{has_no_marks, is_unmarked}
 
 -- The files of a layer as it is loaded are those of the whole layer, each up to the limit.
 
@@ -44,27 +46,65 @@ limited Unread = Unread
 abbrev limited_file : PackageFile → PackageFile
 limited_file file = record { path = file.path; place = file.place; content = limited file.content }
 
+-- what loading makes of a node of a root
+abbrev pub load_content : Path → Content → Content
+load_content path (Bytes bytes) = content_of path bytes
+load_content path TooLarge = TooLarge
+load_content path Unread = Unread
+
+abbrev pub load_node : Path → Node → Node
+load_node path node.Dir = node.Dir
+load_node path (node.File content) = node.File (load_content path content)
+load_node path node.Other = node.Other
+
+abbrev pub load_entry : TreeEntry → TreeEntry
+load_entry e = record { path = e.path; node = load_node e.path e.node }
+
+item_is : (path : Path) (item : Item) → node_of path item ≡ load_node path (whole_node item)
+item_is path Dir = refl
+item_is path (File bytes) = refl
+item_is path Other = refl
+
+-- a layer as it is loaded is the whole layer, of which so much is left out
+pub loaded_is : (es : List Stored) → map loaded es ≡ map load_entry (map whole es)
+loaded_is [] = refl
+loaded_is (e ∷ es) = λ i. record { path = e.path; node = item_is e.path e.item i } ∷ loaded_is es i
+
 placed_file : (path : Path) (place : Option Place) (bytes : List ℕ)
     → file_at path (Some (if is_none place then Unread else (if nat_lt 33554432 (length bytes) then TooLarge else Bytes bytes))) place
     ≡ option_map limited_file (file_at path (Some (Bytes bytes)) place)
 placed_file path None bytes = refl
 placed_file path (Some place) bytes = refl
 
-placed_item : (path : Path) (item : Item) → file_at path (content_in (node_of path item)) (place_of path) ≡ option_map limited_file (file_at path (content_in (whole_node item)) (place_of path))
-placed_item path Dir = refl
-placed_item path (File bytes) = placed_file path (place_of path) bytes
-placed_item path Other = refl
+placed_large : (path : Path) (place : Option Place) → file_at path (Some TooLarge) place ≡ option_map limited_file (file_at path (Some TooLarge) place)
+placed_large path None = refl
+placed_large path (Some place) = refl
 
-placed_loaded : (e : Stored) → placed (loaded e) ≡ option_map limited_file (placed (whole e))
-placed_loaded e = placed_item e.path e.item
+placed_unread : (path : Path) (place : Option Place) → file_at path (Some Unread) place ≡ option_map limited_file (file_at path (Some Unread) place)
+placed_unread path None = refl
+placed_unread path (Some place) = refl
+
+placed_content : (path : Path) (content : Content)
+    → file_at path (Some (load_content path content)) (place_of path) ≡ option_map limited_file (file_at path (Some content) (place_of path))
+placed_content path (Bytes bytes) = placed_file path (place_of path) bytes
+placed_content path TooLarge = placed_large path (place_of path)
+placed_content path Unread = placed_unread path (place_of path)
+
+placed_node : (path : Path) (n : Node) → file_at path (content_in (load_node path n)) (place_of path) ≡ option_map limited_file (file_at path (content_in n) (place_of path))
+placed_node path node.Dir = refl
+placed_node path (node.File content) = placed_content path content
+placed_node path node.Other = refl
+
+placed_loaded : (e : TreeEntry) → placed (load_entry e) ≡ option_map limited_file (placed e)
+placed_loaded e = placed_node e.path e.node
 
 etc_limited : (found : Option PackageFile) → is_etc_file (option_map limited_file found) ≡ is_etc_file found
 etc_limited None = refl
 etc_limited (Some file) = refl
 
-etc_loaded : (es : List Stored) → has_etc (map loaded es) ≡ has_etc (map whole es)
+etc_loaded : (es : List TreeEntry) → has_etc (map load_entry es) ≡ has_etc es
 etc_loaded [] = refl
-etc_loaded (e ∷ es) = λ i. (ap is_etc_file (placed_loaded e) ∙ etc_limited (placed (whole e))) i || etc_loaded es i
+etc_loaded (e ∷ es) = λ i. (ap is_etc_file (placed_loaded e) ∙ etc_limited (placed e)) i || etc_loaded es i
 
 counted_limited : (etc : Bool) (found : Option PackageFile) → counted etc (option_map limited_file found) ≡ option_map limited_file (counted etc found)
 counted_limited etc None = refl
@@ -77,14 +117,14 @@ cons_limited : (found : Option PackageFile) (files : List PackageFile) → cons_
 cons_limited None files = refl
 cons_limited (Some file) files = refl
 
-files_by : (etc : Bool) (es : List Stored) → filter_map (package_file etc) (map loaded es) ≡ map limited_file (filter_map (package_file etc) (map whole es))
+files_by : (etc : Bool) (es : List TreeEntry) → filter_map (package_file etc) (map load_entry es) ≡ map limited_file (filter_map (package_file etc) es)
 files_by etc [] = refl
 files_by etc (e ∷ es) =
-    (λ i. cons_option ((ap (counted etc) (placed_loaded e) ∙ counted_limited etc (placed (whole e))) i) (files_by etc es i))
-    ∙ cons_limited (counted etc (placed (whole e))) (filter_map (package_file etc) (map whole es))
+    (λ i. cons_option ((ap (counted etc) (placed_loaded e) ∙ counted_limited etc (placed e)) i) (files_by etc es i))
+    ∙ cons_limited (counted etc (placed e)) (filter_map (package_file etc) es)
 
-files_loaded : (es : List Stored) → package_files (map loaded es) ≡ map limited_file (package_files (map whole es))
-files_loaded es = ap (λ etc. filter_map (package_file etc) (map loaded es)) (etc_loaded es) ∙ files_by (has_etc (map whole es)) es
+files_loaded : (es : List TreeEntry) → package_files (map load_entry es) ≡ map limited_file (package_files es)
+files_loaded es = ap (λ etc. filter_map (package_file etc) (map load_entry es)) (etc_loaded es) ∙ files_by (has_etc es) es
 
 -- A file is read as it is up to the limit.
 
@@ -210,27 +250,22 @@ files_alike files = by_test (list_any is_large_file files) refl where
       (files_error (system (map limited_file files)) (system files) files) (files_fail (system (map limited_file files)) files h)
   by_test false h = ap (λ fs. read_files (system fs) fs) (files_small files h)
 
--- a layer as it is loaded has the packages of the whole layer
-pub loaded_packages : (es : List Stored) → packages (map loaded es) ≡ packages (map whole es)
+-- a root as it is loaded has the packages of the whole root
+pub loaded_packages : (es : List TreeEntry) → packages (map load_entry es) ≡ packages es
 unfolding packages
-loaded_packages es = ap (λ files. read_files (system files) files) (files_loaded es) ∙ files_alike (package_files (map whole es))
+loaded_packages es = ap (λ files. read_files (system files) files) (files_loaded es) ∙ files_alike (package_files es)
 
--- Paths and kinds are those of the whole layer.
+-- Paths and kinds are those of the whole root.
 
-dir_loaded : (path : Path) (item : Item) → is_dir_node (node_of path item) ≡ is_dir_node (whole_node item)
-dir_loaded path Dir = refl
-dir_loaded path (File bytes) = refl
-dir_loaded path Other = refl
+pub dir_loaded : (path : Path) (n : Node) → is_dir_node (load_node path n) ≡ is_dir_node n
+dir_loaded path node.Dir = refl
+dir_loaded path (node.File content) = refl
+dir_loaded path node.Other = refl
 
-outlines_loaded : (es : List Stored) → map outline (map loaded es) ≡ map outline (map whole es)
+outlines_loaded : (es : List TreeEntry) → map outline (map load_entry es) ≡ map outline es
 outlines_loaded [] = refl
-outlines_loaded (e ∷ es) = λ i. record { path = e.path; is_dir = dir_loaded e.path e.item i } ∷ outlines_loaded es i
+outlines_loaded (e ∷ es) = λ i. record { path = e.path; is_dir = dir_loaded e.path e.node i } ∷ outlines_loaded es i
 
--- and its fault
-pub loaded_fault : (es : List Stored) → tree_fault (map loaded es) ≡ tree_fault (map whole es)
+-- and so is its fault
+pub loaded_fault : (es : List TreeEntry) → tree_fault (map load_entry es) ≡ tree_fault es
 loaded_fault es = ap fault (outlines_loaded es)
-
--- and its marks
-pub loaded_marks : (es : List Stored) → has_no_marks (map loaded es) ≡ has_no_marks (map whole es)
-loaded_marks [] = refl
-loaded_marks (e ∷ es) = ap (λ b. is_unmarked (whole e) && b) (loaded_marks es)

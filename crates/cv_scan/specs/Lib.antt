@@ -1,6 +1,7 @@
+pub mod Distinct
 pub mod Found
 pub mod Index
 pub mod Keyed
+pub mod Layers
 pub mod Root
 pub mod Scan
-pub mod Unmarked

@@ -7,50 +7,68 @@ use Rattle.cv_base.specs.declared.package.Package.{Package}
 use Rattle.cv_base.specs.declared.tree.TreeEntry.{TreeEntry}
 use Rattle.cv_match.specs.Findings.{findings}
 use Rattle.cv_overlay.specs.Fault.{tree_fault}
+use Rattle.cv_overlay.specs.declared.fault.ImageFault.{ImageFault}
+use Rattle.cv_overlay.specs.declared.fault.ImageFault.TheVariants as fault
 use Rattle.cv_overlay.specs.declared.fault.TreeFault.{TreeFault}
 use Rattle.cv_packages.specs.Packages.{packages}
 use Rattle.cv_packages.specs.declared.error.PackagesError.{PackagesError}
+use Rattle.cv_packages.specs.declared.error.PackagesError.TheVariants as error
 use Rattle.cv_scan.specs.Root.{root_entries}
 
--- what a scan tells; layers are numbered from 0
-pub data Scanned : Type 0 where
-  NoLayer : ℕ → Scanned
-  BadTree : ℕ → TreeFault → Scanned
-  BadFile : PackagesError → Scanned
-  Good : List Finding → Scanned
+-- what a scan tells: the findings, or why the image has none. Layers are numbered from 0
+abbrev pub Scanned : Type 0
+Scanned = Result (List Finding) ImageFault
 
 -- one more tree before others
-abbrev pub with_tree : List TreeEntry → Result (List (List TreeEntry)) ℕ → Result (List (List TreeEntry)) ℕ
+abbrev pub with_tree : List TreeEntry → Result (List (List TreeEntry)) ImageFault → Result (List (List TreeEntry)) ImageFault
 with_tree tree (Ok trees) = Ok (tree ∷ trees)
-with_tree tree (Err number) = Err number
+with_tree tree (Err bad) = Err bad
 
--- the number of the first layer without a tree, or all trees
-abbrev pub trees_from : ℕ → List (Option (List TreeEntry)) → Result (List (List TreeEntry)) ℕ
+-- all trees, or the first layer without one
+abbrev pub trees_from : ℕ → List (Option (List TreeEntry)) → Result (List (List TreeEntry)) ImageFault
 trees_from number [] = Ok []
-trees_from number (None ∷ layers) = Err number
+trees_from number (None ∷ layers) = Err (fault.NoLayer number)
 trees_from number (Some tree ∷ layers) = with_tree tree (trees_from (number + 1) layers)
 
-abbrev pub or_bad : ℕ → Option TreeFault → Option Scanned → Option Scanned
+abbrev pub or_bad : ℕ → Option TreeFault → Option ImageFault → Option ImageFault
 or_bad number None later = later
-or_bad number (Some fault) later = Some (BadTree number fault)
+or_bad number (Some told) later = Some (fault.BadTree number told)
 
 -- the first tree that is not good, with its number
-abbrev pub bad_tree_from : ℕ → List (List TreeEntry) → Option Scanned
+abbrev pub bad_tree_from : ℕ → List (List TreeEntry) → Option ImageFault
 bad_tree_from number [] = None
 bad_tree_from number (tree ∷ trees) = or_bad number (tree_fault tree) (bad_tree_from (number + 1) trees)
 
--- the findings of packages, or the refusal
-abbrev pub scan_packages : Result (List Package) PackagesError → List (List ℕ × List Advisory) → Scanned
-scan_packages (Ok found) feeds = Good (findings found feeds)
-scan_packages (Err error) feeds = BadFile error
+-- the refusal of a package file as that of its image. (Want of memory is no refusal: no definition gives it.)
+abbrev pub file_fault : PackagesError → ImageFault
+file_fault (error.BadFile path line what) = fault.BadFile path line what
+file_fault (error.TooLarge path) = fault.TooLarge path
+file_fault error.NoMemory = fault.TooLarge []
 
-abbrev pub scan_good : Option Scanned → List (List TreeEntry) → List (List ℕ × List Advisory) → Scanned
-scan_good (Some bad) trees feeds = bad
-scan_good None trees feeds = scan_packages (packages (root_entries trees)) feeds
+-- the findings of a root, or the refusal of its first package file that is refused
+abbrev pub with_findings : List (List ℕ × List Advisory) → Result (List Package) PackagesError → Result (List Finding) PackagesError
+with_findings feeds (Ok found) = Ok (findings found feeds)
+with_findings feeds (Err refused) = Err refused
 
-abbrev pub scan_layers : Result (List (List TreeEntry)) ℕ → List (List ℕ × List Advisory) → Scanned
-scan_layers (Err number) feeds = NoLayer number
-scan_layers (Ok trees) feeds = scan_good (bad_tree_from 0 trees) trees feeds
+abbrev pub found_in : List TreeEntry → List (List ℕ × List Advisory) → Result (List Finding) PackagesError
+found_in entries feeds = with_findings feeds (packages entries)
+
+-- the same, as that of the image
+abbrev pub as_scanned : Result (List Finding) PackagesError → Scanned
+as_scanned (Ok found) = Ok found
+as_scanned (Err refused) = Err (file_fault refused)
+
+abbrev pub scan_good : Option ImageFault → List (List TreeEntry) → List (List ℕ × List Advisory) → Scanned
+scan_good (Some bad) trees feeds = Err bad
+scan_good None trees feeds = as_scanned (found_in (root_entries trees) feeds)
+
+-- the scan of an image that has all these trees
+abbrev pub scan_of : List (List TreeEntry) → List (List ℕ × List Advisory) → Scanned
+scan_of trees feeds = scan_good (bad_tree_from 0 trees) trees feeds
+
+abbrev pub scan_layers : Result (List (List TreeEntry)) ImageFault → List (List ℕ × List Advisory) → Scanned
+scan_layers (Err bad) feeds = Err bad
+scan_layers (Ok trees) feeds = scan_of trees feeds
 
 -- the scan of an image: takes the tree of each of its layers, if it has one, the base first, and the feeds, each by its
 -- name with its records

@@ -1,5 +1,4 @@
-pub mod Answers
-pub mod Going
-pub mod Scans
+pub mod Ends
+pub mod Tells
 pub mod Versions
 pub mod Words

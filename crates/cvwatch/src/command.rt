@@ -1,19 +1,19 @@
-ghost use Rattle.std.specs.Prelude.{◌≡◌, ◌^◌, ◌<◌};
+ghost use Rattle.std.specs.Prelude.{◌≡◌, ◌^◌, ◌<◌, ◌≤◌, length};
+ghost use Rattle.std.specs.Io.KnownBytes.{IsAtEnd};
 ghost use Rattle.cv_seq.specs.Cause.{Rose};
-ghost use Rattle.cvwatch.specs.Command.{AnswerWritten, FaultWritten, IsAnswered, ScanEnds};
-ghost use Rattle.cvwatch.specs.Image.{answer_of};
-ghost use Rattle.cvwatch.specs.Parsed.{parsed_of};
+ghost use Rattle.cvwatch.specs.Command.{OutcomePrinted, RefusalPrinted, ScanEnds};
 
-use crate::answer::{AnswerError, answer_to};
-use crate::image::Answer;
-use crate::input::read_lines;
+use crate::print::print;
+use crate::scanning::scan_answer;
 use crate::status::Status;
-use cv_base::Seq;
+use cv_base::NoMemory;
 use cv_desk::Desk;
-use cv_io::{LineError, Sink, Source, WriteError, write_all};
+use cv_io::{Sink, Source};
+use cv_scan_input::{InputError, ScanInput, read_scan_input};
+use cv_transcript::{no_manifest_line, refusal_line};
 use std::alloc::Global;
 
-/// Reads the manifest of an image and one record of advisories, and prints what the record finds in the image.
+/// Reads the manifest of an image and records of advisories, and prints what the records find in the image.
 pub fn scan_command<S: Source, K: Sink, D: Desk>(
     alloc: Global,
     input: &mut S,
@@ -26,58 +26,45 @@ pub fn scan_command<S: Source, K: Sink, D: Desk>(
     ensures write_fault { result ≡ Status.WriteFault → Rose (K.faults output.old) (K.faults output.new) }
     ensures desk_fault { result ≡ Status.DeskFault → Rose (D.faults desk.old) (D.faults desk.new) }
 {
-    match read_lines(alloc, input) {
-        Ok(lines) => answer_lines(alloc, output, desk, lines.as_slice()),
-        Err(LineError::ReadFault) => Status::ReadFault,
-        Err(LineError::LineTooLong) => Status::LineTooLong,
-        Err(LineError::InputTooLong) => Status::InputTooLong,
-        Err(LineError::NoMemory) => Status::NoMemory,
+    match read_scan_input(alloc, input) {
+        Ok(asked) => print_scan(alloc, output, desk, &asked),
+        Err(InputError::NoManifest) => print_line(output, no_manifest_line(alloc)),
+        Err(InputError::Refused { line, error }) => {
+            print_line(output, refusal_line(alloc, line, &error))
+        }
+        Err(InputError::ReadFault) => Status::ReadFault,
+        Err(InputError::LineTooLong) => Status::LineTooLong,
+        Err(InputError::InputTooLong) => Status::InputTooLong,
+        Err(InputError::NoMemory) => Status::NoMemory,
     }
 }
 
-/// Prints what is to be told for lines.
-fn answer_lines<K: Sink, D: Desk>(
+/// Prints what comes of the image.
+fn print_scan<K: Sink, D: Desk>(
     alloc: Global,
     output: &mut K,
     desk: &mut D,
-    lines: &[Seq<u8>],
+    asked: &ScanInput,
 ) -> Status
     requires room { D.listings desk.old < 2 ^ 62 }
-    ensures told { IsAnswered D.tree (parsed_of lines.now) (D.listings desk.old) (D.listings desk.new) (K.contents output.old) (K.contents output.new) result }
+    requires few { length asked.now.manifest.layers ≤ 128 }
+    ensures told { OutcomePrinted D.tree asked.now.manifest asked.now.records (D.listings desk.old) (D.listings desk.new) (K.contents output.old) (K.contents output.new) result }
     ensures write_fault { result ≡ Status.WriteFault → Rose (K.faults output.old) (K.faults output.new) }
     ensures desk_fault { result ≡ Status.DeskFault → Rose (D.faults desk.old) (D.faults desk.new) }
 {
-    match answer_to(alloc, desk, lines) {
-        Ok(answer) => write_answer(output, &answer),
-        Err(AnswerError::Desk { line }) => write_fault(output, line.as_str()),
-        Err(AnswerError::NoMemory) => Status::NoMemory,
+    match scan_answer(alloc, desk, asked) {
+        Ok(answer) => print(output, answer.text.as_str(), answer.ended),
+        Err(NoMemory) => Status::NoMemory,
     }
 }
 
-fn write_answer<K: Sink>(output: &mut K, answer: &Answer) -> Status
-    ensures told { AnswerWritten (answer_of answer.now) (K.contents output.old) (K.contents output.new) result }
+/// Prints why the input is refused.
+fn print_line<K: Sink>(output: &mut K, line: Result<String, NoMemory>) -> Status
+    ensures told { RefusalPrinted line (K.contents output.old) (K.contents output.new) result }
     ensures write_fault { result ≡ Status.WriteFault → Rose (K.faults output.old) (K.faults output.new) }
 {
-    match write_all(output, answer.text.as_bytes()) {
-        Ok(()) => {
-            if answer.good {
-                Status::Done
-            } else {
-                Status::Refused
-            }
-        }
-        Err(WriteError::WriteFault) => Status::WriteFault,
-        Err(WriteError::NoMemory) => Status::NoMemory,
-    }
-}
-
-fn write_fault<K: Sink>(output: &mut K, line: &str) -> Status
-    ensures told { FaultWritten line.now (K.contents output.old) (K.contents output.new) result }
-    ensures write_fault { result ≡ Status.WriteFault → Rose (K.faults output.old) (K.faults output.new) }
-{
-    match write_all(output, line.as_bytes()) {
-        Ok(()) => Status::DeskFault,
-        Err(WriteError::WriteFault) => Status::WriteFault,
-        Err(WriteError::NoMemory) => Status::NoMemory,
+    match line {
+        Ok(text) => print(output, text.as_str(), Status::Refused),
+        Err(NoMemory) => Status::NoMemory,
     }
 }

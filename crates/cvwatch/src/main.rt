@@ -7,16 +7,12 @@
 
 ghost use Rattle.std.specs.Prelude.{◌≡◌, ◌+◌, ◌^◌, ◌<◌, length, All, IfOk, OnOk};
 
-mod answer;
 mod command;
-mod image;
-mod input;
 mod order;
-mod parsed;
+mod print;
 mod run;
+mod scanning;
 mod status;
-#[cfg(test)]
-mod tests;
 mod usage;
 
 use crate::run::run;

@@ -1,0 +1,112 @@
+-- The distinct layers, found from the front.
+use Rattle.std.specs.Prelude.{◌≡◌, ℕ, ◌+◌, ◌≤◌, Bool, true, false, ◌&&◌, ◌||◌, not, filter, if◌then◌else◌, List, [], ◌∷◌, ◌++◌, length, cond, slice_get, Some, refl}
+use Rattle.std.specs.List.{list_any}
+use Rattle.std.proofs.Common.{◌<◌, zero, suc, get_or, drop, ap, sym, ◌∙◌, append_assoc, append-nil, arith}
+use Rattle.std.proofs.lemmas.List.{drop_more, length-append}
+use Rattle.std.proofs.lemmas.List.Folds.{list_any-append}
+use Rattle.cv_base.specs.Texts.{same}
+use Rattle.cv_overlay.proofs.PathWords.{same_is}
+use Rattle.cv_scan.specs.Distinct.{is_seen, with_layer}
+use Rattle.cv_scan.specs.Layers.{IsFailed, IsOfLayer, IsOfLayers, distinct}
+use Rattle.cv_scan.specs.declared.error.ImageError.{ImageError}
+use Rattle.cv_scan.specs.declared.error.ImageError.TheVariants as error
+
+-- those that are not among these
+abbrev pub unseen : List (List ℕ) → List (List ℕ) → List (List ℕ)
+unseen seen layers = filter (λ layer. not (is_seen seen layer)) layers
+
+-- what was found, with what is left
+abbrev pub behind : List (List ℕ) → List (List ℕ) → List (List ℕ)
+behind seen layers = seen ++ unseen seen (distinct layers)
+
+-- a test that is no weaker than another one needs no help of it
+filter_twice : {A : Type 0} (p q : A → Bool) → ((y : A) → q y ≡ false → p y ≡ false) → (ys : List A) → filter p (filter q ys) ≡ filter p ys
+filter_twice p q h [] = refl
+filter_twice p q h (y ∷ ys) = by_test (q y) refl (filter_twice p q h ys) where
+  by_test : (b : Bool) → q y ≡ b → filter p (filter q ys) ≡ filter p ys → filter p (cond b (y ∷ filter q ys) (filter q ys)) ≡ cond (p y) (y ∷ filter p ys) (filter p ys)
+  by_test true e rest = ap (λ zs. cond (p y) (y ∷ zs) zs) rest
+  by_test false e rest = rest ∙ ap (λ c. cond c (y ∷ filter p ys) (filter p ys)) (sym (h y e))
+
+-- two tests are one
+filter_both : {A : Type 0} (p q r : A → Bool) → ((y : A) → r y ≡ (q y && p y)) → (ys : List A) → filter p (filter q ys) ≡ filter r ys
+filter_both p q r h [] = refl
+filter_both p q r h (y ∷ ys) = by_test (q y) (filter_both p q r h ys) ∙ ap (λ c. cond c (y ∷ filter r ys) (filter r ys)) (sym (h y)) where
+  by_test : (b : Bool) → filter p (filter q ys) ≡ filter r ys
+      → filter p (cond b (y ∷ filter q ys) (filter q ys)) ≡ cond (b && p y) (y ∷ filter r ys) (filter r ys)
+  by_test true rest = ap (λ zs. cond (p y) (y ∷ zs) zs) rest
+  by_test false rest = rest
+
+off : (b : Bool) → not b ≡ false → b ≡ true
+off true h = refl
+off false h = cc
+
+on : (b : Bool) → b ≡ true → not b ≡ false
+on true h = refl
+on false h = cc
+
+-- one that stood before adds nothing
+pub behind_seen : (seen : List (List ℕ)) (x : List ℕ) (xs : List (List ℕ)) → is_seen seen x ≡ true → behind seen (x ∷ xs) ≡ behind seen xs
+behind_seen seen x xs h =
+    ap (λ b. seen ++ cond (not b) (x ∷ unseen seen (filter (λ y. not (same x y)) (distinct xs))) (unseen seen (filter (λ y. not (same x y)) (distinct xs)))) h
+    ∙ ap (λ ys. seen ++ ys) (filter_twice (λ y. not (is_seen seen y)) (λ y. not (same x y)) (λ y e. on (is_seen seen y) (ap (is_seen seen) (sym (same_is x y (off (same x y) e))) ∙ h)) (distinct xs))
+
+split : (r s b : Bool) → r ≡ (s || (b || false)) → not r ≡ (not b && not s)
+split r true true h = ap not h
+split r true false h = ap not h
+split r false true h = ap not h
+split r false false h = ap not h
+
+-- another one stands behind those that were found
+pub behind_more : (seen : List (List ℕ)) (x : List ℕ) (xs : List (List ℕ)) → is_seen seen x ≡ false → behind (seen ++ x ∷ []) xs ≡ behind seen (x ∷ xs)
+behind_more seen x xs h =
+    append_assoc seen (x ∷ []) (unseen (seen ++ x ∷ []) (distinct xs))
+    ∙ ap (λ ys. seen ++ x ∷ ys) (sym (filter_both (λ y. not (is_seen seen y)) (λ y. not (same x y)) (λ y. not (is_seen (seen ++ x ∷ []) y))
+    (λ y. split (is_seen (seen ++ x ∷ []) y) (is_seen seen y) (same x y) (list_any-append (λ s. same s y) seen (x ∷ []))) (distinct xs)))
+    ∙ ap (λ b. seen ++ cond (not b) (x ∷ unseen seen (filter (λ y. not (same x y)) (distinct xs))) (unseen seen (filter (λ y. not (same x y)) (distinct xs)))) (sym h)
+
+filter_all : {A : Type 0} (ys : List A) → filter (λ y. true) ys ≡ ys
+filter_all [] = refl
+filter_all (y ∷ ys) = ap (λ zs. y ∷ zs) (filter_all ys)
+
+pub behind_none : (layers : List (List ℕ)) → behind [] layers ≡ distinct layers
+behind_none layers = filter_all (distinct layers)
+
+pub behind_all : (seen : List (List ℕ)) → behind seen [] ≡ seen
+behind_all seen = append-nil seen
+
+-- one more layer was looked at
+pub behind_next : (seen : List (List ℕ)) (x : List ℕ) (xs : List (List ℕ)) → behind (with_layer seen x) xs ≡ behind seen (x ∷ xs)
+behind_next seen x xs = by_test (is_seen seen x) refl where
+  by_test : (b : Bool) → is_seen seen x ≡ b → behind (cond b seen (seen ++ x ∷ [])) xs ≡ behind seen (x ∷ xs)
+  by_test true h = sym (behind_seen seen x xs h)
+  by_test false h = behind_more seen x xs h
+
+pub more_layers : (seen : List (List ℕ)) (x : List ℕ) → length (with_layer seen x) ≤ length seen + 1
+more_layers seen x = by_test (is_seen seen x) where
+  by_test : (b : Bool) → length (cond b seen (seen ++ x ∷ [])) ≤ length seen + 1
+  by_test true = omega arith
+  by_test false = let e = length-append seen (x ∷ []) in omega (arith, e)
+
+-- Of layers that are loaded one after the other, the one that the desk failed at is the last one listed.
+pub failed_one : (layers : List (List ℕ)) (before now : ℕ) (layer : List ℕ) (e : ImageError) (k : ℕ) → slice_get layers k ≡ Some layer → now ≡ before + k + 1
+    → IsOfLayer layer e → IsOfLayers layers before now e
+failed_one layers before now layer (error.Bad bad) k at h of = of
+failed_one layers before now layer (error.Desk failed) k at h of = (k, h, at ∙ ap Some (sym of))
+failed_one layers before now layer error.NoMemory k at h of = tt
+
+-- The steps of the loops.
+
+pub step_told : (layers seen new : List (List ℕ)) (i : ℕ) (x : List ℕ) → i < length layers → x ≡ get_or layers i x → new ≡ with_layer seen x
+    → behind seen (drop i layers) ≡ distinct layers → behind new (drop (i + 1) layers) ≡ distinct layers
+step_told layers seen new i x lt at e h =
+    ap (λ ds. behind ds (drop (i + 1) layers)) e ∙ behind_next seen x (drop (i + 1) layers)
+    ∙ ap (λ y. behind seen (y ∷ drop (i + 1) layers)) at ∙ sym (ap (behind seen) (drop_more layers i x lt)) ∙ h
+
+pub step_fewer : (seen new : List (List ℕ)) (i : ℕ) (x : List ℕ) → new ≡ with_layer seen x → length seen ≤ i → length new ≤ i + 1
+step_fewer seen new i x e h = let more = more_layers seen x in let same : length new ≡ length (with_layer seen x) = ap length e in omega (arith, more, same)
+
+-- what stands at a place
+pub get_at : {A : Type 0} (xs : List A) (i : ℕ) (x : A) → i < length xs → x ≡ get_or xs i x → slice_get xs i ≡ Some x
+get_at [] i x lt at = absurd (omega arith)
+get_at (y ∷ ys) zero x lt at = ap Some (sym at)
+get_at (y ∷ ys) (suc i) x lt at = get_at ys i x (omega arith) at

@@ -1,0 +1,146 @@
+-- The root of an image whose layers were loaded is the root of the whole layers, of which so much is left out; and so is
+-- its scan.
+use Rattle.std.specs.Prelude.{◌≡◌, ℕ, ◌+◌, Bool, true, false, ◌&&◌, ◌||◌, not, if◌then◌else◌, List, [], ◌∷◌, ◌++◌, map, Option, Some, None, Result, Ok, Err, refl}
+use Rattle.std.specs.List.{cons_option, filter_map, flat_map, list_any}
+use Rattle.std.specs.Option.{option_map}
+use Rattle.std.proofs.Common.{ap, sym, ◌∙◌}
+use Rattle.cv_base.specs.Path.{Path, is_above}
+use Rattle.cv_base.specs.declared.advisory.Advisory.{Advisory}
+use Rattle.cv_base.specs.declared.tree.Node.{Node}
+use Rattle.cv_base.specs.declared.tree.TreeEntry.{TreeEntry}
+use Rattle.cv_overlay.specs.Lay.{hides, hides_by, is_plain, lay, or_node, plain_at, root_from, root_of}
+use Rattle.cv_overlay.specs.Mark.{is_dir_node, mark, mark_of, same_path}
+use Rattle.cv_overlay.specs.declared.fault.ImageFault.{ImageFault}
+use Rattle.cv_overlay.specs.declared.mark.Mark.{Mark}
+use Rattle.cv_overlay.specs.declared.mark.Mark.TheVariants.{Reserved, Opaque, Whiteout, Bad, Plain}
+use Rattle.cv_overlay.proofs.PathWords.{path_is}
+use Rattle.cv_packages.specs.Packages.{packages}
+use Rattle.cv_scan.specs.Root.{entries_at, paths_in_order, paths_of, root_entries}
+use Rattle.cv_scan.specs.Scan.{as_scanned, bad_tree_from, or_bad, scan, scan_good, scan_layers, trees_from, with_findings, with_tree}
+use Rattle.cv_scan.proofs.Loaded.{dir_loaded, load_entry, load_node, loaded_fault, loaded_packages}
+
+abbrev path_in : TreeEntry → Path
+path_in e = e.path
+
+mark_loaded : (e : TreeEntry) → mark (load_entry e) ≡ mark e
+mark_loaded e = ap (mark_of e.path) (dir_loaded e.path e.node)
+
+-- What a tree has at a path.
+
+plain_loaded : (tree : List TreeEntry) (p : Path) → plain_at (map load_entry tree) p ≡ option_map (load_node p) (plain_at tree p)
+plain_loaded [] p = refl
+plain_loaded (e ∷ es) p =
+    ap (λ m. if is_plain m && same_path e.path p then Some (load_node e.path e.node) else plain_at (map load_entry es) p) (mark_loaded e)
+    ∙ by_tests (is_plain (mark e)) (same_path e.path p) refl (plain_loaded es p)
+  where
+    by_tests : (m s : Bool) → same_path e.path p ≡ s → plain_at (map load_entry es) p ≡ option_map (load_node p) (plain_at es p)
+        → (if m && s then Some (load_node e.path e.node) else plain_at (map load_entry es) p) ≡ option_map (load_node p) (if m && s then Some e.node else plain_at es p)
+    by_tests true true f rest = ap (λ q. Some (load_node q e.node)) (path_is e.path p f)
+    by_tests true false f rest = rest
+    by_tests false s f rest = rest
+
+-- What it hides.
+
+hides_mark : (m : Mark) (e : TreeEntry) (p : Path) → hides_by m (load_entry e) p ≡ hides_by m e p
+hides_mark Whiteout e p = refl
+hides_mark Opaque e p = refl
+hides_mark Plain e p = ap (λ b. not b && is_above e.path p) (dir_loaded e.path e.node)
+hides_mark Reserved e p = refl
+hides_mark Bad e p = refl
+
+hides_entry : (e : TreeEntry) (p : Path) → hides_by (mark (load_entry e)) (load_entry e) p ≡ hides_by (mark e) e p
+hides_entry e p = ap (λ m. hides_by m (load_entry e) p) (mark_loaded e) ∙ hides_mark (mark e) e p
+
+hides_loaded : (tree : List TreeEntry) (p : Path) → hides (map load_entry tree) p ≡ hides tree p
+hides_loaded [] p = refl
+hides_loaded (e ∷ es) p = λ i. hides_entry e p i || hides_loaded es p i
+
+-- Laid.
+
+or_loaded : (p : Path) (found : Option Node) (b : Bool) (one two : Option Node) → one ≡ option_map (load_node p) two
+    → or_node (option_map (load_node p) found) (if b then None else one) ≡ option_map (load_node p) (or_node found (if b then None else two))
+or_loaded p (Some n) b one two h = refl
+or_loaded p None true one two h = refl
+or_loaded p None false one two h = h
+
+abbrev AreLoaded : (Path → Option Node) → (Path → Option Node) → Type 0
+AreLoaded one two = (p : Path) → one p ≡ option_map (load_node p) (two p)
+
+lay_loaded : (one two : Path → Option Node) (tree : List TreeEntry) → AreLoaded one two → AreLoaded (lay one (map load_entry tree)) (lay two tree)
+lay_loaded one two tree h p =
+    (λ i. or_node (plain_loaded tree p i) (if hides_loaded tree p i then None else one p))
+    ∙ or_loaded p (plain_at tree p) (hides tree p) (one p) (two p) (h p)
+
+from_loaded : (one two : Path → Option Node) (trees : List (List TreeEntry)) → AreLoaded one two → AreLoaded (root_from one (map (map load_entry) trees)) (root_from two trees)
+from_loaded one two [] h = h
+from_loaded one two (tree ∷ trees) h = from_loaded (lay one (map load_entry tree)) (lay two tree) trees (lay_loaded one two tree h)
+
+-- The entries.
+
+entry_by : (p : Path) (found : Option Node)
+    → option_map (λ n. record { path = p; node = n }) (option_map (load_node p) found) ≡ option_map load_entry (option_map (λ n. record { path = p; node = n }) found)
+entry_by p None = refl
+entry_by p (Some n) = refl
+
+cons_loaded : (found : Option TreeEntry) (es : List TreeEntry) → cons_option (option_map load_entry found) (map load_entry es) ≡ map load_entry (cons_option found es)
+cons_loaded None es = refl
+cons_loaded (Some e) es = refl
+
+entries_loaded : (one two : Path → Option Node) (ps : List Path) → AreLoaded one two → entries_at one ps ≡ map load_entry (entries_at two ps)
+entries_loaded one two [] h = refl
+entries_loaded one two (p ∷ ps) h =
+    (λ i. cons_option ((ap (option_map (λ (n : Node). record { path = p; node = n })) (h p) ∙ entry_by p (two p)) i) (entries_loaded one two ps h i))
+    ∙ cons_loaded (option_map (λ (n : Node). record { path = p; node = n }) (two p)) (entries_at two ps)
+
+tree_paths : (tree : List TreeEntry) → map path_in (map load_entry tree) ≡ map path_in tree
+tree_paths [] = refl
+tree_paths (e ∷ es) = ap (λ ps. e.path ∷ ps) (tree_paths es)
+
+all_paths : (trees : List (List TreeEntry)) → flat_map (map path_in) (map (map load_entry) trees) ≡ flat_map (map path_in) trees
+all_paths [] = refl
+all_paths (tree ∷ trees) = λ i. tree_paths tree i ++ all_paths trees i
+
+-- the root of layers that were loaded
+pub root_loaded : (trees : List (List TreeEntry)) → root_entries (map (map load_entry) trees) ≡ map load_entry (root_entries trees)
+unfolding root_entries
+root_loaded trees =
+    ap (λ ps. entries_at (root_of (map (map load_entry) trees)) (paths_in_order ps)) (all_paths trees)
+    ∙ entries_loaded (root_of (map (map load_entry) trees)) (root_of trees) (paths_of trees) (from_loaded (λ p. None) (λ p. None) trees (λ p. refl))
+
+-- The scan.
+
+abbrev pub load_layer : Option (List TreeEntry) → Option (List TreeEntry)
+load_layer = option_map (map load_entry)
+
+abbrev load_trees : Result (List (List TreeEntry)) ImageFault → Result (List (List TreeEntry)) ImageFault
+load_trees (Ok trees) = Ok (map (map load_entry) trees)
+load_trees (Err bad) = Err bad
+
+with_loaded : (tree : List TreeEntry) (found : Result (List (List TreeEntry)) ImageFault) → with_tree (map load_entry tree) (load_trees found) ≡ load_trees (with_tree tree found)
+with_loaded tree (Ok trees) = refl
+with_loaded tree (Err bad) = refl
+
+trees_loaded : (number : ℕ) (layers : List (Option (List TreeEntry))) → trees_from number (map load_layer layers) ≡ load_trees (trees_from number layers)
+trees_loaded number [] = refl
+trees_loaded number (None ∷ layers) = refl
+trees_loaded number (Some tree ∷ layers) =
+    ap (with_tree (map load_entry tree)) (trees_loaded (number + 1) layers) ∙ with_loaded tree (trees_from (number + 1) layers)
+
+bad_loaded : (number : ℕ) (trees : List (List TreeEntry)) → bad_tree_from number (map (map load_entry) trees) ≡ bad_tree_from number trees
+bad_loaded number [] = refl
+bad_loaded number (tree ∷ trees) = λ i. or_bad number (loaded_fault tree i) (bad_loaded (number + 1) trees i)
+
+good_loaded : (bad : Option ImageFault) (trees : List (List TreeEntry)) (feeds : List (List ℕ × List Advisory))
+    → scan_good bad (map (map load_entry) trees) feeds ≡ scan_good bad trees feeds
+good_loaded (Some bad) trees feeds = refl
+good_loaded None trees feeds = ap (λ found. as_scanned (with_findings feeds found)) (ap packages (root_loaded trees) ∙ loaded_packages (root_entries trees))
+
+layers_loaded : (found : Result (List (List TreeEntry)) ImageFault) (feeds : List (List ℕ × List Advisory)) → scan_layers (load_trees found) feeds ≡ scan_layers found feeds
+layers_loaded (Err bad) feeds = refl
+layers_loaded (Ok trees) feeds =
+    ap (λ bad. scan_good bad (map (map load_entry) trees) feeds) (bad_loaded 0 trees) ∙ good_loaded (bad_tree_from 0 trees) trees feeds
+
+-- the scan of layers that were loaded
+pub scan_loaded : (layers : List (Option (List TreeEntry))) (feeds : List (List ℕ × List Advisory)) → scan (map load_layer layers) feeds ≡ scan layers feeds
+unfolding scan
+scan_loaded layers feeds = ap (λ found. scan_layers found feeds) (trees_loaded 0 layers) ∙ layers_loaded (trees_from 0 layers) feeds

@@ -1,0 +1,172 @@
+-- An image is scanned as it is stored, whatever loading leaves out.
+use Rattle.std.specs.Prelude.{◌≡◌, ℕ, ◌+◌, length, Bool, true, false, ◌&&◌, ◌||◌, not, filter, if◌then◌else◌, cond, List, [], ◌∷◌, map, Option, Some, None, unwrap_or, Result, Ok, Err, IfSome, refl}
+use Rattle.std.specs.List.{AllByRecursion, list_any}
+use Rattle.std.specs.Option.{option_map}
+use Rattle.std.specs.Result.{result_unwrap_or}
+use Rattle.std.proofs.Common.{ap, sym, subst, ◌∙◌}
+use Rattle.cv_base.specs.Answer.{Gives}
+use Rattle.cv_base.specs.Texts.{same}
+use Rattle.cv_base.specs.declared.advisory.Advisory.{Advisory}
+use Rattle.cv_base.specs.declared.finding.Finding.{Finding}
+use Rattle.cv_base.specs.declared.tree.TreeEntry.{TreeEntry}
+use Rattle.cv_desk.specs.Loaded.{loaded, whole}
+use Rattle.cv_desk.specs.Stored.{Stored}
+use Rattle.cv_overlay.proofs.PathWords.{same_is, same_self}
+use Rattle.cv_overlay.specs.declared.fault.ImageFault.{ImageFault}
+use Rattle.cv_scan.specs.Layers.{AreListed, IsOfLayers, IsScanned, IsTold, distinct, is_image_memory, refusing, stored_layers, tree_in, whole_layers, with_stored}
+use Rattle.cv_scan.specs.Scan.{Scanned, scan}
+use Rattle.cv_scan.specs.declared.error.ImageError.{ImageError}
+use Rattle.cv_scan.specs.declared.error.ImageError.TheVariants as error
+use Rattle.cv_scan.specs.declared.layers.LoadedLayer.{LoadedLayer}
+use Rattle.cv_scan.specs.Distinct.{is_seen}
+use Rattle.cv_scan.proofs.Loaded.{load_entry, loaded_is}
+use Rattle.cv_scan.proofs.RootLoaded.{load_layer, scan_loaded}
+
+abbrev layer_in : LoadedLayer → List ℕ
+layer_in x = x.layer
+
+-- Each layer of an image is among the distinct ones.
+
+never : (b : Bool) → b ≡ true → b ≡ false → ⊥
+never true h k = cc
+never false h k = cc
+
+seen_filter : (layer other : List ℕ) (ds : List (List ℕ)) → same layer other ≡ false → is_seen ds other ≡ true → is_seen (filter (λ d. not (same layer d)) ds) other ≡ true
+seen_filter layer other [] h k = k
+seen_filter layer other (d ∷ ds) h k = by_tests (same layer d) (same d other) refl refl k (λ l. seen_filter layer other ds h l) where
+  by_tests : (a b : Bool) → same layer d ≡ a → same d other ≡ b → (b || is_seen ds other) ≡ true
+      → (is_seen ds other ≡ true → is_seen (filter (λ d. not (same layer d)) ds) other ≡ true)
+      → is_seen (cond (not a) (d ∷ filter (λ d. not (same layer d)) ds) (filter (λ d. not (same layer d)) ds)) other ≡ true
+  by_tests true true e f l rest = absurd (never (same layer other) (ap (λ x. same x other) (same_is layer d e) ∙ f) h)
+  by_tests true false e f l rest = rest l
+  by_tests false true e f l rest = ap (λ c. c || is_seen (filter (λ d. not (same layer d)) ds) other) f
+  by_tests false false e f l rest = ap (λ c. c || is_seen (filter (λ d. not (same layer d)) ds) other) f ∙ rest l
+
+abbrev AreSeen : List (List ℕ) → List (List ℕ) → Type 0
+AreSeen ds layers = AllByRecursion (λ layer. is_seen ds layer ≡ true) layers
+
+seen_behind : (layer : List ℕ) (ds : List (List ℕ)) (layers : List (List ℕ)) → AreSeen ds layers → AreSeen (layer ∷ filter (λ d. not (same layer d)) ds) layers
+seen_behind layer ds [] h = tt
+seen_behind layer ds (other ∷ others) h = (by_test (same layer other) refl, seen_behind layer ds others h.1) where
+  by_test : (b : Bool) → same layer other ≡ b → (same layer other || is_seen (filter (λ d. not (same layer d)) ds) other) ≡ true
+  by_test true e = ap (λ c. c || is_seen (filter (λ d. not (same layer d)) ds) other) e
+  by_test false e = ap (λ c. c || is_seen (filter (λ d. not (same layer d)) ds) other) e ∙ seen_filter layer other ds e h.0
+
+all_seen : (layers : List (List ℕ)) → AreSeen (distinct layers) layers
+all_seen [] = tt
+all_seen (layer ∷ layers) = (
+  ap (λ c. c || is_seen (filter (λ d. not (same layer d)) (distinct layers)) layer) (same_self layer),
+  seen_behind layer (distinct layers) layers (all_seen layers),
+)
+
+-- And so each was loaded as it is stored.
+
+abbrev pub load_stored : Option (List Stored) → Option (List TreeEntry)
+load_stored = option_map (map loaded)
+
+some_is : (a b : Option (List Stored)) → Some a ≡ Some b → a ≡ b
+some_is a b h = ap (λ (o : Option (Option (List Stored))). unwrap_or o None) h
+
+told_some : (told : Option (Option (List Stored))) (stored : Option (List Stored)) (found : Option (List TreeEntry)) → IfSome told (λ s. found ≡ load_stored s) → told ≡ Some stored → found ≡ load_stored stored
+told_some None stored found h k = cc
+told_some (Some s) stored found h k = h ∙ ap load_stored (some_is s stored k)
+
+found_layer : (trees : List ℕ → Option (Option (List Stored))) (xs : List LoadedLayer) (layer : List ℕ) (stored : Option (List Stored))
+    → AllByRecursion (IsTold trees) xs → is_seen (map layer_in xs) layer ≡ true → trees layer ≡ Some stored → tree_in xs layer ≡ load_stored stored
+found_layer trees [] layer stored all h k = cc
+found_layer trees (x ∷ xs) layer stored all h k = by_test (same x.layer layer) refl h (λ l. found_layer trees xs layer stored all.1 l k) where
+  by_test : (b : Bool) → same x.layer layer ≡ b → (b || is_seen (map layer_in xs) layer) ≡ true
+      → (is_seen (map layer_in xs) layer ≡ true → tree_in xs layer ≡ load_stored stored)
+      → (if b then option_map (λ tree. tree.entries) x.tree else tree_in xs layer) ≡ load_stored stored
+  by_test true e l rest =
+      told_some (trees x.layer) stored (option_map (λ tree. tree.entries) x.tree) all.0 (ap trees (same_is x.layer layer e) ∙ k)
+  by_test false e l rest = rest l
+
+-- where the desk's type tells of all layers, they were found as they are stored
+abbrev AreFound : List LoadedLayer → List (List ℕ) → Option (List (Option (List Stored))) → Type 0
+AreFound xs layers told = IfSome told (λ stored. map (tree_in xs) layers ≡ map load_stored stored)
+
+found_more : (xs : List LoadedLayer) (layer : List ℕ) (layers : List (List ℕ)) (here : Option (Option (List Stored))) (others : Option (List (Option (List Stored))))
+    → IfSome here (λ stored. tree_in xs layer ≡ load_stored stored) → AreFound xs layers others → AreFound xs (layer ∷ layers) (with_stored here others)
+found_more xs layer layers None others h k = tt
+found_more xs layer layers (Some stored) None h k = tt
+found_more xs layer layers (Some stored) (Some rest) h k = λ i. h i ∷ k i
+
+found_here : (trees : List ℕ → Option (Option (List Stored))) (xs : List LoadedLayer) (layer : List ℕ) (here : Option (Option (List Stored)))
+    → AllByRecursion (IsTold trees) xs → is_seen (map layer_in xs) layer ≡ true → trees layer ≡ here → IfSome here (λ stored. tree_in xs layer ≡ load_stored stored)
+found_here trees xs layer None all h k = tt
+found_here trees xs layer (Some stored) all h k = found_layer trees xs layer stored all h k
+
+found_all : (trees : List ℕ → Option (Option (List Stored))) (xs : List LoadedLayer) (layers : List (List ℕ))
+    → AllByRecursion (IsTold trees) xs → AreSeen (map layer_in xs) layers → AreFound xs layers (stored_layers trees layers)
+found_all trees xs [] all h = refl
+found_all trees xs (layer ∷ layers) all h =
+    found_more xs layer layers (trees layer) (stored_layers trees layers) (found_here trees xs layer (trees layer) all h.0 refl) (found_all trees xs layers all h.1)
+
+-- The scan.
+
+layer_is : (stored : Option (List Stored)) → load_stored stored ≡ load_layer (option_map (map whole) stored)
+layer_is None = refl
+layer_is (Some es) = ap Some (loaded_is es)
+
+layers_are : (stored : List (Option (List Stored))) → map load_stored stored ≡ map load_layer (whole_layers stored)
+layers_are [] = refl
+layers_are (layer ∷ layers) = λ i. layer_is layer i ∷ layers_are layers i
+
+scan_is : (xs : List LoadedLayer) (layers : List (List ℕ)) (stored : List (Option (List Stored))) (feeds : List (List ℕ × List Advisory))
+    → map (tree_in xs) layers ≡ map load_stored stored → scan (map (tree_in xs) layers) feeds ≡ scan (whole_layers stored) feeds
+scan_is xs layers stored feeds h = ap (λ ls. scan ls feeds) (h ∙ layers_are stored) ∙ scan_loaded (whole_layers stored) feeds
+
+ok_is : (scanned : Scanned) (found : List Finding) → refusing scanned ≡ Ok found → scanned ≡ Ok found
+ok_is (Ok xs) found h = ap Ok (ap (λ (r : Result (List Finding) ImageError). result_unwrap_or r []) h)
+ok_is (Err bad) found h = cc
+
+-- the refusal of an image, if there is one
+abbrev bad_or : ImageFault → Result (List Finding) ImageError → ImageFault
+bad_or other (Ok found) = other
+bad_or other (Err (error.Bad bad)) = bad
+bad_or other (Err (error.Desk layer)) = other
+bad_or other (Err error.NoMemory) = other
+
+bad_is : (scanned : Scanned) (bad : ImageFault) → refusing scanned ≡ Err (error.Bad bad) → scanned ≡ Err bad
+bad_is (Ok xs) bad h = cc
+bad_is (Err told) bad h = ap Err (ap (bad_or told) h)
+
+given_is : (answer : Result (List Finding) ImageError) (scanned : Scanned) → Gives is_image_memory (λ found. found) answer (refusing scanned) → IsScanned answer scanned
+given_is (Ok found) scanned h = ok_is scanned found h
+given_is (Err (error.Bad bad)) scanned h = bad_is scanned bad h
+given_is (Err (error.Desk layer)) scanned h = tt
+given_is (Err error.NoMemory) scanned h = tt
+
+by_stored : (xs : List LoadedLayer) (layers : List (List ℕ)) (told : Option (List (Option (List Stored)))) (feeds : List (List ℕ × List Advisory)) (answer : Result (List Finding) ImageError)
+    → AreFound xs layers told → Gives is_image_memory (λ found. found) answer (refusing (scan (map (tree_in xs) layers) feeds))
+    → IfSome told (λ stored. IsScanned answer (scan (whole_layers stored) feeds))
+by_stored xs layers None feeds answer h k = tt
+by_stored xs layers (Some stored) feeds answer h k =
+    given_is answer (scan (whole_layers stored) feeds) (subst (λ scanned. Gives is_image_memory (λ found. found) answer (refusing scanned)) (scan_is xs layers stored feeds h) k)
+
+-- an answer from what was loaded is one from what is stored
+pub scanned_stored : (trees : List ℕ → Option (Option (List Stored))) (xs : List LoadedLayer) (layers : List (List ℕ)) (feeds : List (List ℕ × List Advisory)) (answer : Result (List Finding) ImageError)
+    → map layer_in xs ≡ distinct layers → AllByRecursion (IsTold trees) xs
+    → Gives is_image_memory (λ found. found) answer (refusing (scan (map (tree_in xs) layers) feeds))
+    → IfSome (stored_layers trees layers) (λ stored. IsScanned answer (scan (whole_layers stored) feeds))
+scanned_stored trees xs layers feeds answer h all k =
+    by_stored xs layers (stored_layers trees layers) feeds answer
+    (found_all trees xs layers all (subst (λ ds. AreSeen ds layers) (sym h) (all_seen layers))) k
+
+-- What was not loaded tells nothing of the image.
+
+failed_scanned : (layers : List (List ℕ)) (before now : ℕ) (e : ImageError) (scanned : Scanned) → IsOfLayers layers before now e → IsScanned (Err e) scanned
+failed_scanned layers before now (error.Bad bad) scanned h = absurd h
+failed_scanned layers before now (error.Desk layer) scanned h = tt
+failed_scanned layers before now error.NoMemory scanned h = tt
+
+pub failed_told : (told : Option (List (Option (List Stored)))) (layers : List (List ℕ)) (before now : ℕ) (e : ImageError) (feeds : List (List ℕ × List Advisory))
+    → IsOfLayers layers before now e → IfSome told (λ stored. IsScanned (Err e) (scan (whole_layers stored) feeds))
+failed_told None layers before now e feeds h = tt
+failed_told (Some stored) layers before now e feeds h = failed_scanned layers before now e (scan (whole_layers stored) feeds) h
+
+pub failed_listed : (layers : List (List ℕ)) (before now : ℕ) (e : ImageError) → IsOfLayers (distinct layers) before now e → AreListed layers before now (Err e)
+failed_listed layers before now (error.Bad bad) h = absurd h
+failed_listed layers before now (error.Desk layer) h = h
+failed_listed layers before now error.NoMemory h = tt

@@ -1,0 +1,106 @@
+-- The parts of a scan as the code puts them together.
+use Rattle.std.specs.Prelude.{◌≡◌, ℕ, ◌+◌, ◌≤◌, suc, Bool, true, false, ⊤, List, [], ◌∷◌, length, map, MatchBool, Option, Some, None, Result, Ok, Err, IfOk, refl}
+use Rattle.std.proofs.Common.{ap, sym, subst, arith, ◌∙◌}
+use Rattle.cv_base.specs.Answer.{Gives}
+use Rattle.cv_base.specs.Path.{Path}
+use Rattle.cv_base.specs.declared.advisory.Advisory.{Advisory}
+use Rattle.cv_base.specs.declared.finding.Finding.{Finding}
+use Rattle.cv_base.specs.declared.tree.TreeEntry.{TreeEntry}
+use Rattle.cv_overlay.specs.Lay.{node_at, root_of}
+use Rattle.cv_overlay.specs.Merge.{AreRising}
+use Rattle.cv_overlay.specs.declared.fault.ImageFault.{ImageFault}
+use Rattle.cv_packages.specs.Packages.{is_packages_memory}
+use Rattle.cv_packages.specs.declared.error.PackagesError.{PackagesError}
+use Rattle.cv_packages.specs.declared.error.PackagesError.TheVariants as refused
+use Rattle.cv_scan.specs.Layers.{IsBadTree, image_error, is_image_memory, refusing}
+use Rattle.cv_scan.specs.Root.{root_entries}
+use Rattle.cv_scan.specs.Scan.{Scanned, as_scanned, bad_tree_from, file_fault, found_in, scan, scan_good, scan_layers, scan_of, trees_from, with_tree}
+use Rattle.cv_scan.specs.declared.error.ImageError.{ImageError}
+use Rattle.cv_scan.specs.declared.error.ImageError.TheVariants as error
+use Rattle.cv_scan.proofs.Laid.{laid_entries}
+
+abbrev Feeds : Type 0
+Feeds = List (List ℕ × List Advisory)
+
+abbrev Answers : Result (List Finding) ImageError → Scanned → Type 0
+Answers answer scanned = Gives is_image_memory (λ found. found) answer (refusing scanned)
+
+-- From the layers to their trees.
+
+trees_ok : (found : Result (List (List TreeEntry)) ImageFault) (trees : List (List TreeEntry)) → refusing found ≡ Ok trees → found ≡ Ok trees
+trees_ok (Ok ts) trees h = ap Ok (ap trees_or h) where
+  trees_or : Result (List (List TreeEntry)) ImageError → List (List TreeEntry)
+  trees_or (Ok ts) = ts
+  trees_or (Err e) = []
+trees_ok (Err bad) trees h = cc
+
+pub layers_good : (layers : List (Option (List TreeEntry))) (trees : List (List TreeEntry)) (feeds : Feeds) (answer : Result (List Finding) ImageError)
+    → refusing (trees_from 0 layers) ≡ Ok trees → Answers answer (scan_of trees feeds) → Answers answer (scan layers feeds)
+unfolding scan
+layers_good layers trees feeds answer h k =
+    subst (λ found. Answers answer (scan_layers found feeds)) (sym (trees_ok (trees_from 0 layers) trees h)) k
+
+layers_by : (found : Result (List (List TreeEntry)) ImageFault) (e : ImageError) (feeds : Feeds) → refusing found ≡ Err e → refusing (scan_layers found feeds) ≡ Err e
+layers_by (Ok trees) e feeds h = cc
+layers_by (Err bad) e feeds h = ap Err (ap (error_or e) h) where
+  error_or : ImageError → Result (List (List TreeEntry)) ImageError → ImageError
+  error_or other (Ok ts) = other
+  error_or other (Err f) = f
+
+memory_or : (e : ImageError) (P Q : Type 0) → (P → Q) → MatchBool (is_image_memory e) ⊤ P → MatchBool (is_image_memory e) ⊤ Q
+memory_or (error.Bad bad) P Q f h = f h
+memory_or (error.Desk layer) P Q f h = f h
+memory_or error.NoMemory P Q f h = h
+
+pub layers_bad : (layers : List (Option (List TreeEntry))) (feeds : Feeds) (e : ImageError)
+    → MatchBool (is_image_memory e) ⊤ (refusing (trees_from 0 layers) ≡ Err e) → MatchBool (is_image_memory e) ⊤ (refusing (scan layers feeds) ≡ Err e)
+unfolding scan
+layers_bad layers feeds e h =
+    memory_or e (refusing (trees_from 0 layers) ≡ Err e) (refusing (scan_layers (trees_from 0 layers) feeds) ≡ Err e) (λ k. layers_by (trees_from 0 layers) e feeds k) h
+
+count_more : (tree : List TreeEntry) (found : Result (List (List TreeEntry)) ImageFault) (n : ℕ) → IfOk found (λ ts. length ts ≡ n) → IfOk (with_tree tree found) (λ ts. length ts ≡ suc n)
+count_more tree (Ok ts) n h = ap suc h
+count_more tree (Err bad) n h = tt
+
+-- there are as many trees as layers
+count_from : (number : ℕ) (layers : List (Option (List TreeEntry))) → IfOk (trees_from number layers) (λ ts. length ts ≡ length layers)
+count_from number [] = refl
+count_from number (None ∷ layers) = tt
+count_from number (Some tree ∷ layers) = count_more tree (trees_from (number + 1) layers) (length layers) (count_from (number + 1) layers)
+
+count_map : {A B : Type 0} (f : A → B) (xs : List A) → length (map f xs) ≡ length xs
+count_map f [] = refl
+count_map f (x ∷ xs) = ap suc (count_map f xs)
+
+pub trees_few : {A B : Type 0} (f : A → Option (List TreeEntry)) (g : B → List TreeEntry) (layers : List A) (trees : List B) → refusing (trees_from 0 (map f layers)) ≡ Ok (map g trees)
+    → length layers ≤ 128 → length trees ≤ 128
+trees_few f g layers trees h few =
+    let counted : length (map g trees) ≡ length (map f layers) = subst (λ found. IfOk found (λ ts. length ts ≡ length (map f layers))) (trees_ok (trees_from 0 (map f layers)) (map g trees) h) (count_from 0 (map f layers)) in
+    let one = count_map f layers in
+    let two = count_map g trees in
+    omega (arith, counted, one, two)
+
+-- From the trees to the root.
+
+pub trees_good : (trees : List (List TreeEntry)) (root entries : List TreeEntry) (feeds : Feeds) (answer : Result (List Finding) ImageError)
+    → bad_tree_from 0 trees ≡ None → entries ≡ root → AreRising root → ((p : Path) → node_at root p ≡ root_of trees p)
+    → Answers answer (as_scanned (found_in entries feeds)) → Answers answer (scan_of trees feeds)
+trees_good trees root entries feeds answer good same rises laid h =
+    subst (λ bad. Answers answer (scan_good bad trees feeds)) (sym good)
+    (subst (λ es. Answers answer (as_scanned (found_in es feeds))) (same ∙ laid_entries trees root rises laid) h)
+
+pub trees_bad : (trees : List (List TreeEntry)) (feeds : Feeds) (e : ImageError) → IsBadTree (bad_tree_from 0 trees) e → MatchBool (is_image_memory e) ⊤ (refusing (scan_of trees feeds) ≡ Err e)
+trees_bad trees feeds (error.Bad bad) h = ap (λ told. refusing (scan_good told trees feeds)) h
+trees_bad trees feeds (error.Desk layer) h = absurd h
+trees_bad trees feeds error.NoMemory h = tt
+
+-- From the findings of the root to the answer.
+
+pub found_ok : (found : Result (List Finding) PackagesError) (out : List Finding) → found ≡ Ok out → refusing (as_scanned found) ≡ Ok out
+found_ok found out h = ap (λ f. refusing (as_scanned f)) h
+
+pub found_bad : (found : Result (List Finding) PackagesError) (e : PackagesError) → MatchBool (is_packages_memory e) ⊤ (found ≡ Err e)
+    → MatchBool (is_image_memory (image_error e)) ⊤ (refusing (as_scanned found) ≡ Err (image_error e))
+found_bad found (refused.BadFile path line what) h = ap (λ f. refusing (as_scanned f)) h
+found_bad found (refused.TooLarge path) h = ap (λ f. refusing (as_scanned f)) h
+found_bad found refused.NoMemory h = tt

@@ -1,0 +1,154 @@
+ghost use Rattle.std.specs.Prelude.{◌≡◌, ◌+◌, ◌^◌, ◌<◌, ◌≤◌, ◌∷◌, [], length, map, IfOk, IfErr, IfSome, None};
+ghost use Rattle.cv_base.specs.Answer.{Gives};
+ghost use Rattle.cv_base.specs.Path.{Path};
+ghost use Rattle.cv_overlay.specs.Lay.{node_at, root_of};
+ghost use Rattle.cv_seq.specs.Cause.{CausedBy};
+ghost use Rattle.cv_packages.specs.Packages.{is_packages_memory};
+ghost use Rattle.cv_scan.specs.Layers.{AreListed, IsScanned, is_desk_fault, is_image_memory, IsBadTree, refusing, stored_layers, tree_in, whole_layers};
+ghost use Rattle.cv_scan.specs.Scan.{as_scanned, bad_tree_from, found_in, scan, scan_of, trees_from};
+
+use crate::error::{ImageError, image_error};
+use crate::find::find_all;
+use crate::layers::{LoadedLayer, load_layers, tree_of};
+use cv_base::{Advisory, Digest, Finding, Text, Tree, TreeEntry};
+use cv_desk::Desk;
+use cv_overlay::{ImageFault, OverlayError, Root};
+use cv_packages::{PackagesError, read_packages};
+use cv_seq::Seq;
+use std::alloc::Global;
+
+/// Scans an image: loads each distinct layer once, in the order of the image, and finds what the records of the feed say of
+/// the packages of its root. Layers are given with the base first, and numbered from 0.
+#[tactic(auto, using(crate::proofs::Scanned::failed_told, crate::proofs::Scanned::failed_listed))]
+pub fn scan_image<D: Desk>(
+    alloc: Global,
+    desk: &mut D,
+    layers: &[Digest],
+    feed: &Text,
+    advisories: &[Advisory],
+) -> Result<Seq<Finding>, ImageError>
+    requires room { D.listings desk.old < 2 ^ 62 }
+    requires few { length layers.now ≤ 128 }
+    ensures told { IfSome (stored_layers D.tree layers.now) (λ stored. IsScanned result (scan (whole_layers stored) ((feed.now, advisories.now) ∷ []))) }
+    ensures listed { AreListed layers.now (D.listings desk.old) (D.listings desk.new) result }
+    ensures cause { CausedBy (D.faults desk.old) (D.faults desk.new) (is_desk_fault result) }
+{
+    match load_layers(alloc, desk, layers) {
+        Ok(loaded) => scan_loaded(alloc, layers, &loaded, feed, advisories),
+        Err(error) => Err(error),
+    }
+}
+
+/// Scans an image whose layers were loaded.
+fn scan_loaded(
+    alloc: Global,
+    layers: &[Digest],
+    loaded: &[LoadedLayer],
+    feed: &Text,
+    advisories: &[Advisory],
+) -> Result<Seq<Finding>, ImageError>
+    requires few { length layers.now ≤ 128 }
+    ensures { Gives is_image_memory (λ found. found) result (refusing (scan (map (tree_in loaded.now) layers.now) ((feed.now, advisories.now) ∷ []))) }
+{
+    match trees_of(alloc, layers, loaded) {
+        Ok(trees) => scan_trees(alloc, &trees, feed, advisories),
+        Err(error) => Err(error),
+    }
+}
+
+/// Scans an image of these trees.
+fn scan_trees(
+    alloc: Global,
+    trees: &[&Tree],
+    feed: &Text,
+    advisories: &[Advisory],
+) -> Result<Seq<Finding>, ImageError>
+    requires few { length trees.now ≤ 128 }
+    ensures { Gives is_image_memory (λ found. found) result (refusing (scan_of (map (λ tree. tree.now.entries) trees.now) ((feed.now, advisories.now) ∷ []))) }
+{
+    match lay_trees(alloc, trees) {
+        Ok(root) => scan_laid(alloc, root.entries(), feed, advisories),
+        Err(error) => Err(error),
+    }
+}
+
+/// Scans an image whose root has these entries.
+fn scan_laid(
+    alloc: Global,
+    entries: &[TreeEntry],
+    feed: &Text,
+    advisories: &[Advisory],
+) -> Result<Seq<Finding>, ImageError>
+    ensures { Gives is_image_memory (λ found. found) result (refusing (as_scanned (found_in entries.now ((feed.now, advisories.now) ∷ [])))) }
+{
+    match scan_entries(alloc, entries, advisories, feed) {
+        Ok(found) => Ok(found),
+        Err(refused) => Err(image_error(refused)),
+    }
+}
+
+/// The trees of all layers, or the first layer that is not there.
+#[tactic(auto, using(crate::proofs::LaidTrees::onto_more, crate::proofs::LaidTrees::onto_none))]
+fn trees_of<'a>(
+    alloc: Global,
+    layers: &[Digest],
+    loaded: &'a [LoadedLayer],
+) -> Result<Vec<&'a Tree>, ImageError>
+    requires few { length layers.now ≤ 128 }
+    ensures { Gives is_image_memory (λ trees. map (λ tree. tree.now.entries) trees.items) result (refusing (trees_from 0 (map (tree_in loaded.now) layers.now))) }
+{
+    let mut trees = Vec::new(alloc);
+    for (number, layer) in layers.iter().enumerate() {
+        match tree_of(loaded, layer) {
+            Some(tree) => trees.push(tree)?,
+            None => return Err(ImageError::Bad(ImageFault::NoLayer(number as u32))),
+        }
+    }
+    Ok(trees)
+}
+
+/// The root of an image of these trees, or the first one that is not good.
+fn lay_trees(alloc: Global, trees: &[&Tree]) -> Result<Root, ImageError>
+    requires few { length trees.now ≤ 128 }
+    ensures laid { IfOk result (λ root. (p : Path) → node_at root p ≡ root_of (map (λ tree. tree.now.entries) trees.now) p) }
+    ensures good { IfOk result (λ _. bad_tree_from 0 (map (λ tree. tree.now.entries) trees.now) ≡ None) }
+    ensures refused { IfErr result (IsBadTree (bad_tree_from 0 (map (λ tree. tree.now.entries) trees.now))) }
+{
+    let mut root = Root::empty(alloc);
+    for (number, tree) in trees.iter().enumerate() {
+        match root.lay(alloc, tree) {
+            Ok(()) => {}
+            Err(OverlayError::BadTree(fault)) => {
+                return Err(ImageError::Bad(ImageFault::BadTree(number as u32, fault)));
+            }
+            Err(OverlayError::NoMemory) => return Err(ImageError::NoMemory),
+        }
+    }
+    Ok(root)
+}
+
+/// The findings of the packages of a root with the records of a feed. The first package file that is above the limit, or that
+/// its reader refuses, is told.
+pub fn scan_root(
+    alloc: Global,
+    root: &Root,
+    advisories: &[Advisory],
+    feed: &Text,
+) -> Result<Seq<Finding>, PackagesError>
+    ensures { Gives is_packages_memory (λ found. found) result (found_in root.now ((feed.now, advisories.now) ∷ [])) }
+{
+    scan_entries(alloc, root.entries(), advisories, feed)
+}
+
+/// The same of a root that is given by its entries.
+fn scan_entries(
+    alloc: Global,
+    entries: &[TreeEntry],
+    advisories: &[Advisory],
+    feed: &Text,
+) -> Result<Seq<Finding>, PackagesError>
+    ensures { Gives is_packages_memory (λ found. found) result (found_in entries.now ((feed.now, advisories.now) ∷ [])) }
+{
+    let packages = read_packages(alloc, entries)?;
+    Ok(find_all(alloc, packages.as_slice(), feed, advisories)?)
+}

@@ -1,0 +1,60 @@
+ghost use Rattle.std.specs.Prelude.{◌≡◌, ◌^◌, ◌<◌, ◌≤◌, true, length, IfOk};
+ghost use Rattle.cv_seq.specs.Cause.{Rose};
+ghost use Rattle.cvwatch.specs.Outcome.{TellsError, TellsOutcome, printed_of};
+ghost use Rattle.cvwatch.specs.Printed.{is_end};
+
+use crate::status::Status;
+use cv_base::{Digest, NoMemory, Text};
+use cv_desk::Desk;
+use cv_scan::{ImageError, scan_image};
+use cv_scan_input::ScanInput;
+use cv_transcript::{bad_image_line, desk_fault_line, good_line};
+use std::alloc::Global;
+
+/// A line to be printed, and how the command then ends.
+#[derive(Debug, Drop)]
+pub struct Answer {
+    pub text: String,
+    pub ended: Status,
+}
+
+/// Scans an image, and tells what came of it.
+pub fn scan_answer<D: Desk>(
+    alloc: Global,
+    desk: &mut D,
+    asked: &ScanInput,
+) -> Result<Answer, NoMemory>
+    requires room { D.listings desk.old < 2 ^ 62 }
+    requires few { length asked.now.manifest.layers ≤ 128 }
+    ensures told { IfOk result (λ answer. TellsOutcome D.tree asked.now.manifest asked.now.records (D.listings desk.old) (D.listings desk.new) (printed_of answer)) }
+    ensures end { IfOk result (λ answer. is_end answer.ended ≡ true) }
+    ensures cause { IfOk result (λ answer. answer.ended ≡ Status.DeskFault → Rose (D.faults desk.old) (D.faults desk.new)) }
+{
+    let feed = Text::of(alloc, "scan")?;
+    let hash = &asked.manifest.hash;
+    let layers = asked.manifest.layers.as_slice();
+    match scan_image(alloc, desk, layers, &feed, asked.records.as_slice()) {
+        Ok(found) => Ok(Answer {
+            text: good_line(alloc, hash, found.as_slice())?,
+            ended: Status::Done,
+        }),
+        Err(error) => error_answer(alloc, hash, &error),
+    }
+}
+
+/// Tells why an image has no findings.
+fn error_answer(alloc: Global, hash: &Digest, error: &ImageError) -> Result<Answer, NoMemory>
+    ensures told { IfOk result (λ answer. TellsError hash.now error.now (printed_of answer)) }
+{
+    match error {
+        ImageError::Bad(bad) => Ok(Answer {
+            text: bad_image_line(alloc, hash, bad)?,
+            ended: Status::Refused,
+        }),
+        ImageError::Desk(layer) => Ok(Answer {
+            text: desk_fault_line(alloc, layer)?,
+            ended: Status::DeskFault,
+        }),
+        ImageError::NoMemory => Err(NoMemory),
+    }
+}
