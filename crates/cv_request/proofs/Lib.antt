@@ -1,2 +1,3 @@
+pub mod Few
 pub mod Layers
 pub mod Utf8

@@ -1,4 +1,4 @@
-ghost use Rattle.std.specs.Prelude.{◌≡◌, ◌<◌, ◌^◌, false, length};
+ghost use Rattle.std.specs.Prelude.{◌≡◌, ◌<◌, ◌≤◌, ◌^◌, false, length, IfOk};
 ghost use Rattle.std.specs.Option.{option_map};
 ghost use Rattle.serde_json.specs.View.{view, items_view};
 ghost use Rattle.cv_base.specs.Answer.{Gives};
@@ -17,7 +17,8 @@ const MAX_LAYERS: usize = 128;
 /// are passed over.
 #[tactic(auto, unfolding(crate::specs::Manifest::manifest_of), using(crate::proofs::Layers::manifest_fails))]
 pub fn read_manifest(alloc: Global, value: &Value) -> Result<Manifest, RequestError>
-    ensures { Gives is_request_memory (λ manifest. manifest) result (refusing (manifest_of (view value.now))) }
+    ensures told { Gives is_request_memory (λ manifest. manifest) result (refusing (manifest_of (view value.now))) }
+    ensures few { IfOk result (λ manifest. length manifest.layers ≤ 128) }
 {
     object_or(value, RequestWhat::BadManifest)?;
     let hash = digest_or(value.get("hash"), RequestWhat::BadHash)?;

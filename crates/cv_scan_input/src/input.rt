@@ -37,6 +37,7 @@ pub fn read_scan_input<S: Source>(alloc: Global, input: &mut S) -> Result<ScanIn
     ensures named { IfErr result (λ refused. refuses_memory refused ≡ false) }
     ensures distinct { IfOk result (λ asked. HasDistinctIds asked.records) }
     ensures within { IfOk result (λ asked. length asked.records ≤ 200000) }
+    ensures few { IfOk result (λ asked. length asked.manifest.layers ≤ 128) }
     ensures cause { CausedBy (S.faults input.old) (S.faults input.new) (is_input_fault result) }
 {
     let mut reader = LineReader::new(alloc, MAX_LINE, MAX_INPUT)?;
@@ -58,6 +59,7 @@ fn read_first<S: Source>(
     ensures seen { reader.new.ended ≡ true → IsAtEnd (S.left input.new) }
     ensures empty { IsErrOf result error.NoManifest → IsAtEnd (S.left input.new) }
     ensures named { IfErr result (λ refused. refuses_memory refused ≡ false) }
+    ensures few { IfOk result (λ manifest. length manifest.layers ≤ 128) }
     ensures room { OnOk result (room_of reader.new ≤ room_of reader.old) }
     ensures cause { CausedBy (S.faults input.old) (S.faults input.new) (is_input_fault result) }
 {
@@ -78,12 +80,14 @@ fn read_rest<S: Source>(
     requires going { reader.spent ≡ false }
     requires seen { reader.ended ≡ true → IsAtEnd (S.left input.old) }
     requires room { room_of reader ≤ 2 ^ 36 }
+    requires few { length manifest.layers ≤ 128 }
     ensures told { IfSome (reading reader (S.left input.old)) (λ rest. IsAsked (asked_left manifest [] 2 rest) result) }
     ensures ended { OnOk result (IsAtEnd (S.left input.new)) }
     ensures begun { IsErrOf result error.NoManifest → ⊥ }
     ensures named { IfErr result (λ refused. refuses_memory refused ≡ false) }
     ensures distinct { IfOk result (λ asked. HasDistinctIds asked.records) }
     ensures within { IfOk result (λ asked. length asked.records ≤ 200000) }
+    ensures few { IfOk result (λ asked. length asked.manifest.layers ≤ 128) }
     ensures cause { CausedBy (S.faults input.old) (S.faults input.new) (is_input_fault result) }
 {
     let mut records = RecordList::new(alloc);

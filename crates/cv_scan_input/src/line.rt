@@ -1,4 +1,4 @@
-ghost use Rattle.std.specs.Prelude.{◌≡◌, false, MatchBool, ⊤, IfErr};
+ghost use Rattle.std.specs.Prelude.{◌≡◌, ◌≤◌, false, length, MatchBool, ⊤, IfErr, IfOk};
 ghost use Rattle.cv_base.specs.Answer.{Gives};
 ghost use Rattle.cv_request.specs.Line.{is_request_memory};
 ghost use Rattle.cv_scan_input.specs.Answer.{is_input_memory, refuses_memory};
@@ -18,6 +18,7 @@ use std::alloc::Global;
 pub(crate) fn manifest_line(alloc: Global, line: &[u8]) -> Result<Manifest, InputError>
     ensures told { Gives is_input_memory (λ manifest. manifest) result (refused_at 1 (manifest_or line.now)) }
     ensures named { IfErr result (λ error. refuses_memory error ≡ false) }
+    ensures few { IfOk result (λ manifest. length manifest.layers ≤ 128) }
 {
     manifest_text(alloc, line).map_err(|error| refused_at(1, error))
 }
@@ -51,7 +52,8 @@ fn refused_at(line: u64, error: RequestError) -> InputError
 }
 
 fn manifest_text(alloc: Global, text: &[u8]) -> Result<Manifest, RequestError>
-    ensures { Gives is_request_memory (λ manifest. manifest) result (manifest_or text.now) }
+    ensures told { Gives is_request_memory (λ manifest. manifest) result (manifest_or text.now) }
+    ensures few { IfOk result (λ manifest. length manifest.layers ≤ 128) }
 {
     let value = read_json(alloc, text)?;
     read_manifest(alloc, &value)
