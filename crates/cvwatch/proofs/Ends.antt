@@ -1,5 +1,5 @@
 -- How the command `scan` ends, by what was printed.
-use Rattle.std.proofs.Common.{◌≡◌, ℕ, Bool, true, false, List, [], ◌∷◌, refl, sym, ◌∙◌, ap, subst, inl, inr}
+use Rattle.std.proofs.Common.{◌≡◌, ℕ, Bool, true, false, List, [], ◌∷◌, refl, ◌∙◌, ap, subst, inl, inr}
 use Rattle.std.specs.Prelude.{IfSome, Option, Some, None, Ok, Err, if◌then◌else◌, codes}
 use Rattle.cv_base.specs.Texts.{same}
 use Rattle.cv_base.specs.declared.«package».PackageKind.{PackageKind}
@@ -13,7 +13,7 @@ use Rattle.cv_scan_input.specs.Asked.{Asked, NoLine, RefusedAt, Scan, asked_by, 
 use Rattle.cv_scan_input.specs.declared.error.InputError.{InputError}
 use Rattle.cv_scan_input.specs.declared.error.InputError.TheVariants as input
 use Rattle.cv_transcript.specs.Refusal.{no_manifest_text, refusal_text}
-use Rattle.cvwatch.specs.Command.{AnswersAsked, IsAskedBy, IsWithoutLine, OutcomePrinted, RefusalPrinted, ScanEnds}
+use Rattle.cvwatch.specs.Command.{AnswersAsked, IsAskedBy, OutcomePrinted, RefusalPrinted, ScanEnds}
 use Rattle.cvwatch.specs.Outcome.{Outcome, Told, Failed, TellsOutcome, outcome_printed}
 use Rattle.cvwatch.specs.Order.{compared_as, compared_status, kind_of, order_of, order_printed}
 use Rattle.cvwatch.specs.Printed.{IsPrinted, Printed, usage}

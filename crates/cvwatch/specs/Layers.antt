@@ -1,7 +1,6 @@
 -- The layers that the tests scan (cvwatch's own), as plain data: each has an os-release and a status file of one package,
 -- and they differ in its version.
 use Rattle.std.specs.Prelude.{ℕ, ◌==◌, if◌then◌else◌, List, [], ◌∷◌, codes, Option, Some, None}
-use Rattle.cv_base.specs.declared.tree.Kind.{Kind}
 use Rattle.cv_base.specs.declared.tree.Kind.TheVariants as kind
 use Rattle.cv_desk.specs.Row.{Row}
 
