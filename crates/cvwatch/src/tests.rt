@@ -60,11 +60,13 @@ fn digest(rt: &HostRuntime, digit: char) -> Result<String, Fail> {
 fn manifest(rt: &HostRuntime, layers: &str) -> Result<String, Fail> {
     let hash = digest(rt, '1')?;
     let mut text = format!(in rt.alloc(); "{{\"hash\":\"{hash}\",\"layers\":[")?;
-    let mut between = "";
-    for digit in layers.chars() {
-        let layer = digest(rt, digit)?;
-        text.push_str(format!(in rt.alloc(); "{between}{{\"hash\":\"{layer}\"}}")?.as_str())?;
-        between = ",";
+    for (place, digit) in layers.chars().enumerate() {
+        if place > 0 {
+            text.push(',')?;
+        }
+        text.push_str("{\"hash\":\"")?;
+        text.push_str(digest(rt, digit)?.as_str())?;
+        text.push_str("\"}")?;
     }
     text.push_str("]}")?;
     Ok(text)
