@@ -1,5 +1,6 @@
 -- Digests, computed.
 use Rattle.std.specs.Prelude.{◌≡◌, ℕ, List, [], ◌∷◌, ◌++◌, codes, replicate, Some, None, refl}
+use Rattle.hex.specs.Hex.{decode_pairs, encode_with}
 use Rattle.cv_base.specs.Digest.{digest_of, digest_text}
 
 -- 30 bytes behind 0 and 255, and their text
@@ -7,13 +8,14 @@ abbrev bytes : List ℕ
 bytes = 0 ∷ 255 ∷ replicate 30 161
 
 abbrev digits : List ℕ
-digits =
-    codes "00ffa1a1a1a1a1a1a1a1a1a1a1a1a1a1a1a1a1a1a1a1a1a1a1a1a1a1a1a1a1a1"
+digits = codes "00ffa1a1a1a1a1a1a1a1a1a1a1a1a1a1a1a1a1a1a1a1a1a1a1a1a1a1a1a1a1a1"
 
 read : digest_of (codes "sha256:" ++ digits) ≡ Some bytes
+unfolding decode_pairs
 read = refl
 
 written : digest_text bytes ≡ codes "sha256:" ++ digits
+unfolding encode_with
 written = refl
 
 -- a capital digit, and a letter that is no digit

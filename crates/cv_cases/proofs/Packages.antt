@@ -1,5 +1,6 @@
 -- The packages of small roots, computed.
 use Rattle.std.specs.Prelude.{◌≡◌, ℕ, List, [], ◌∷◌, codes, Ok, Err, refl}
+use lib.Utf8.{encode}
 use Rattle.std.specs.Str.{is_utf8, chars}
 use Rattle.serde_json.proofs.OnLiterals.{serde_json_on_literals}
 use Rattle.cv_base.specs.Path.{components}
@@ -46,12 +47,12 @@ zlib_of ecosystem = record {
 -- etc/os-release counts before usr/lib/os-release, as a file that says nothing too
 etc_counts : (packages (etc_debian ∷ usr_alpine ∷ zlib ∷ []) ≡ Ok (zlib_of (codes "Debian:12") ∷ []))
     × (packages (file (codes "etc/os-release") [] ∷ usr_alpine ∷ zlib ∷ []) ≡ Ok (zlib_of (codes "linux") ∷ []))
-unfolding packages
+unfolding packages is_utf8 chars encode
 etc_counts = (refl, refl)
 
 -- where the former is no file, as a link, the latter counts
 usr_counts : packages (other (codes "etc/os-release") ∷ usr_alpine ∷ zlib ∷ []) ≡ Ok (zlib_of (codes "Alpine:v3.18") ∷ [])
-unfolding packages
+unfolding packages is_utf8 chars encode
 usr_counts = refl
 
 -- without either the system is not known
@@ -91,7 +92,7 @@ apk : packages (file (codes "lib/apk/db/installed") (codes "P:libssl3\nV:3.1.4-r
       arch = codes "x86_64";
       ecosystem = codes "Alpine:v3.18";
     } ∷ [])
-unfolding packages
+unfolding packages is_utf8 chars encode
 apk = refl
 
 -- an npm package is its own source, has no architecture, and is of npm on every system; a file that is no JSON has none
