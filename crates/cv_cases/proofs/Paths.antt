@@ -1,5 +1,5 @@
 -- Which texts are paths, and the order of paths, computed.
-use Rattle.std.specs.Prelude.{◌≡◌, ℕ, true, false, List, [], ◌∷◌, ◌++◌, codes, replicate, Ok, Err, refl}
+use Rattle.std.specs.Prelude.{◌≡◌, true, false, [], ◌∷◌, ◌++◌, codes, replicate, Ok, Err, refl}
 use Rattle.std.specs.declared.cmp.Ordering.TheVariants.{Less, Equal, Greater}
 use Rattle.cv_base.specs.Path.{components, is_above, path_cmp, path_of}
 use Rattle.cv_base.specs.declared.path.PathError.TheVariants.{Empty, TooLong, BadComponent}
