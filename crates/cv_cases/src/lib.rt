@@ -2,7 +2,7 @@
 //! answers (the tests).
 //!
 //! ```text
-//! manifest(alloc, &hash, &layers) == Err(RequestError::BadRequest(RequestWhat::NoLayers))
+//! count(alloc, "[]") == Err(RequestError::BadRequest(RequestWhat::BadManifest))
 //! ```
 #![tactic(auto)]
 

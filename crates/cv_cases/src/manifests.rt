@@ -60,6 +60,9 @@ fn the_first_fault_of_a_manifest_is_told(rt: HostRuntime) -> Result<(), Fail> {
     let hash = manifest(alloc, BAD_DIGEST, &[])?;
     let layer = manifest(alloc, DIGEST, &[DIGEST, BAD_DIGEST, BAD_DIGEST])?;
     let no_layers = format!(in alloc; "{{\"hash\":\"{DIGEST}\"}}")?;
+    let no_digest = format!(in alloc;
+        "{{\"hash\":\"{DIGEST}\",\"layers\":[{{\"hash\":\"{DIGEST}\"}},{{}}]}}"
+    )?;
     for (text, want) in [
         ("[]", RequestWhat::BadManifest),
         ("null", RequestWhat::BadManifest),
@@ -68,6 +71,7 @@ fn the_first_fault_of_a_manifest_is_told(rt: HostRuntime) -> Result<(), Fail> {
         (hash.as_str(), RequestWhat::BadHash),
         (no_layers.as_str(), RequestWhat::BadLayers),
         (layer.as_str(), RequestWhat::BadLayer(1)),
+        (no_digest.as_str(), RequestWhat::BadLayer(1)),
     ] {
         assert_eq!(rt;
             count(alloc, text),
