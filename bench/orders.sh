@@ -2,18 +2,12 @@
 # Times Debian's version order: pairs of usual versions, and pairs of long ones that differ in their last byte. The time for a
 # pair of long ones is to grow as their length does, so the time for a byte is to stay.
 set -euo pipefail
-cd "$(dirname "$0")/.."
-(cd crates/bench_orders && rt run >/dev/null 2>&1)
-program=$PWD/crates/bench_orders/out/bench_orders
+# shellcheck source=bench/common.sh
+. "$(dirname "$0")/common.sh"
+program=$(build bench_orders)
 
 # the seconds that the program takes with these arguments
-seconds() {
-    local start end
-    start=$(date +%s%N)
-    "$program" "$@" >/dev/null
-    end=$(date +%s%N)
-    awk "BEGIN { print ($end - $start) / 1e9 }"
-}
+seconds() { awk "BEGIN { print $(microseconds 1 "$program" "$@") / 1e6 }"; }
 
 printf '%12s %12s %10s %14s %12s\n' length pairs seconds 'µs for a pair' 'ns for a byte'
 pairs=1000000

@@ -1,0 +1,55 @@
+# shellcheck shell=bash
+# What the scripts of bench/, examples/ and tools/ share. A script sources this file first; $top is the repository.
+top=$(cd "$(dirname "${BASH_SOURCE[0]}")/.." && pwd)
+
+# builds the program of crates/NAME with the kit's `rt`, and says where it is. The first build proves what it builds, which takes
+# some minutes
+build() {
+    local log
+    log=$(cd "$top/crates/$1" && rt run </dev/null 2>&1) || true
+    if ! grep -q "running out/$1" <<<"$log"; then
+        echo "$log" >&2
+        return 1
+    fi
+    echo "$top/crates/$1/out/$1"
+}
+
+# the 64 digits that stand for a word, as the name of a layer or an image
+digest() { printf %s "$1" | sha256sum | cut -c1-64; }
+
+# the line of a manifest: the word of the image, and then those of its layers
+manifest() {
+    local image=$1 word layers=
+    shift
+    for word in "$@"; do
+        layers="$layers,{\"hash\":\"sha256:$(digest "$word")\"}"
+    done
+    printf '{"hash":"sha256:%s","layers":[%s]}\n' "$(digest "$image")" "${layers#,}"
+}
+
+# runs a command from the file $1 into the file $2, and leaves in $seconds and $peak how long it took and the MB of memory that
+# it had at most. It is for the command to say by its status whether it worked
+# shellcheck disable=SC2034
+measure() {
+    local input=$1 answer=$2 told
+    shift 2
+    told=$(mktemp)
+    /usr/bin/time -q -f '%e %M' -o "$told" "$@" <"$input" >"$answer" || { rm "$told"; return 1; }
+    read -r seconds peak <"$told"
+    peak=$((peak / 1024))
+    rm "$told"
+}
+
+# the microseconds of a command: the best of $1 runs
+microseconds() {
+    local runs=$1 best=0 start taken
+    shift
+    while [ "$runs" -gt 0 ]; do
+        start=$(date +%s%N)
+        "$@" >/dev/null
+        taken=$((($(date +%s%N) - start) / 1000))
+        if [ "$best" -eq 0 ] || [ "$taken" -lt "$best" ]; then best=$taken; fi
+        runs=$((runs - 1))
+    done
+    echo "$best"
+}
