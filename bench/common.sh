@@ -53,3 +53,28 @@ microseconds() {
     done
     echo "$best"
 }
+
+# makes the layer own-root below the folder $1, of this Debian machine's own package files, and says its ecosystem
+own_root() {
+    local layer
+    layer=$1/layers/sha256/$(digest own-root)
+    rm -rf "$layer"
+    mkdir -p "$layer/usr/lib" "$layer/var/lib/dpkg"
+    cp /usr/lib/os-release "$layer/usr/lib/os-release"
+    cp /var/lib/dpkg/status "$layer/var/lib/dpkg/status"
+    if [ -d /usr/lib/node_modules ]; then
+        (cd / && find usr/lib/node_modules -type f -name package.json -print0 | xargs -0r cp --parents -t "$layer")
+    fi
+    # shellcheck disable=SC1091
+    (. /etc/os-release && [ "$ID" = debian ] && echo "Debian:$VERSION_ID") || { echo "not a Debian root" >&2; return 1; }
+}
+
+# the packages that are installed here, each line once: name, version, source and source version, with tabs between
+own_packages() {
+    # shellcheck disable=SC2016
+    dpkg-query -W -f '${db:Status-Status}\t${Package}\t${Version}\t${source:Package}\t${source:Version}\n' |
+        awk -F'\t' '$1 == "installed"' | cut -f2- | LC_ALL=C sort -u
+}
+
+# how many findings an answer has
+findings() { { grep -o '"advisory"' "$1" || true; } | wc -l; }
