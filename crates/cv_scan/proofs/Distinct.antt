@@ -1,13 +1,12 @@
 -- The distinct layers, found from the front.
-use Rattle.std.specs.Prelude.{◌≡◌, ℕ, ◌+◌, ◌≤◌, Bool, true, false, ◌&&◌, ◌||◌, not, filter, if◌then◌else◌, List, [], ◌∷◌, ◌++◌, length, cond, slice_get, Some, refl}
-use Rattle.std.specs.List.{list_any}
+use Rattle.std.specs.Prelude.{◌≡◌, ℕ, ◌+◌, ◌≤◌, Bool, true, false, ◌&&◌, ◌||◌, not, filter, List, [], ◌∷◌, ◌++◌, length, cond, slice_get, Some, refl}
 use Rattle.std.proofs.Common.{◌<◌, zero, suc, get_or, drop, ap, sym, ◌∙◌, append_assoc, append-nil, arith}
 use Rattle.std.proofs.lemmas.List.{drop_more, length-append}
 use Rattle.std.proofs.lemmas.List.Folds.{list_any-append}
 use Rattle.cv_base.specs.Texts.{same}
 use Rattle.cv_overlay.proofs.PathWords.{same_is}
 use Rattle.cv_scan.specs.Distinct.{is_seen, with_layer}
-use Rattle.cv_scan.specs.Layers.{IsFailed, IsOfLayer, IsOfLayers, distinct}
+use Rattle.cv_scan.specs.Layers.{IsOfLayer, IsOfLayers, distinct}
 use Rattle.cv_scan.specs.declared.error.ImageError.{ImageError}
 use Rattle.cv_scan.specs.declared.error.ImageError.TheVariants as error
 

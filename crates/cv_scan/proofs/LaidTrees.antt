@@ -1,5 +1,5 @@
 -- Trees that are laid one after the other make the root of the image.
-use Rattle.std.specs.Prelude.{◌≡◌, ℕ, ◌+◌, ◌<◌, ◌≤◌, List, [], ◌∷◌, ◌++◌, drop, get_or, length, map, Option, Some, None, Result, Ok, Err, if◌then◌else◌, refl}
+use Rattle.std.specs.Prelude.{◌≡◌, ℕ, ◌+◌, ◌<◌, ◌≤◌, List, [], ◌∷◌, ◌++◌, drop, get_or, length, map, Option, None, Result, Ok, Err, if◌then◌else◌, refl}
 use Rattle.std.proofs.Common.{ap, sym, ◌∙◌, append_assoc}
 use Rattle.std.proofs.lemmas.List.{drop_all, drop_more}
 use Rattle.cv_base.specs.Path.{Path}
@@ -7,7 +7,6 @@ use Rattle.cv_base.specs.declared.tree.Node.{Node}
 use Rattle.cv_base.specs.declared.tree.TreeEntry.{TreeEntry}
 use Rattle.cv_overlay.specs.Lay.{hides, lay, node_at, or_node, plain_at, root_from, root_of}
 use Rattle.cv_overlay.specs.Fault.{tree_fault}
-use Rattle.cv_overlay.specs.Merge.{AreRising}
 use Rattle.cv_overlay.specs.declared.fault.ImageFault.{ImageFault}
 use Rattle.cv_scan.specs.Scan.{bad_tree_from, or_bad, with_tree}
 

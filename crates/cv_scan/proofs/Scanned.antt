@@ -1,6 +1,6 @@
 -- An image is scanned as it is stored, whatever loading leaves out.
-use Rattle.std.specs.Prelude.{◌≡◌, ℕ, ◌+◌, length, Bool, true, false, ◌&&◌, ◌||◌, not, filter, if◌then◌else◌, cond, List, [], ◌∷◌, map, Option, Some, None, unwrap_or, Result, Ok, Err, IfSome, refl}
-use Rattle.std.specs.List.{AllByRecursion, list_any}
+use Rattle.std.specs.Prelude.{◌≡◌, ℕ, Bool, true, false, ◌||◌, not, filter, if◌then◌else◌, cond, List, [], ◌∷◌, map, Option, Some, None, unwrap_or, Result, Ok, Err, IfSome, refl}
+use Rattle.std.specs.List.{AllByRecursion}
 use Rattle.std.specs.Option.{option_map}
 use Rattle.std.specs.Result.{result_unwrap_or}
 use Rattle.std.proofs.Common.{ap, sym, subst, ◌∙◌}
@@ -19,7 +19,7 @@ use Rattle.cv_scan.specs.declared.error.ImageError.{ImageError}
 use Rattle.cv_scan.specs.declared.error.ImageError.TheVariants as error
 use Rattle.cv_scan.specs.declared.layers.LoadedLayer.{LoadedLayer}
 use Rattle.cv_scan.specs.Distinct.{is_seen}
-use Rattle.cv_scan.proofs.Loaded.{load_entry, loaded_is}
+use Rattle.cv_scan.proofs.Loaded.{loaded_is}
 use Rattle.cv_scan.proofs.RootLoaded.{load_layer, scan_loaded}
 
 abbrev layer_in : LoadedLayer → List ℕ

@@ -1,5 +1,5 @@
 -- The parts of a scan as the code puts them together.
-use Rattle.std.specs.Prelude.{◌≡◌, ℕ, ◌+◌, ◌≤◌, suc, Bool, true, false, ⊤, List, [], ◌∷◌, length, map, MatchBool, Option, Some, None, Result, Ok, Err, IfOk, refl}
+use Rattle.std.specs.Prelude.{◌≡◌, ℕ, ◌+◌, ◌≤◌, suc, ⊤, List, [], ◌∷◌, length, map, MatchBool, Option, Some, None, Result, Ok, Err, IfOk, refl}
 use Rattle.std.proofs.Common.{ap, sym, subst, arith, ◌∙◌}
 use Rattle.cv_base.specs.Answer.{Gives}
 use Rattle.cv_base.specs.Path.{Path}
@@ -13,8 +13,7 @@ use Rattle.cv_packages.specs.Packages.{is_packages_memory}
 use Rattle.cv_packages.specs.declared.error.PackagesError.{PackagesError}
 use Rattle.cv_packages.specs.declared.error.PackagesError.TheVariants as refused
 use Rattle.cv_scan.specs.Layers.{IsBadTree, image_error, is_image_memory, refusing}
-use Rattle.cv_scan.specs.Root.{root_entries}
-use Rattle.cv_scan.specs.Scan.{Scanned, as_scanned, bad_tree_from, file_fault, found_in, scan, scan_good, scan_layers, scan_of, trees_from, with_tree}
+use Rattle.cv_scan.specs.Scan.{Scanned, as_scanned, bad_tree_from, found_in, scan, scan_good, scan_layers, scan_of, trees_from, with_tree}
 use Rattle.cv_scan.specs.declared.error.ImageError.{ImageError}
 use Rattle.cv_scan.specs.declared.error.ImageError.TheVariants as error
 use Rattle.cv_scan.proofs.Laid.{laid_entries}

@@ -1,5 +1,5 @@
 -- The layers of an image as a desk has them (cvwatch's own): each distinct layer is listed once, in the order of the image.
-use Rattle.std.specs.Prelude.{◌≡◌, ℕ, ◌+◌, Bool, true, false, not, filter, if◌then◌else◌, List, [], ◌∷◌, length, map, Option, Some, None, Result, Ok, Err, IfSome, option_and_then, slice_get}
+use Rattle.std.specs.Prelude.{◌≡◌, ℕ, ◌+◌, Bool, true, false, not, filter, if◌then◌else◌, List, [], ◌∷◌, length, map, Option, Some, None, Result, Ok, Err, IfSome, slice_get}
 use Rattle.std.specs.Option.{option_map}
 use Rattle.cv_base.specs.Texts.{same}
 use Rattle.cv_base.specs.declared.finding.Finding.{Finding}

@@ -1,17 +1,25 @@
 -- How the command `scan` ends, by what was printed.
-use Rattle.std.proofs.Common.{◌≡◌, ℕ, Bool, true, false, List, [], ◌∷◌, refl, sym, ◌∙◌, ap, subst, inl, inr}
-use Rattle.std.specs.Prelude.{IfOk, IfSome, Option, Some, None, Result, Ok, Err, String, string_bytes}
+use Rattle.std.proofs.Common.{◌≡◌, ℕ, Bool, true, false, List, [], ◌∷◌, refl, ◌∙◌, ap, subst, inl, inr}
+use Rattle.std.specs.Prelude.{IfSome, Option, Some, None, Ok, Err, if◌then◌else◌, codes}
+use Rattle.cv_base.specs.Texts.{same}
+use Rattle.cv_base.specs.declared.«package».PackageKind.{PackageKind}
 use Rattle.std.specs.Io.KnownBytes.{Appends, IsAtEnd}
 use Rattle.cv_base.specs.declared.advisory.Advisory.{Advisory}
 use Rattle.cv_base.specs.declared.manifest.Manifest.{Manifest}
 use Rattle.cv_desk.specs.Stored.{Stored}
 use Rattle.cv_request.specs.declared.error.RequestError.{RequestError}
-use Rattle.cv_scan_input.specs.Asked.{Asked, NoLine, RefusedAt, Scan}
-use Rattle.cv_seq.specs.declared.memory.NoMemory.{NoMemory}
+use Rattle.cv_scan_input.specs.Answer.{IsRefusedBy}
+use Rattle.cv_scan_input.specs.Asked.{Asked, NoLine, RefusedAt, Scan, asked_by, input_of}
+use Rattle.cv_scan_input.specs.declared.error.InputError.{InputError}
+use Rattle.cv_scan_input.specs.declared.error.InputError.TheVariants as input
 use Rattle.cv_transcript.specs.Refusal.{no_manifest_text, refusal_text}
-use Rattle.cvwatch.specs.Command.{AnswersAsked, IsAskedBy, IsWithoutLine, OutcomePrinted, RefusalPrinted, ScanEnds}
+use Rattle.cvwatch.specs.Command.{AnswersAsked, IsAskedBy, OutcomePrinted, RefusalPrinted, ScanEnds}
 use Rattle.cvwatch.specs.Outcome.{Outcome, Told, Failed, TellsOutcome, outcome_printed}
-use Rattle.cvwatch.specs.Printed.{IsPrinted, Printed}
+use Rattle.cvwatch.specs.Order.{compared_as, compared_status, kind_of, order_of, order_printed}
+use Rattle.cvwatch.specs.Printed.{IsPrinted, Printed, usage}
+use Rattle.cvwatch.specs.Run.{printed_of}
+use Rattle.cvwatch.specs.declared.order.Compared.{Compared}
+use Rattle.cvwatch.specs.declared.order.Compared.TheVariants.{Ordered, NotFirst, NotSecond}
 use Rattle.cvwatch.specs.declared.status.Status.{Status}
 use Rattle.cvwatch.specs.declared.status.Status.TheVariants as status
 
@@ -78,15 +86,59 @@ module _ (trees : List ℕ → Option (Option (List Stored))) (left left_now : O
       printed_ends (Scan manifest records) printed ended h (at, tells) (tells_end manifest records printed tells) p
 
   -- the input has no line
-  pub no_line_ends : (line : Result String NoMemory) (ended : Status) → IsAskedBy left NoLine → IsAtEnd left_now → IfOk line (λ text. string_bytes text ≡ no_manifest_text)
-      → RefusalPrinted line before now ended → ScanEnds trees left left_now listed listed_now before now ended
-  no_line_ends (Ok text) ended h at e p =
-      printed_ends NoLine (record { text = string_bytes text; ended = status.Refused }) ended h (at, λ i. record { text = e i; ended = status.Refused }) refl p
-  no_line_ends (Err m) ended h at e p = memory_ends ended p.0 p.1
+  pub no_line_ends : (ended : Status) → IsAskedBy left NoLine → IsAtEnd left_now → RefusalPrinted no_manifest_text before now ended
+      → ScanEnds trees left left_now listed listed_now before now ended
+  no_line_ends ended h at (inl (e, p)) = memory_ends ended e p
+  no_line_ends ended h at (inr p) = printed_ends NoLine (record { text = no_manifest_text; ended = status.Refused }) ended h (at, refl) refl p
 
   -- a line of the input is refused
-  pub refused_ends : (number : ℕ) (error : RequestError) (line : Result String NoMemory) (ended : Status) → IsAskedBy left (RefusedAt number error)
-      → IfOk line (λ text. string_bytes text ≡ refusal_text number error) → RefusalPrinted line before now ended → ScanEnds trees left left_now listed listed_now before now ended
-  refused_ends number error (Ok text) ended h e p =
-      printed_ends (RefusedAt number error) (record { text = string_bytes text; ended = status.Refused }) ended h (λ i. record { text = e i; ended = status.Refused }) refl p
-  refused_ends number error (Err m) ended h e p = memory_ends ended p.0 p.1
+  pub refused_ends : (number : ℕ) (error : RequestError) (ended : Status) → IsAskedBy left (RefusedAt number error) → RefusalPrinted (refusal_text number error) before now ended
+      → ScanEnds trees left left_now listed listed_now before now ended
+  refused_ends number error ended h (inl (e, p)) = memory_ends ended e p
+  refused_ends number error ended h (inr p) =
+      printed_ends (RefusedAt number error) (record { text = refusal_text number error; ended = status.Refused }) ended h refl refl p
+
+-- a refusal is what is asked
+pub refused_asked : (left : Option (List ℕ)) (e : InputError) (number : ℕ) (error : RequestError) → e ≡ input.Refused number error
+    → IfSome left (λ bytes. IsRefusedBy (asked_by (input_of bytes)) e) → IsAskedBy left (RefusedAt number error)
+refused_asked left e number error same h = subst (λ f. IfSome left (λ bytes. IsRefusedBy (asked_by (input_of bytes)) f)) same h
+
+-- a text that was made was printed
+pub text_printed : (line text : List ℕ) (end : Status) (before now : Option (List ℕ)) (ended : Status) → text ≡ line → IsPrinted (record { text = text; ended = end }) before now ended
+    → IsPrinted (record { text = line; ended = end }) before now ended
+text_printed line text end before now ended e p = subst (λ t. IsPrinted (record { text = t; ended = end }) before now ended) e p
+
+-- Words that are no scan never end as one whose desk failed.
+
+usage_ends : status.Usage ≡ status.DeskFault → ⊥
+usage_ends h = cc
+
+compared_ends : (compared : Compared) → compared_status compared ≡ status.DeskFault → ⊥
+compared_ends (Ordered order) h = cc
+compared_ends NotFirst h = cc
+compared_ends NotSecond h = cc
+
+kind_ends : (kind : Option PackageKind) (first second : List ℕ) → (order_printed kind first second).ended ≡ status.DeskFault → ⊥
+kind_ends None first second h = usage_ends h
+kind_ends (Some kind) first second h = compared_ends (compared_as kind first second) h
+
+order_ends : (words : List (List ℕ)) → (order_of words).ended ≡ status.DeskFault → ⊥
+order_ends [] h = usage_ends h
+order_ends (a ∷ []) h = usage_ends h
+order_ends (a ∷ b ∷ []) h = usage_ends h
+order_ends (a ∷ b ∷ c ∷ []) h = kind_ends (kind_of a) b c h
+order_ends (a ∷ b ∷ c ∷ d ∷ ds) h = usage_ends h
+
+words_by : (b : Bool) (words : List (List ℕ)) → (if b then order_of words else usage).ended ≡ status.DeskFault → ⊥
+words_by true words h = order_ends words h
+words_by false words h = usage_ends h
+
+words_end : (words : List (List ℕ)) → (printed_of words).ended ≡ status.DeskFault → ⊥
+words_end [] h = usage_ends h
+words_end (word ∷ words) h = words_by (same word (codes "order")) words h
+
+fault_end : (printed : Printed) (before now : Option (List ℕ)) (ended : Status) → IsPrinted printed before now ended → ended ≡ status.DeskFault → printed.ended ≡ status.DeskFault
+fault_end printed before now ended p e = (subst (λ s. IsPrinted printed before now s) e p).0
+
+pub words_blame_none : (words : List (List ℕ)) (before now : Option (List ℕ)) (ended : Status) → IsPrinted (printed_of words) before now ended → ended ≡ status.DeskFault → ⊥
+words_blame_none words before now ended p e = words_end words (fault_end (printed_of words) before now ended p e)

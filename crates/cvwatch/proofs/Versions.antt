@@ -1,6 +1,6 @@
 -- Two texts that are read as versions compare.
 use Rattle.std.proofs.Common.{◌≡◌, ℕ, Bool, true, false, cond, List}
-use Rattle.std.specs.Prelude.{Option, Some, None}
+use Rattle.std.specs.Prelude.{Some, None}
 use Rattle.cv_base.specs.declared.«package».PackageKind.{PackageKind}
 use Rattle.cv_base.specs.declared.«package».PackageKind.TheVariants.{Npm}
 use Rattle.cv_match.specs.Order.{is_version_of, version_cmp_of, version_in}

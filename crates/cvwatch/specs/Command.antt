@@ -1,8 +1,7 @@
 -- What the command `scan` does (cvwatch's own): what it prints and how it ends, and what each other ending tells.
-use Rattle.std.specs.Prelude.{◌≡◌, ℕ, List, [], Option, Result, Ok, Err, IfSome, ◌⊎◌, String, string_bytes}
+use Rattle.std.specs.Prelude.{◌≡◌, ℕ, List, [], Option, IfSome, ◌⊎◌}
 use Rattle.cv_base.specs.declared.advisory.Advisory.{Advisory}
 use Rattle.cv_base.specs.declared.manifest.Manifest.{Manifest}
-use Rattle.cv_seq.specs.declared.memory.NoMemory.{NoMemory}
 use Rattle.std.specs.Io.KnownBytes.{Appends, IsAtEnd}
 use Rattle.cv_desk.specs.Stored.{Stored}
 use Rattle.cv_scan_input.specs.Asked.{Asked, NoLine, RefusedAt, TooLongLine, TooLongInput, Scan, asked_by, input_of}
@@ -57,7 +56,6 @@ abbrev pub OutcomePrinted : (List ℕ → Option (Option (List Stored))) → Man
 OutcomePrinted trees manifest records listed listed_now before now ended =
     IsWithoutLine before now ended ⊎ PrintsOutcome trees manifest records listed listed_now before now ended
 
--- the line of a refusal was printed, if it was made
-abbrev pub RefusalPrinted : Result String NoMemory → Option (List ℕ) → Option (List ℕ) → Status → Type 0
-RefusalPrinted (Ok line) before now ended = IsPrinted (record { text = string_bytes line; ended = status.Refused }) before now ended
-RefusalPrinted (Err e) before now ended = IsWithoutLine before now ended
+-- the line of a refusal was printed
+abbrev pub RefusalPrinted : List ℕ → Option (List ℕ) → Option (List ℕ) → Status → Type 0
+RefusalPrinted line before now ended = IsWithoutLine before now ended ⊎ IsPrinted (record { text = line; ended = status.Refused }) before now ended

@@ -1,5 +1,5 @@
 -- What comes of the scan of an image (cvwatch's own), and the line that tells it.
-use Rattle.std.specs.Prelude.{◌≡◌, ℕ, ◌+◌, List, [], ◌∷◌, codes, length, string_bytes, Option, Result, Ok, Err, IfSome}
+use Rattle.std.specs.Prelude.{◌≡◌, ℕ, ◌+◌, List, [], ◌∷◌, codes, length, string_bytes, Option, Ok, Err, IfSome}
 use Rattle.cv_base.specs.declared.advisory.Advisory.{Advisory}
 use Rattle.cv_base.specs.declared.manifest.Manifest.{Manifest}
 use Rattle.cv_desk.specs.Stored.{Stored}

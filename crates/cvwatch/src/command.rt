@@ -1,6 +1,7 @@
 ghost use Rattle.std.specs.Prelude.{◌≡◌, ◌^◌, ◌<◌, ◌≤◌, length};
 ghost use Rattle.std.specs.Io.KnownBytes.{IsAtEnd};
 ghost use Rattle.cv_seq.specs.Cause.{Rose};
+ghost use Rattle.cv_transcript.specs.Refusal.{no_manifest_text, refusal_text};
 ghost use Rattle.cvwatch.specs.Command.{OutcomePrinted, RefusalPrinted, ScanEnds};
 
 use crate::print::print;
@@ -9,6 +10,7 @@ use crate::status::Status;
 use cv_base::NoMemory;
 use cv_desk::Desk;
 use cv_io::{Sink, Source};
+use cv_request::RequestError;
 use cv_scan_input::{InputError, ScanInput, read_scan_input};
 use cv_transcript::{no_manifest_line, refusal_line};
 use std::alloc::Global;
@@ -28,10 +30,8 @@ pub fn scan_command<S: Source, K: Sink, D: Desk>(
 {
     match read_scan_input(alloc, input) {
         Ok(asked) => print_scan(alloc, output, desk, &asked),
-        Err(InputError::NoManifest) => print_line(output, no_manifest_line(alloc)),
-        Err(InputError::Refused { line, error }) => {
-            print_line(output, refusal_line(alloc, line, &error))
-        }
+        Err(InputError::NoManifest) => print_no_manifest(alloc, output),
+        Err(InputError::Refused { line, error }) => print_refusal(alloc, output, line, &error),
         Err(InputError::ReadFault) => Status::ReadFault,
         Err(InputError::LineTooLong) => Status::LineTooLong,
         Err(InputError::InputTooLong) => Status::InputTooLong,
@@ -58,12 +58,23 @@ fn print_scan<K: Sink, D: Desk>(
     }
 }
 
-/// Prints why the input is refused.
-fn print_line<K: Sink>(output: &mut K, line: Result<String, NoMemory>) -> Status
-    ensures told { RefusalPrinted line (K.contents output.old) (K.contents output.new) result }
+/// Prints that the input has no line.
+fn print_no_manifest<K: Sink>(alloc: Global, output: &mut K) -> Status
+    ensures told { RefusalPrinted no_manifest_text (K.contents output.old) (K.contents output.new) result }
     ensures write_fault { result ≡ Status.WriteFault → Rose (K.faults output.old) (K.faults output.new) }
 {
-    match line {
+    match no_manifest_line(alloc) {
+        Ok(text) => print(output, text.as_str(), Status::Refused),
+        Err(NoMemory) => Status::NoMemory,
+    }
+}
+
+/// Prints why a line of the input is refused.
+fn print_refusal<K: Sink>(alloc: Global, output: &mut K, line: u64, error: &RequestError) -> Status
+    ensures told { RefusalPrinted (refusal_text line error.now) (K.contents output.old) (K.contents output.new) result }
+    ensures write_fault { result ≡ Status.WriteFault → Rose (K.faults output.old) (K.faults output.new) }
+{
+    match refusal_line(alloc, line, error) {
         Ok(text) => print(output, text.as_str(), Status::Refused),
         Err(NoMemory) => Status::NoMemory,
     }

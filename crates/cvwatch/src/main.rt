@@ -13,6 +13,8 @@ mod print;
 mod run;
 mod scanning;
 mod status;
+#[cfg(test)]
+mod tests;
 mod usage;
 
 use crate::run::run;

@@ -1,4 +1,4 @@
-use Rattle.std.proofs.Common.{◌∷◌, [], ◌∙◌, ap, sym}
+use Rattle.std.proofs.Common.{◌∷◌, []}
 use Rattle.cv_scan.proofs.Scanned.{scanned_stored}
 use Rattle.cv_scan.proofs.scan.scan_image.Goals as goal
 

@@ -1,13 +1,15 @@
-use Rattle.std.proofs.Common.{rules, ◌≡◌, ◌^◌, ◌<◌, ◌≤◌, true, length, IfOk, ℕ, ◌+◌, ◌-◌, ◌*◌, ◌/◌, ◌%◌, Bool, false, nat_eq, nat_lt, List, [], ◌∷◌, ◌++◌, slice_index_or, slice_set, bit_and, bit_or, Fits, w8, w32, w64, Bor, MutBor}
-use Rattle.cv_seq.specs.Cause.{Rose}
-use Rattle.cvwatch.specs.Outcome.{TellsError, TellsOutcome, printed_of}
-use Rattle.cvwatch.specs.Printed.{is_end}
+use Rattle.std.proofs.Common.{◌∙◌, ap}
+use Rattle.cv_transcript.specs.Scan.{good_text}
+use Rattle.cvwatch.proofs.Tells.{answer_tells, tells_good}
 use Rattle.cvwatch.proofs.scanning.scan_answer.Goals as goal
 
--- src/scanning.rt:32:1
 pub returns-in-Ok-clause-told : goal.returns-in-Ok-clause-told
-returns-in-Ok-clause-told g c = ?
+returns-in-Ok-clause-told g c =
+    tells_good g.D.Desk.tree c.args.asked.now.manifest c.args.asked.now.records c.as_slice.result.now c.as_slice-layers.result.now _ _ c.in_ok-feed.feed _ c.in-Ok.found
+    c.as_slice-layers.ensures c.as_slice.ensures c.in_ok-feed.ensures c.in-Ok.ensures.told c.in-Ok.ensures.listed
+    (c.in_ok-good_line-in-Ok.ensures ∙ ap (good_text c.args.asked.now.manifest.hash) c.as_slice-in-Ok.ensures)
 
--- src/scanning.rt:22:1
 pub returns-clause-told : goal.returns-clause-told
-returns-clause-told g c = ?
+returns-clause-told g c =
+    answer_tells g.D.Desk.tree c.args.asked.now.manifest c.args.asked.now.records c.as_slice.result.now c.as_slice-layers.result.now _ _ c.in_ok-feed.feed c.in-Err.error c.error_answer.result
+    c.as_slice-layers.ensures c.as_slice.ensures c.in_ok-feed.ensures c.in-Err.ensures.told c.in-Err.ensures.listed c.error_answer.ensures.told
