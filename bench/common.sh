@@ -27,16 +27,15 @@ manifest() {
     printf '{"hash":"sha256:%s","layers":[%s]}\n' "$(digest "$image")" "${layers#,}"
 }
 
-# runs a command from the file $1 into the file $2, and leaves in $seconds and $peak how long it took and the MB of memory that
-# it had at most. It is for the command to say by its status whether it worked
+# runs a command from the file $1 into the file $2, and leaves in $seconds the processor time that it took, which other work on the
+# machine does not change much, and in $peak the MB of memory that it had at most
 # shellcheck disable=SC2034
 measure() {
     local input=$1 answer=$2 told
     shift 2
     told=$(mktemp)
-    /usr/bin/time -q -f '%e %M' -o "$told" "$@" <"$input" >"$answer" || { rm "$told"; return 1; }
-    read -r seconds peak <"$told"
-    peak=$((peak / 1024))
+    /usr/bin/time -q -f '%U %S %M' -o "$told" "$@" <"$input" >"$answer" || { rm "$told"; return 1; }
+    read -r seconds peak < <(awk '{ printf "%.2f %d\n", $1 + $2, $3 / 1024 }' "$told")
     rm "$told"
 }
 
