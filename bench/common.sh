@@ -39,18 +39,10 @@ measure() {
     rm "$told"
 }
 
-# the microseconds of a command: the best of $1 runs
-microseconds() {
-    local runs=$1 best=0 start taken
-    shift
-    while [ "$runs" -gt 0 ]; do
-        start=$(date +%s%N)
-        "$@" >/dev/null
-        taken=$((($(date +%s%N) - start) / 1000))
-        if [ "$best" -eq 0 ] || [ "$taken" -lt "$best" ]; then best=$taken; fi
-        runs=$((runs - 1))
-    done
-    echo "$best"
+# the seconds of processor time of a command, to the millisecond
+processor_seconds() {
+    local TIMEFORMAT='%3U %3S'
+    { time "$@" >/dev/null; } 2>&1 | awk '{ print $1 + $2 }'
 }
 
 # makes the layer own-root below the folder $1, of this Debian machine's own package files, and says its ecosystem

@@ -14,6 +14,20 @@ one_line() { head -c "$(($1 * 1048576 - 1))" /dev/zero | tr '\0' 'a'; echo; }
 # lines of 16 bytes, with their LF
 short_lines() { yes abcdefghijklmno | head -c "$(($1 * 1048576))" || true; }
 
+# the microseconds of a command by the clock: the best of $1 runs
+microseconds() {
+    local runs=$1 best=0 start taken
+    shift
+    while [ "$runs" -gt 0 ]; do
+        start=$(date +%s%N)
+        "$@" >/dev/null
+        taken=$((($(date +%s%N) - start) / 1000))
+        if [ "$best" -eq 0 ] || [ "$taken" -lt "$best" ]; then best=$taken; fi
+        runs=$((runs - 1))
+    done
+    echo "$best"
+}
+
 from_file() { "$program" <"$1"; }
 from_pipe() { dd if="$1" bs=512 status=none | "$program"; }
 

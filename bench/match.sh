@@ -6,16 +6,13 @@ set -euo pipefail
 . "$(dirname "$0")/common.sh"
 program=$(build bench_match)
 
-# the seconds that the program takes with these arguments
-seconds() { awk "BEGIN { print $(microseconds 1 "$program" "$@") / 1e6 }"; }
-
 printf '%8s %10s %10s %14s\n' kind pairs seconds 'ns for a pair'
 pairs=1000000
 for kind in deb apk npm; do
-    time=$(seconds $kind $pairs)
+    time=$(processor_seconds "$program" $kind $pairs)
     awk "BEGIN { printf \"%8s %10d %10.3f %14.1f\n\", \"$kind\", $pairs, $time, $time * 1e9 / $pairs }"
 done
 times=100000
-time=$(seconds prepare $times)
+time=$(processor_seconds "$program" prepare $times)
 printf '%8s %10s %10s %14s\n' '' times seconds 'µs for one'
 awk "BEGIN { printf \"%8s %10d %10.3f %14.3f\n\", \"prepare\", $times, $time, $time * 1e6 / $times }"

@@ -6,15 +6,12 @@ set -euo pipefail
 . "$(dirname "$0")/common.sh"
 program=$(build bench_orders)
 
-# the seconds that the program takes with these arguments
-seconds() { awk "BEGIN { print $(microseconds 1 "$program" "$@") / 1e6 }"; }
-
 printf '%12s %12s %10s %14s %12s\n' length pairs seconds 'µs for a pair' 'ns for a byte'
 pairs=1000000
-time=$(seconds $pairs)
+time=$(processor_seconds "$program" $pairs)
 printf '%12s %12d %10.3f %14.3f %12s\n' usual $pairs "$time" "$(awk "BEGIN { print $time * 1e6 / $pairs }")" -
 for length in 1000 10000 100000 1000000; do
     pairs=$((100000000 / length))
-    time=$(seconds $pairs $length)
+    time=$(processor_seconds "$program" $pairs $length)
     awk "BEGIN { printf \"%12d %12d %10.3f %14.3f %12.3f\n\", $length, $pairs, $time, $time * 1e6 / $pairs, $time * 1e9 / $pairs / $length }"
 done

@@ -10,7 +10,7 @@ program=$(build bench_overlay)
 printf '%10s %10s %10s %16s\n' entries whiteouts ms 'µs for an entry'
 for entries in 10000 100000; do
     for marks in 0 1000 10000; do
-        time=$(microseconds 3 "$program" $entries $marks)
-        awk "BEGIN { printf \"%10d %10d %10d %16.3f\n\", $entries, $marks, $time / 1000, $time / $entries / 10 }"
+        time=$(processor_seconds "$program" $entries $marks)
+        awk "BEGIN { printf \"%10d %10d %10d %16.3f\n\", $entries, $marks, $time * 1e3, $time * 1e6 / $entries / 10 }"
     done
 done
