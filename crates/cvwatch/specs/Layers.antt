@@ -27,12 +27,15 @@ debian bytes =
     ∷ dir (codes "usr") ∷ dir (codes "usr/lib") ∷ file (codes "usr/lib/os-release") (codes "ID=debian\nVERSION_ID=\"12\"\n")
     ∷ with_dpkg (status_file bytes ∷ [])
 
--- below the fixed version, at it, and another package
+-- below the fixed version, at it, a short version, and another package
 abbrev pub old_status : List ℕ
 old_status = codes "Package: libssl3\nStatus: install ok installed\nArchitecture: amd64\nSource: openssl (3.0.9-1)\nVersion: 3.0.9-1+b1\n"
 
 abbrev pub fixed_status : List ℕ
 fixed_status = codes "Package: libssl3\nStatus: install ok installed\nArchitecture: amd64\nSource: openssl (3.0.11-1)\nVersion: 3.0.11-1\n"
+
+abbrev pub short_status : List ℕ
+short_status = codes "Package: libssl3\nStatus: install ok installed\nArchitecture: amd64\nSource: openssl (9)\nVersion: 9\n"
 
 abbrev pub other_status : List ℕ
 other_status = codes "Package: zlib1g\nStatus: install ok installed\nArchitecture: amd64\nSource: zlib\nVersion: 1:1.2.13.dfsg-1\n"
@@ -74,7 +77,8 @@ rows_by byte =
     else (if byte == 34 then Some alpine
     else (if byte == 51 then Some (debian fixed_status)
     else (if byte == 85 then Some (file (codes ".wh.") [] ∷ [])
-    else None)))))))))
+    else (if byte == 119 then Some (debian short_status)
+    else None))))))))))
 
 abbrev pub rows_of : List ℕ → Option (List Row)
 rows_of [] = None

@@ -13,7 +13,11 @@ use std::test::Fail;
 const OPENSSL: &str =
     "{\"id\":\"X-1\",\"modified\":\"2024-01-01T00:00:00Z\",\"affected\":[{\"package\":{\"ecosystem\":\"Debian:12\",\"name\":\"openssl\"},\"ranges\":[{\"type\":\"ECOSYSTEM\",\"events\":[{\"introduced\":\"0\"},{\"fixed\":\"3.0.11-1\"}]}]}]}";
 
-/// The same, withdrawn.
+/// The same, fixed in 11.
+const OPENSSL_ELEVEN: &str =
+    "{\"id\":\"X-1\",\"modified\":\"2024-01-01T00:00:00Z\",\"affected\":[{\"package\":{\"ecosystem\":\"Debian:12\",\"name\":\"openssl\"},\"ranges\":[{\"type\":\"ECOSYSTEM\",\"events\":[{\"introduced\":\"0\"},{\"fixed\":\"11\"}]}]}]}";
+
+/// The first one, withdrawn.
 const WITHDRAWN: &str =
     "{\"withdrawn\":\"2024-02-01T00:00:00Z\",\"id\":\"X-1\",\"modified\":\"2024-01-01T00:00:00Z\",\"affected\":[{\"package\":{\"ecosystem\":\"Debian:12\",\"name\":\"openssl\"},\"ranges\":[{\"type\":\"ECOSYSTEM\",\"events\":[{\"introduced\":\"0\"},{\"fixed\":\"3.0.11-1\"}]}]}]}";
 
@@ -35,6 +39,9 @@ const MODULE_Y: &str =
 /// What the records find.
 const OPENSSL_FOUND: &str =
     "{\"advisory\":\"X-1\",\"arch\":\"amd64\",\"ecosystem\":\"Debian:12\",\"feed\":\"scan\",\"fixed\":\"3.0.11-1\",\"kind\":\"deb\",\"name\":\"libssl3\",\"path\":\"var/lib/dpkg/status\",\"source\":\"openssl\",\"source_version\":\"3.0.9-1\",\"version\":\"3.0.9-1+b1\"}";
+
+const OPENSSL_NINE_FOUND: &str =
+    "{\"advisory\":\"X-1\",\"arch\":\"amd64\",\"ecosystem\":\"Debian:12\",\"feed\":\"scan\",\"fixed\":\"11\",\"kind\":\"deb\",\"name\":\"libssl3\",\"path\":\"var/lib/dpkg/status\",\"source\":\"openssl\",\"source_version\":\"9\",\"version\":\"9\"}";
 
 const ZLIB_FOUND: &str =
     "{\"advisory\":\"Z-1\",\"arch\":\"amd64\",\"ecosystem\":\"Debian:12\",\"feed\":\"scan\",\"fixed\":\"1:1.3\",\"kind\":\"deb\",\"name\":\"zlib1g\",\"path\":\"var/lib/dpkg/status\",\"source\":\"zlib\",\"source_version\":\"1:1.2.13.dfsg-1\",\"version\":\"1:1.2.13.dfsg-1\"}";
@@ -124,12 +131,13 @@ fn good(rt: &HostRuntime, findings: &str) -> Result<String, Fail> {
 
 #[test]
 fn what_the_records_find_is_told(rt: HostRuntime) -> Result<(), Fail> {
-    let table: [(&str, &[&str], &str); 6] = [
+    let table: [(&str, &[&str], &str); 7] = [
         ("a", &[], ""),
         ("a", &[OPENSSL], OPENSSL_FOUND),
         ("a", &["", MODULE_X, "", "", OPENSSL, ""], OPENSSL_FOUND),
         ("a", &[WITHDRAWN], ""),
         ("3", &[OPENSSL], ""),
+        ("7", &[OPENSSL_ELEVEN], OPENSSL_NINE_FOUND),
         ("2", &[OPENSSL, ALPINE], ALPINE_FOUND),
     ];
     for (layers, records, found) in table {

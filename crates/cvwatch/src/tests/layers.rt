@@ -106,6 +106,23 @@ static FIXED: [TableEntry; 9] = [
     },
 ];
 
+/// The same system with a version of one digit.
+static SHORT: [TableEntry; 9] = [
+    ETC,
+    LINK,
+    USR,
+    USR_LIB,
+    DEBIAN,
+    VAR,
+    VAR_LIB,
+    DPKG,
+    TableEntry {
+        path: "var/lib/dpkg/status",
+        kind: Kind::File,
+        bytes: b"Package: libssl3\nStatus: install ok installed\nArchitecture: amd64\nSource: openssl (9)\nVersion: 9\n",
+    },
+];
+
 /// Takes the packages of the layers below away.
 static WITHOUT: [TableEntry; 4] = [VAR, VAR_LIB, DPKG, NO_STATUS];
 
@@ -244,6 +261,7 @@ impl Table for Layers {
             0x22 => Some(&ALPINE),
             0x33 => Some(&FIXED),
             0x55 => Some(&MARKED),
+            0x77 => Some(&SHORT),
             _ => None,
         }
     }

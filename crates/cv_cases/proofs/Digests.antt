@@ -1,0 +1,31 @@
+-- Digests, computed.
+use Rattle.std.specs.Prelude.{◌≡◌, ℕ, List, [], ◌∷◌, ◌++◌, codes, replicate, Some, None, refl}
+use Rattle.hex.specs.Hex.{decode_pairs, encode_with}
+use Rattle.cv_base.specs.Digest.{digest_of, digest_text}
+
+-- 30 bytes behind 0 and 255, and their text
+abbrev bytes : List ℕ
+bytes = 0 ∷ 255 ∷ replicate 30 161
+
+abbrev digits : List ℕ
+digits = codes "00ffa1a1a1a1a1a1a1a1a1a1a1a1a1a1a1a1a1a1a1a1a1a1a1a1a1a1a1a1a1a1"
+
+read : digest_of (codes "sha256:" ++ digits) ≡ Some bytes
+unfolding decode_pairs
+read = refl
+
+written : digest_text bytes ≡ codes "sha256:" ++ digits
+unfolding encode_with
+written = refl
+
+-- a capital digit, and a letter that is no digit
+capitals : (digest_of (codes "sha256:" ++ codes "A" ++ replicate 63 97) ≡ None) × (digest_of (codes "sha256:" ++ codes "g" ++ replicate 63 97) ≡ None)
+capitals = (refl, refl)
+
+-- 63 digits, 65 and none
+lengths : (digest_of (codes "sha256:" ++ replicate 63 97) ≡ None) × (digest_of (codes "sha256:" ++ replicate 65 97) ≡ None) × (digest_of (codes "sha256:") ≡ None) × (digest_of [] ≡ None)
+lengths = (refl, refl, refl, refl)
+
+-- another algorithm, its name in capitals, and digits alone
+algorithms : (digest_of (codes "sha512:" ++ digits) ≡ None) × (digest_of (codes "SHA256:" ++ digits) ≡ None) × (digest_of digits ≡ None)
+algorithms = (refl, refl, refl)

@@ -1,0 +1,5 @@
+mod Digests
+mod Layers
+mod Packages
+mod Paths
+mod Places
