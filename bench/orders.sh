@@ -2,25 +2,16 @@
 # Times Debian's version order: pairs of usual versions, and pairs of long ones that differ in their last byte. The time for a
 # pair of long ones is to grow as their length does, so the time for a byte is to stay.
 set -euo pipefail
-cd "$(dirname "$0")/.."
-(cd crates/bench_orders && rt run >/dev/null 2>&1)
-program=$PWD/crates/bench_orders/out/bench_orders
-
-# the seconds that the program takes with these arguments
-seconds() {
-    local start end
-    start=$(date +%s%N)
-    "$program" "$@" >/dev/null
-    end=$(date +%s%N)
-    awk "BEGIN { print ($end - $start) / 1e9 }"
-}
+# shellcheck source=bench/common.sh
+. "$(dirname "$0")/common.sh"
+program=$(build bench_orders)
 
 printf '%12s %12s %10s %14s %12s\n' length pairs seconds 'µs for a pair' 'ns for a byte'
 pairs=1000000
-time=$(seconds $pairs)
+time=$(processor_seconds "$program" $pairs)
 printf '%12s %12d %10.3f %14.3f %12s\n' usual $pairs "$time" "$(awk "BEGIN { print $time * 1e6 / $pairs }")" -
 for length in 1000 10000 100000 1000000; do
     pairs=$((100000000 / length))
-    time=$(seconds $pairs $length)
+    time=$(processor_seconds "$program" $pairs $length)
     awk "BEGIN { printf \"%12d %12d %10.3f %14.3f %12.3f\n\", $length, $pairs, $time, $time * 1e6 / $pairs, $time * 1e9 / $pairs / $length }"
 done

@@ -1,13 +1,13 @@
-#!/bin/sh
+#!/usr/bin/env bash
 # Times the reading of lists of OSV records: builds bench_osv, makes lists of 10,000 and of 200,000 records, and prints
 # how long each is parsed as JSON and read as records, and how long it is only parsed (a list within an object is no
 # list of records, and is refused at once).
-set -e
-top=$(cd "$(dirname "$0")/.." && pwd)
-data=$top/bench/data
+set -euo pipefail
+# shellcheck source=bench/common.sh
+. "$(dirname "$0")/common.sh"
+data=$top/bench/data/osv
 mkdir -p "$data"
-cd "$top/crates/bench_osv"
-rt run < stdin > /dev/null
+program=$(build bench_osv)
 
 # records N: a JSON list of N records, whose ids are in no order
 records() {
@@ -21,16 +21,14 @@ records() {
 
 # timed LABEL FILE
 timed() {
-    start=$(date +%s%N)
-    told=$(out/bench_osv < "$2")
-    end=$(date +%s%N)
-    echo "$1: $(((end - start) / 1000000)) ms: $told"
+    measure "$2" "$data/answer" "$program"
+    echo "$1: $seconds s, $peak MB: $(cat "$data/answer")"
 }
 
 for count in 10000 200000; do
-    records "$count" > "$data/osv-list.json"
-    { printf '{"records":'; cat "$data/osv-list.json"; echo '}'; } > "$data/osv-object.json"
-    echo "$count records, $(($(wc -c < "$data/osv-list.json") / 1000)) kB"
-    timed "  parsed and read" "$data/osv-list.json"
-    timed "  parsed" "$data/osv-object.json"
+    records "$count" >"$data/list.json"
+    { printf '{"records":'; cat "$data/list.json"; echo '}'; } >"$data/object.json"
+    echo "$count records, $(($(wc -c <"$data/list.json") / 1000)) kB"
+    timed "  parsed and read" "$data/list.json"
+    timed "  parsed" "$data/object.json"
 done

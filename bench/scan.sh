@@ -3,13 +3,11 @@
 # with a status file of 1, 10 and 30 MB. Of each it prints the seconds, the peak of memory and the count of findings. The time
 # for an entry, and that for a megabyte, is to grow no faster than the logarithm.
 set -euo pipefail
-cd "$(dirname "$0")/.."
-(cd crates/cvwatch && rt run </dev/null >/dev/null 2>&1) || [ -x crates/cvwatch/out/cvwatch ]
-program=$PWD/crates/cvwatch/out/cvwatch
-data=$PWD/bench/data/scan
+# shellcheck source=bench/common.sh
+. "$(dirname "$0")/common.sh"
+data=$top/bench/data/scan
 mkdir -p "$data"
-
-digest() { printf %s "$1" | sha256sum | cut -c1-64; }
+program=$(build cvwatch)
 
 # the folder of a layer, with what each layer of Debian has
 layer() {
@@ -44,15 +42,14 @@ status() {
 }
 
 scan() {
-    local name=$1 found seconds peak
+    local name=$1
     {
-        printf '{"hash":"sha256:%s","layers":[{"hash":"sha256:%s"}]}\n' "$(digest image)" "$(digest "$name")"
+        manifest image "$name"
         printf '{"id":"X-1","modified":"2024-01-01T00:00:00Z","affected":[{"package":{"ecosystem":"Debian:12","name":"openssl"},"ranges":[{"type":"ECOSYSTEM","events":[{"introduced":"0"},{"fixed":"3.0.11-1"}]}]}]}\n'
     } >"$data/input"
-    (cd "$data" && /usr/bin/time -f '%e %M' -o time "$program" scan <input >answer)
-    found=$({ grep -o '"advisory"' "$data/answer" || true; } | wc -l)
-    read -r seconds peak <"$data/time"
-    printf '%-16s %8s %8s %10s\n' "$name" "$seconds" "$((peak / 1024))" "$found"
+    cd "$data"
+    measure input answer "$program" scan
+    printf '%-16s %8s %8s %10s\n' "$name" "$seconds" "$peak" "$(findings answer)"
 }
 
 printf '%-16s %8s %8s %10s\n' layer seconds MB findings

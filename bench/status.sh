@@ -3,11 +3,11 @@
 # field over and over, one paragraph of two million fields, one line of a long value, one line of blanks. The program is
 # crates/bench_status. Of each it prints the seconds, the peak of memory, and what was read.
 set -euo pipefail
-cd "$(dirname "$0")/.."
-data=bench/data/status
+# shellcheck source=bench/common.sh
+. "$(dirname "$0")/common.sh"
+data=$top/bench/data/status
 mkdir -p "$data"
-(cd crates/bench_status && rt run </dev/null >/dev/null 2>&1)
-program=$PWD/crates/bench_status/out/bench_status
+program=$(build bench_status)
 bytes=33554432
 
 paragraph='Package: libc6
@@ -39,7 +39,6 @@ printf '%-12s %8s %8s  %s\n' input seconds MB answer
 for shape in usual empty_lines one_field many_fields long_value blanks; do
     file=$data/$shape
     [ -f "$file" ] || "$shape" >"$file"
-    answer=$(/usr/bin/time -f '%e %M' -o "$data/time" "$program" <"$file")
-    read -r seconds peak <"$data/time"
-    printf '%-12s %8s %8s  %s\n' "$shape" "$seconds" "$((peak / 1024))" "$answer"
+    measure "$file" "$data/answer" "$program"
+    printf '%-12s %8s %8s  %s\n' "$shape" "$seconds" "$peak" "$(cat "$data/answer")"
 done

@@ -1,69 +1,91 @@
 #!/usr/bin/env bash
-# Shows that cvwatch reads this machine's own Debian root as dpkg does. It makes a layer of the root's os-release and status
-# files and scans it with two records, which have an entry for each source package. Of the first every version is affected: what
-# is found is to be what `dpkg-query -W` lists. In the second each source is fixed in the version of another one: what is found is
-# to be what `dpkg --compare-versions` says. Prints the counts, and ends with 1 where the two differ.
+# Shows that cvwatch reads this machine's own Debian root as dpkg does. It makes a layer of the root's package files and scans it
+# three times. First with one record that has an entry for each source package and affects every version: what is found is to be
+# what `dpkg-query -W` lists. Then with one in which each source is fixed in the version of another one. Last with five records
+# for each third source, which are bound just below its version, at it and just above it. What is found then is to be what
+# `dpkg --compare-versions` says, the fixed version included. Prints the counts, and ends with 1 where the two differ.
 set -euo pipefail
-cd "$(dirname "$0")/.."
-root=$PWD
+export LC_ALL=C
+# shellcheck source=bench/common.sh
+. "$(dirname "$0")/../bench/common.sh"
 work=$(mktemp -d)
 trap 'rm -rf "$work"' EXIT
-program=$root/crates/cvwatch/out/cvwatch
-log=$(cd crates/cvwatch && rt run </dev/null 2>&1) || true
-if ! grep -q 'running out/cvwatch' <<<"$log"; then
-    echo "$log" >&2
-    exit 1
-fi
+program=$(build cvwatch)
+ecosystem=$(own_root "$work")
+own_packages >"$work/packages"
 
-# shellcheck disable=SC1091
-ecosystem=$(. /etc/os-release && [ "$ID" = debian ] && echo "Debian:$VERSION_ID") || { echo "not a Debian root" >&2; exit 1; }
-digest=$(printf own-root | sha256sum | cut -c1-64)
-layer=$work/layers/sha256/$digest
-mkdir -p "$layer/usr/lib" "$layer/var/lib/dpkg"
-cp /usr/lib/os-release "$layer/usr/lib/os-release"
-cp /var/lib/dpkg/status "$layer/var/lib/dpkg/status"
+# a source package and its version, and the version in which it is called fixed (that of the source from behind), each line
+awk -F'\t' '!seen[$3]++ { print $3 "\t" $4 }' "$work/packages" | sort >"$work/sources"
+cut -f2 "$work/sources" | tac | paste <(cut -f1 "$work/sources") - >"$work/fixes"
 
-installed() { dpkg-query -W -f '${db:Status-Status}\t'"$1"'\n' | awk -F'\t' '$1 == "installed"' | cut -f2- | LC_ALL=C sort -u; }
-
-# a source package and the version in which it is called fixed, each line: takes the versions from the line after it
-installed '${source:Package}\t${source:Version}' | awk -F'\t' '!seen[$1]++' >"$work/sources"
-awk -F'\t' '{ print $2 }' "$work/sources" | tac | paste <(cut -f1 "$work/sources") - >"$work/fixes"
-
-# what a record of these entries finds: names, versions and source versions
-found() {
-    {
-        printf '{"hash":"sha256:%s","layers":[{"hash":"sha256:%s"}]}\n' "$digest" "$digest"
-        printf '{"id":"OWN-1","modified":"2024-01-01T00:00:00Z","affected":[%s]}\n' "$1"
-    } >"$work/input"
+# the findings with the records on standard input, one a line
+scan() {
+    { manifest own-image own-root; cat; } >"$work/input"
     (cd "$work" && "$program" scan <input) >"$work/answer"
-    jq -r '.findings[] | [.name, .version, .source, .source_version] | @tsv' "$work/answer" | LC_ALL=C sort -u
+    jq -c '.findings[]' "$work/answer"
 }
 
-entries() {
+# a record with an entry for each source package, with a fix or with none
+record() {
     jq -R -s -c --arg ecosystem "$ecosystem" --argjson fixed "$1" 'split("\n") | map(select(. != "") | split("\t")
         | {package: {ecosystem: $ecosystem, name: .[0]}, ranges: [{type: "ECOSYSTEM",
-           events: ([{introduced: "0"}] + (if $fixed then [{fixed: .[1]}] else [] end))}]})' "$work/fixes" | sed 's/^\[//; s/\]$//'
+           events: ([{introduced: "0"}] + (if $fixed then [{fixed: .[1]}] else [] end))}]})
+        | {id: "OWN-1", modified: "2024-01-01T00:00:00Z", affected: .}' "$work/fixes"
 }
 
+# $work/found is to be $work/wanted
 compare() {
-    if ! diff "$work/wanted" "$work/got" >"$work/diff"; then
+    if ! diff <(sort -u "$work/wanted") <(sort -u "$work/found") >"$work/diff"; then
         echo "$1: cvwatch and dpkg differ:"
         head "$work/diff"
         exit 1
     fi
-    echo "$1: the same $(wc -l <"$work/got") packages"
+    echo "$1: the same $(sort -u "$work/found" | wc -l) $2"
 }
 
-installed '${Package}\t${Version}\t${source:Package}\t${source:Version}' >"$work/packages"
-cp "$work/packages" "$work/wanted"
-found "$(entries false)" >"$work/got"
-compare 'all versions'
+package='.name, .version, .source, .source_version'
 
-join -t $'\t' -1 3 -2 1 -o 1.1,1.2,1.3,1.4,2.2 <(LC_ALL=C sort -t $'\t' -k 3,3 "$work/packages") <(LC_ALL=C sort -t $'\t' -k 1,1 "$work/fixes") |
+cp "$work/packages" "$work/wanted"
+record false | scan | jq -r "[$package] | @tsv" >"$work/found"
+compare 'all versions' packages
+
+# each package with what stands behind its source in a file that is sorted by sources
+joined() { join -t $'\t' -1 3 -2 1 -o 1.1,1.2,1.3,1.4,"$2" <(sort -t $'\t' -k 3,3 "$work/packages") "$1"; }
+
+joined "$work/fixes" 2.2 |
     while IFS=$'\t' read -r name version source source_version fixed; do
         if dpkg --compare-versions "$source_version" lt "$fixed"; then
             printf '%s\t%s\t%s\t%s\n' "$name" "$version" "$source" "$source_version"
         fi
-    done | LC_ALL=C sort -u >"$work/wanted"
-found "$(entries true)" >"$work/got"
-compare 'versions below the fix'
+    done >"$work/wanted"
+record true | scan | jq -r "[$package] | @tsv" >"$work/found"
+compare 'versions below the fix of another source' packages
+
+# source, id, introduced, last affected (or -) and fixed (or -). A version with ~ behind it stands just below it, and one with +
+# just above
+awk -F'\t' 'NR % 3 == 1 {
+    print $1 "\tBELOW-" $1 "\t0\t-\t" $2 "~"
+    print $1 "\tAT-" $1 "\t0\t-\t" $2
+    print $1 "\tABOVE-" $1 "\t" $2 "\t-\t" $2 "+"
+    print $1 "\tLATER-" $1 "\t" $2 "+\t-\t" $2 "++"
+    print $1 "\tLAST-" $1 "\t" $2 "~\t" $2 "\t-"
+}' "$work/sources" | sort -t $'\t' -k 1,1 >"$work/bounds"
+
+is_within() {
+    local version=$1 introduced=$2 last=$3 fixed=$4
+    { [ "$introduced" = 0 ] || dpkg --compare-versions "$introduced" le "$version"; } &&
+        { [ "$last" = - ] || dpkg --compare-versions "$version" le "$last"; } &&
+        { [ "$fixed" = - ] || dpkg --compare-versions "$version" lt "$fixed"; }
+}
+
+joined "$work/bounds" 2.2,2.3,2.4,2.5 |
+    while IFS=$'\t' read -r name version source source_version id introduced last fixed; do
+        if is_within "$source_version" "$introduced" "$last" "$fixed"; then
+            printf '%s\t%s\t%s\t%s\t%s\t%s\n' "$name" "$version" "$source" "$source_version" "$id" "$fixed"
+        fi
+    done >"$work/wanted"
+jq -R -c --arg ecosystem "$ecosystem" 'split("\t")
+    | {id: .[1], modified: "2024-01-01T00:00:00Z", affected: [{package: {ecosystem: $ecosystem, name: .[0]}, ranges: [{type: "ECOSYSTEM",
+       events: [{introduced: .[2]}, (if .[3] == "-" then empty else {last_affected: .[3]} end), (if .[4] == "-" then empty else {fixed: .[4]} end)]}]}]}' \
+    "$work/bounds" | scan | jq -r "[$package, .advisory, .fixed // \"-\"] | @tsv" >"$work/found"
+compare "$(wc -l <"$work/bounds") records bound at the versions themselves" 'pairs of a package and a record, with the same fixes'
