@@ -1,3 +1,6 @@
+pub mod Bools
 pub mod DigestLemmas
+pub mod InOrder
 pub mod PathLemmas
 pub mod PlaceLemmas
+pub mod Same

@@ -10,6 +10,7 @@ use Rattle.std.proofs.lemmas.List.Splits.{join_with_byte-slice_split}
 use Rattle.cv_base.specs.Path.{Path, components, is_above, is_component, is_slash, is_special, path_cmp}
 use Rattle.cv_base.specs.PathText.{goes_on, rank, text_cmp, HasNoNul, is_above_text}
 use Rattle.cv_base.specs.Texts.{same}
+use Rattle.cv_base.proofs.Bools.{and_left, and_right}
 
 -- joining the components gives the text back
 pub join_components : (t : List ℕ) → join_with_byte 47 (components t) ≡ t
@@ -165,14 +166,6 @@ above_components (x ∷ xs) (y ∷ ys) = above_split (x ∷ xs) (y ∷ ys)
 
 abbrev no_nul : List ℕ → Bool
 no_nul t = not (list_any (λ b. b == 0) t)
-
-and_left : (a b : Bool) → (a && b) ≡ true → a ≡ true
-and_left true b h = refl
-and_left false b h = h
-
-and_right : (a b : Bool) → (a && b) ≡ true → b ≡ true
-and_right true b h = h
-and_right false b h = cc
 
 all_no_nul : (s : Path) → list_all is_component s ≡ true → list_all no_nul s ≡ true
 all_no_nul [] h = refl

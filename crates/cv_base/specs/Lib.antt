@@ -1,5 +1,6 @@
 pub mod Answer
 pub mod Digest
+pub mod InOrder
 pub mod Path
 pub mod PathText
 pub mod Place

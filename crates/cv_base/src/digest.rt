@@ -9,9 +9,11 @@ use cv_seq::{NoMemory, Text};
 use hex::FromHex;
 use std::alloc::Global;
 use std::marker::Model;
+use thiserror::Error;
 
 /// The text is no digest: not `sha256:` and 64 digits of `0-9a-f`.
-#[derive(Clone, Copy, Debug, PartialEq, Eq)]
+#[derive(Clone, Copy, Debug, PartialEq, Eq, Error)]
+#[error("no digest: not sha256: and 64 digits of 0-9a-f")]
 pub struct BadDigest;
 
 /// The SHA-256 digest of an image or a layer, after the OCI image specification. Contracts see it as

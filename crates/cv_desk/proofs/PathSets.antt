@@ -4,8 +4,9 @@ use Rattle.std.specs.BTreeSet.{BTreeSet, contains}
 use Rattle.std.specs.Cmp.Lexicographic.{lists_ties, slice_cmp, texts_ties}
 use Rattle.std.specs.Ordering.{is_eq, nat_cmp}
 use Rattle.cv_base.specs.Path.{Path, path_cmp, same_path}
+use Rattle.cv_base.proofs.Same.{path_is}
 use Rattle.cv_desk.specs.Stored.{Stored}
-use Rattle.cv_desk.specs.TableLaws.{any_snoc, path_is}
+use Rattle.cv_desk.specs.TableLaws.{any_snoc}
 use Rattle.cv_desk.specs.TableSteps.{HasPaths, stands}
 
 -- the second set has the paths of the first, and this one

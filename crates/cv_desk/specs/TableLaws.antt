@@ -1,10 +1,10 @@
 -- Rows that are added one by one make the tree of a table, and no path stands twice in it.
 use Rattle.std.specs.Prelude.{◌≡◌, ℕ, Bool, true, false, ◌&&◌, ◌||◌, ◌==◌, not, cond, List, [], ◌∷◌, ◌++◌, Option, Some, None, option_map, option_to_list, Result, Ok, Err, refl, fold}
 use Rattle.std.specs.List.{list_any}
-use Rattle.std.proofs.Common.{ap, sym, ◌∙◌}
-use Rattle.std.proofs.lemmas.Bool.{eqb-true}
+use Rattle.std.proofs.Common.{ap, append-nil, sym, ◌∙◌}
+use Rattle.std.proofs.Math.Bool.{or_comm}
 use Rattle.cv_base.specs.Path.{Path, path_of, same_path}
-use Rattle.cv_base.specs.Texts.{same}
+use Rattle.cv_base.proofs.Same.{path_is}
 use Rattle.cv_base.specs.declared.path.PathError.{PathError}
 use Rattle.cv_desk.specs.Row.{Row}
 use Rattle.cv_desk.specs.Stored.{Stored, is_distinct, IsDistinctIn, item_at}
@@ -52,42 +52,6 @@ rows_distinct entries (row ∷ rows) d = rows_distinct (with_row entries row) ro
 
 -- The entries that were added one by one are those of the tree.
 
-and_left : (a b : Bool) → a && b ≡ true → a ≡ true
-and_left true b h = refl
-and_left false b h = h
-
-and_right : (a b : Bool) → a && b ≡ true → b ≡ true
-and_right true b h = h
-and_right false b h = cc
-
-or_turned : (a b : Bool) → a || b ≡ b || a
-or_turned true true = refl
-or_turned true false = refl
-or_turned false true = refl
-or_turned false false = refl
-
-same_is : (x y : List ℕ) → same x y ≡ true → x ≡ y
-same_is [] [] h = refl
-same_is [] (y ∷ ys) h = cc
-same_is (x ∷ xs) [] h = cc
-same_is (x ∷ xs) (y ∷ ys) h =
-    let first = eqb-true x y (and_left (x == y) (same xs ys) h) in
-    let rest = same_is xs ys (and_right (x == y) (same xs ys) h) in
-    cc
-
-pub path_is : (p q : Path) → same_path p q ≡ true → p ≡ q
-path_is [] [] h = refl
-path_is [] (y ∷ ys) h = cc
-path_is (x ∷ xs) [] h = cc
-path_is (x ∷ xs) (y ∷ ys) h =
-    let first = same_is x y (and_left (same x y) (same_path xs ys) h) in
-    let rest = path_is xs ys (and_right (same x y) (same_path xs ys) h) in
-    cc
-
-append_nil : (es : List Stored) → es ++ [] ≡ es
-append_nil [] = refl
-append_nil (e ∷ es) = ap (λ fs. e ∷ fs) (append_nil es)
-
 append_one : (es : List Stored) (e : Stored) (fs : List Stored) → (es ++ e ∷ []) ++ fs ≡ es ++ e ∷ fs
 append_one [] e fs = refl
 append_one (d ∷ es) e fs = ap (λ gs. d ∷ gs) (append_one es e fs)
@@ -115,7 +79,7 @@ alike_again entries before row path e s alike = λ p. by_test p (same_path path 
 alike_new : (entries : List Stored) (before : List Row) (row : Row) (entry : Stored) → path_of row.path ≡ Ok entry.path → Alike entries before
     → Alike (entries ++ entry ∷ []) (row ∷ before)
 alike_new entries before row entry e alike = λ p.
-    any_snoc (λ f. same_path f.path p) entries entry ∙ ap (λ b. b || same_path entry.path p) (alike p) ∙ or_turned (have before p) (same_path entry.path p)
+    any_snoc (λ f. same_path f.path p) entries entry ∙ ap (λ b. b || same_path entry.path p) (alike p) ∙ or_comm (have before p) (same_path entry.path p)
     ∙ sym (ap (λ found. is_path found p || have before p) e)
 
 row_adds : (entries : List Stored) (before rows : List Row) (row : Row) (found : Result Path PathError) → path_of row.path ≡ found → Alike entries before
@@ -134,7 +98,7 @@ row_adds entries before rows row (Ok path) e alike adds =
           adds (entries ++ entry ∷ []) (alike_new entries before row entry e alike) ∙ append_one entries entry (entries_behind (row ∷ before) rows)
 
 rows_add : (before rows : List Row) → Adds before rows
-rows_add before [] = λ entries alike. sym (append_nil entries)
+rows_add before [] = λ entries alike. sym (append-nil entries)
 rows_add before (row ∷ rows) = λ entries alike. row_adds entries before rows row (path_of row.path) refl alike (rows_add (row ∷ before) rows)
 
 -- all rows, from no entry

@@ -1,11 +1,11 @@
 -- The findings of an image (cvwatch's own): all pairs of a package and a record that affects it.
 use Rattle.std.specs.Prelude.{ℕ, List, [], ◌∷◌, if◌then◌else◌}
 use Rattle.std.specs.List.{flat_map}
-use Rattle.std.specs.BTreeSet.{insert_key}
 use Rattle.std.specs.declared.cmp.Ordering.{Ordering}
 use Rattle.std.specs.Ordering.{nat_cmp, on, then_cmp}
 use Rattle.std.specs.Cmp.{IsTotalOrder, on_total, then_total, nat_cmp_total}
 use Rattle.std.specs.Cmp.Lexicographic.{slice_cmp, lists_total, nat_list_cmp_total}
+use Rattle.cv_base.specs.InOrder.{in_order}
 use Rattle.cv_base.specs.declared.«package».Package.{Package}
 use Rattle.cv_base.specs.declared.«package».PackageKind.{PackageKind}
 use Rattle.cv_base.specs.declared.«package».PackageKind.TheVariants.{Deb, Apk, Npm}
@@ -46,16 +46,11 @@ found p feed a =
 abbrev pub found_in : List (List ℕ × List Advisory) → Package → List Finding
 found_in feeds p = flat_map (λ (feed : List ℕ × List Advisory). flat_map (found p feed.0) feed.1) feeds
 
--- the findings in rising order, each once: of those that are the same by package, feed and id the last one stays
-abbrev pub in_order : List Finding → List Finding
-in_order [] = []
-in_order (f ∷ fs) = insert_key finding_cmp (in_order fs) f
-
 -- the findings of an image: takes its packages, and the feeds, each by its name with its records; gives one finding for each
 -- pair of a package and a record that affects it, in the order of package, feed and id of the advisory. Packages that are
--- equal in every field are one
+-- equal in every field are one, and so are records of one feed that have one id: the last one stays
 unfoldable pub findings : List Package → List (List ℕ × List Advisory) → List Finding
-findings packages feeds = in_order (flat_map (found_in feeds) packages)
+findings packages feeds = in_order finding_cmp (flat_map (found_in feeds) packages)
 
 pub package_total : IsTotalOrder package_cmp
 package_total = then_total (on_total (λ (p : Package). kind_rank p.kind) nat_cmp_total)

@@ -11,19 +11,20 @@ use Rattle.std.proofs.lemmas.Grind.{common_steps}
 use Rattle.std.proofs.lemmas.Bool.{cases_lt, eqb-true}
 use Rattle.std.proofs.lemmas.List.Folds.{list_any_at, list_any_none}
 use Rattle.std.proofs.lemmas.List.Sorted.{searchable_from_sorted, list_any-IsPermutation}
-use Rattle.cv_base.specs.Path.{Path, components, is_above, is_slash, is_special}
+use Rattle.cv_base.specs.Path.{Path, components, is_above, is_slash, is_special, same_path}
 use Rattle.cv_base.specs.PathText.{goes_on}
 use Rattle.cv_base.specs.Texts.{same}
 use Rattle.cv_base.proofs.PathLemmas.{above_components}
 use Rattle.cv_overlay.specs.Cover.{any_front, has_text, hides_text, is_some_text}
 use Rattle.cv_base.specs.declared.tree.TreeEntry.{TreeEntry}
 use Rattle.cv_overlay.specs.Lay.{hides_by}
-use Rattle.cv_overlay.specs.Mark.{same_path, at_or_above, parent_of, name_of, target_of, is_dir_node, is_whiteout_name, is_opaque_name, is_reserved_name, has_mark, mark, mark_of}
+use Rattle.cv_overlay.specs.Mark.{at_or_above, parent_of, name_of, target_of, is_dir_node, is_whiteout_name, is_opaque_name, is_reserved_name, has_mark, mark, mark_of}
 use Rattle.cv_overlay.specs.declared.mark.Mark.{Mark}
 use Rattle.cv_overlay.specs.declared.mark.Mark.TheVariants.{Reserved, Opaque, Whiteout, Bad, Plain}
 use Rattle.cv_overlay.specs.Text.{is_within}
-use Rattle.cv_overlay.proofs.Bools.{both_ways, and_right}
-use Rattle.cv_overlay.proofs.PathWords.{is_cons, same_is, same_self, path_is, path_self, parent_of_last, name_of_last, mark_told}
+use Rattle.cv_base.proofs.Bools.{both_ways, and_right}
+use Rattle.cv_base.proofs.Same.{same_is, same_self, path_is, path_self}
+use Rattle.cv_overlay.proofs.PathWords.{is_cons, parent_of_last, name_of_last, mark_told}
 use Rattle.cv_overlay.proofs.TextWords.{split_cons, split_none, components_last, above_split, within_is, within_text}
 
 -- Tests joined by "or".

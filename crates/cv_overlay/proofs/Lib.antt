@@ -1,4 +1,3 @@
-pub mod Bools
 pub mod CoverWords
 mod Examples
 pub mod MergeWords

@@ -8,18 +8,18 @@ use Rattle.std.specs.declared.cmp.Ordering.{Ordering}
 use Rattle.std.specs.declared.cmp.Ordering.TheVariants.{Less, Equal, Greater}
 use Rattle.std.proofs.Common.{ap, sym, ◌∙◌}
 use Rattle.std.proofs.lemmas.Cmp.{tied_itself}
-use Rattle.cv_base.specs.Path.{Path, path_cmp}
+use Rattle.cv_base.specs.Path.{Path, path_cmp, same_path}
 use Rattle.cv_base.specs.declared.tree.Node.{Node}
 use Rattle.cv_base.specs.declared.tree.TreeEntry.{TreeEntry}
 use Rattle.cv_overlay.specs.Fault.{comes_before, fault_at, first_fault, has_parent, is_sorted_after, max_entries, or_fault, tree_fault}
 use Rattle.cv_overlay.specs.Lay.{hides, is_plain, lay, node_at, or_node, plain_at}
-use Rattle.cv_overlay.specs.Mark.{Outline, mark, outline, same_path}
+use Rattle.cv_overlay.specs.Mark.{Outline, mark, outline}
 use Rattle.cv_overlay.specs.Merge.{AreRising, first_of_two, merged}
 use Rattle.cv_overlay.specs.declared.fault.TreeFault.{TreeFault}
 use Rattle.cv_overlay.specs.declared.fault.TreeFault.TheVariants.{Unsorted, NoParent, TooMany}
-use Rattle.cv_overlay.proofs.Bools.{and_left, and_right, and_both}
-use Rattle.cv_overlay.proofs.ParentWords.{less_is, path_total}
-use Rattle.cv_overlay.proofs.PathWords.{path_is}
+use Rattle.cv_base.proofs.Bools.{and_left, and_right, and_both}
+use Rattle.cv_base.proofs.Same.{path_is, path_total, tied_path}
+use Rattle.cv_overlay.proofs.ParentWords.{less_is}
 
 abbrev pub ComesAfter : Path → TreeEntry → Type 0
 ComesAfter p later = path_cmp p later.path ≡ Less
@@ -107,9 +107,6 @@ upper_next : (s : Bool) (y : Node) (u l : Option Node) → (if s then Some y els
 upper_next true y u l = refl
 upper_next false y u l = refl
 
-tied_same : (p q : Path) → path_cmp p q ≡ Equal → p ≡ q
-tied_same p q h = path_is p q (lists_ties (slice_cmp nat_cmp) texts_ties p q ∙ rw h refl)
-
 -- the node at a path of two merged lists is the upper one, and else the lower one
 pub node_merged : (xs ys : List TreeEntry) → AreRising xs → AreRising ys → (p : Path) → node_at (merged xs ys) p ≡ or_node (node_at ys p) (node_at xs p)
 node_merged [] ys h k p = or_none (node_at ys p)
@@ -124,7 +121,7 @@ node_merged (x ∷ xs) (y ∷ ys) h k p =
           ap (λ n. if same_path x.path p then Some x.node else n) low
           ∙ upper_first (same_path x.path p) x.node (node_at (y ∷ ys) p) (node_at xs p)
           (λ s. ap (node_at (y ∷ ys)) (sym (path_is x.path p s)) ∙ nothing_before x.path (y ∷ ys) (e, all_after x.path y.path ys e k.0))
-      by_order Equal e low high = low ∙ in_place (same_path y.path p) (node_at ys p) (node_at xs p) (ap (λ q. same_path q p) (tied_same x.path y.path e)) where
+      by_order Equal e low high = low ∙ in_place (same_path y.path p) (node_at ys p) (node_at xs p) (ap (λ q. same_path q p) (tied_path x.path y.path e)) where
         in_place : (s : Bool) (u l : Option Node) → same_path x.path p ≡ s → or_node (if s then Some y.node else u) l ≡ or_node (if s then Some y.node else u) (if same_path x.path p then Some x.node else l)
         in_place true u l e = refl
         in_place false u l e = rw e refl

@@ -12,20 +12,17 @@ use Rattle.std.proofs.lemmas.List.{length-map}
 use Rattle.std.proofs.lemmas.Bool.Decides.{nat_tests}
 use Rattle.std.proofs.lemmas.Map.Lookups.{exact_bytes}
 use Rattle.std.proofs.lemmas.Cmp.{tied_itself}
-use Rattle.cv_base.specs.Path.{Path, is_above, path_cmp}
+use Rattle.cv_base.specs.Path.{Path, is_above, path_cmp, same_path}
 use Rattle.cv_base.specs.Texts.{same}
 use Rattle.cv_overlay.specs.Fault.{is_less, comes_before, is_sorted_after, has_parent, needs_parent, fault, first_fault, or_fault}
-use Rattle.cv_overlay.specs.Mark.{Outline, same_path, at_or_above, parent_of, is_bad}
+use Rattle.cv_overlay.specs.Mark.{Outline, at_or_above, parent_of, is_bad}
 use Rattle.cv_overlay.specs.Step.{follows, stands_by_parent, fault_from}
 use Rattle.cv_overlay.specs.declared.fault.TreeFault.{TreeFault}
 use Rattle.cv_overlay.specs.declared.fault.TreeFault.TheVariants.{Unsorted, NoParent, BadMark}
-use Rattle.cv_overlay.proofs.Bools.{both_ways, and_left, and_right, and_both, or_left, or_right, or_cases}
-use Rattle.cv_overlay.proofs.PathWords.{same_is, same_self, path_is, path_self}
+use Rattle.cv_base.proofs.Bools.{both_ways, and_left, and_right, and_both, or_left, or_right, or_cases}
+use Rattle.cv_base.proofs.Same.{same_is, same_self, path_is, path_self, path_total}
 
 -- The order of paths.
-
-pub path_total : IsTotalOrder path_cmp
-path_total = lists_total nat_list_cmp_total
 
 pub less_is : (o : Ordering) → is_less o ≡ true → o ≡ Less
 less_is Less h = refl

@@ -1,53 +1,18 @@
--- Paths as lists of components: their equality, and their last components.
+-- Paths as lists of components: their last components.
 use Rattle.std.specs.Prelude.{◌≡◌, ℕ, Bool, true, false, ◌&&◌, ◌||◌, ◌==◌, not, List, [], ◌∷◌, ◌++◌, codes, drop, if◌then◌else◌, refl}
 use Rattle.std.specs.List.{list_any}
 use Rattle.std.proofs.Common.{ap, ◌∙◌, arith}
 use Rattle.std.proofs.lemmas.Bool.{eqb-true}
 use Rattle.std.proofs.lemmas.Bool.Decides.{nat_tests}
-use Rattle.cv_base.specs.Path.{Path, is_special}
+use Rattle.cv_base.specs.Path.{Path, is_special, same_path}
 use Rattle.cv_base.specs.Texts.{same}
 use Rattle.cv_overlay.specs.Fault.{needs_parent}
-use Rattle.cv_overlay.specs.Mark.{same_path, parent_of, name_of, has_mark, is_opaque_name, is_reserved_name, is_whiteout_name, mark_of}
+use Rattle.cv_overlay.specs.Mark.{parent_of, name_of, has_mark, is_opaque_name, is_reserved_name, is_whiteout_name, mark_of}
 use Rattle.cv_overlay.specs.Text.{mark_by}
 use Rattle.cv_overlay.specs.declared.mark.Mark.{Mark}
 use Rattle.cv_overlay.specs.declared.mark.Mark.TheVariants.{Reserved, Opaque, Whiteout, Bad, Plain}
-use Rattle.cv_overlay.proofs.Bools.{and_left, and_right, and_both}
-
--- Equality.
-
-byte_is : (x y : ℕ) → (x == y) ≡ true → x ≡ y
-byte_is x y h = eqb-true x y h
-
-byte_same : (x : ℕ) → (x == x) ≡ true
-byte_same x = grind (arith, nat_tests)
-
--- the same texts are equal
-pub same_is : (x y : List ℕ) → same x y ≡ true → x ≡ y
-same_is [] [] h = refl
-same_is [] (y ∷ ys) h = cc
-same_is (x ∷ xs) [] h = cc
-same_is (x ∷ xs) (y ∷ ys) h =
-    let first = byte_is x y (and_left (x == y) (same xs ys) h) in
-    let rest = same_is xs ys (and_right (x == y) (same xs ys) h) in
-    cc
-
-pub same_self : (x : List ℕ) → same x x ≡ true
-same_self [] = refl
-same_self (x ∷ xs) = and_both (x == x) (same xs xs) (byte_same x) (same_self xs)
-
--- the same paths are equal
-pub path_is : (p q : Path) → same_path p q ≡ true → p ≡ q
-path_is [] [] h = refl
-path_is [] (y ∷ ys) h = cc
-path_is (x ∷ xs) [] h = cc
-path_is (x ∷ xs) (y ∷ ys) h =
-    let first = same_is x y (and_left (same x y) (same_path xs ys) h) in
-    let rest = path_is xs ys (and_right (same x y) (same_path xs ys) h) in
-    cc
-
-pub path_self : (p : Path) → same_path p p ≡ true
-path_self [] = refl
-path_self (x ∷ xs) = and_both (same x x) (same_path xs xs) (same_self x) (path_self xs)
+use Rattle.cv_base.proofs.Bools.{and_left, and_right, and_both}
+use Rattle.cv_base.proofs.Same.{same_is}
 
 -- The last component.
 

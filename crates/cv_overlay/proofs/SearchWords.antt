@@ -9,15 +9,13 @@ use Rattle.std.specs.declared.cmp.Ordering.TheVariants.{Less, Equal, Greater}
 use Rattle.std.proofs.Common.{zero, suc, ap, sym, ◌∙◌, inl, inr, get_or, add-one, arith}
 use Rattle.std.proofs.lemmas.Bool.{cases_lt}
 use Rattle.std.proofs.lemmas.List.Sorted.{searchable_from_sorted}
-use Rattle.cv_base.specs.Path.{Path, path_cmp}
+use Rattle.cv_base.specs.Path.{Path, path_cmp, same_path}
 use Rattle.cv_base.specs.declared.tree.Node.{Node}
 use Rattle.cv_base.specs.declared.tree.TreeEntry.{TreeEntry}
+use Rattle.cv_base.proofs.Same.{path_is, path_self, path_total}
 use Rattle.cv_overlay.specs.Lay.{node_at}
-use Rattle.cv_overlay.specs.Mark.{same_path}
 use Rattle.cv_overlay.specs.Merge.{AreRising}
 use Rattle.cv_overlay.proofs.MergeWords.{ComesAfter, nothing_before}
-use Rattle.cv_overlay.proofs.ParentWords.{path_total}
-use Rattle.cv_overlay.proofs.PathWords.{path_is, path_self}
 
 abbrev is_tie : Ordering → Bool
 is_tie Less = false

@@ -5,16 +5,17 @@ use Rattle.std.proofs.Common.{ap, sym, ◌∙◌, arith}
 use Rattle.std.proofs.lemmas.Bool.Decides.{nat_tests}
 use Rattle.std.proofs.lemmas.List.Splits.{join_with_byte-slice_split}
 use Rattle.std.specs.List.{join_with_byte}
-use Rattle.cv_base.specs.Path.{Path, components, is_above, is_slash}
+use Rattle.cv_base.specs.Path.{Path, components, is_above, is_slash, same_path}
 use Rattle.cv_base.specs.PathText.{goes_on}
 use Rattle.cv_base.specs.Texts.{same}
 use Rattle.cv_base.proofs.PathLemmas.{above_components}
 use Rattle.cv_overlay.specs.Fault.{needs_parent}
-use Rattle.cv_overlay.specs.Mark.{same_path, parent_of, name_of, is_reserved_name, mark_of}
+use Rattle.cv_overlay.specs.Mark.{parent_of, name_of, is_reserved_name, mark_of}
 use Rattle.cv_overlay.specs.Cover.{is_some_text}
 use Rattle.cv_overlay.specs.Text.{is_within, mark_by}
-use Rattle.cv_overlay.proofs.Bools.{both_ways}
-use Rattle.cv_overlay.proofs.PathWords.{is_cons, same_is, same_self, path_is, path_self, needs_parent_last, parent_of_last, name_of_last, mark_told}
+use Rattle.cv_base.proofs.Bools.{both_ways}
+use Rattle.cv_base.proofs.Same.{same_is, same_self, path_is, path_self}
+use Rattle.cv_overlay.proofs.PathWords.{is_cons, needs_parent_last, parent_of_last, name_of_last, mark_told}
 
 -- Cuts.
 

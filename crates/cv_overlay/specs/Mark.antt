@@ -6,7 +6,7 @@
 use Rattle.std.specs.Prelude.{ℕ, Bool, true, false, ◌&&◌, ◌||◌, ◌==◌, not, if◌then◌else◌, List, [], ◌∷◌, ◌++◌, drop, codes}
 use Rattle.std.specs.Cmp.Lexicographic.{pointwise}
 use Rattle.std.specs.List.{list_any, starts_with}
-use Rattle.cv_base.specs.Path.{Path, is_above, is_special}
+use Rattle.cv_base.specs.Path.{Path, is_above, is_special, same_path}
 use Rattle.cv_base.specs.Texts.{same}
 use Rattle.cv_base.specs.declared.tree.Kind.{Kind}
 use Rattle.cv_base.specs.declared.tree.Kind.TheVariants as kind
@@ -41,10 +41,6 @@ listed e = record { path = e.path; is_dir = is_dir_kind e.kind }
 -- the outline of an entry of a tree
 abbrev pub outline : TreeEntry → Outline
 outline e = record { path = e.path; is_dir = is_dir_node e.node }
-
--- two paths are the same
-abbrev pub same_path : Path → Path → Bool
-same_path = pointwise same
 
 -- a path is another one, or is above it
 abbrev pub at_or_above : Path → Path → Bool

@@ -1,9 +1,9 @@
 -- The first fault of a tree, found by one look at the entry before each. It is shown in `proofs/` that this is the
 -- fault of `Fault.antt`, which looks at all entries before.
 use Rattle.std.specs.Prelude.{ℕ, ◌+◌, Bool, true, ◌&&◌, ◌||◌, not, if◌then◌else◌, List, [], ◌∷◌, Option, Some, None}
-use Rattle.cv_base.specs.Path.{is_above}
+use Rattle.cv_base.specs.Path.{is_above, same_path}
 use Rattle.cv_overlay.specs.Fault.{comes_before, needs_parent, or_fault}
-use Rattle.cv_overlay.specs.Mark.{Outline, same_path, parent_of, is_bad}
+use Rattle.cv_overlay.specs.Mark.{Outline, parent_of, is_bad}
 use Rattle.cv_overlay.specs.declared.fault.TreeFault.{TreeFault}
 use Rattle.cv_overlay.specs.declared.fault.TreeFault.TheVariants.{Unsorted, NoParent, BadMark}
 

@@ -4,23 +4,38 @@ use std::alloc::AllocFailed;
 use thiserror::Error;
 
 /// What is wrong with a request.
-#[derive(Clone, Copy, Debug, PartialEq, Eq)]
+#[derive(Clone, Copy, Debug, PartialEq, Eq, Error)]
 pub enum RequestWhat {
+    #[error("the line is no object")]
     NotObject,
+    #[error("`lane` is no number from 1 to 8")]
     BadLane,
+    #[error("`do` is no known word")]
     BadDo,
+    #[error("`image` is no digest")]
     BadImage,
+    #[error("the manifest is no object")]
     BadManifest,
+    #[error("`hash` is no digest")]
     BadHash,
+    #[error("`layers` is no list")]
     BadLayers,
+    #[error("there are no layers")]
     NoLayers,
+    #[error("there are too many layers")]
     TooManyLayers,
     /// The number of the layer, from 0.
+    #[error("layer {0} is no digest")]
     BadLayer(u32),
+    #[error("`feed` is no name of a feed")]
     BadFeed,
+    #[error("`advisories` is no list")]
     BadAdvisories,
+    #[error("`number` is no number of a notification")]
     BadNumber,
+    #[error("`size` is no size of a page")]
     BadSize,
+    #[error("`page` is no number of a page")]
     BadPage,
 }
 
@@ -29,7 +44,7 @@ pub enum RequestWhat {
 pub enum RequestError {
     #[error("the line is no JSON value")]
     BadJson,
-    #[error("the request is malformed")]
+    #[error("the request is malformed: {0}")]
     BadRequest(RequestWhat),
     #[error("record {index} is malformed")]
     BadAdvisory { index: u32, what: RecordWhat },

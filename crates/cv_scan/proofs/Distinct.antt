@@ -4,7 +4,7 @@ use Rattle.std.proofs.Common.{◌<◌, zero, suc, get_or, drop, ap, sym, ◌∙�
 use Rattle.std.proofs.lemmas.List.{drop_more, length-append}
 use Rattle.std.proofs.lemmas.List.Folds.{list_any-append}
 use Rattle.cv_base.specs.Texts.{same}
-use Rattle.cv_overlay.proofs.PathWords.{same_is}
+use Rattle.cv_base.proofs.Same.{same_is}
 use Rattle.cv_scan.specs.Distinct.{is_seen, with_layer}
 use Rattle.cv_scan.specs.Layers.{IsOfLayer, IsOfLayers, distinct}
 use Rattle.cv_scan.specs.declared.error.ImageError.{ImageError}

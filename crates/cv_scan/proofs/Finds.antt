@@ -9,7 +9,8 @@ use Rattle.cv_base.specs.declared.finding.Finding.{Finding}
 use Rattle.cv_base.specs.declared.package.Package.{Package}
 use Rattle.cv_match.specs.Affects.{affects, fixed}
 use Rattle.cv_match.specs.Answer.{TellsFixed, text_at}
-use Rattle.cv_match.specs.Findings.{findings, found, found_in, in_order}
+use Rattle.cv_base.specs.InOrder.{in_order}
+use Rattle.cv_match.specs.Findings.{finding_cmp, findings, found, found_in}
 use Rattle.cv_match.specs.declared.answer.FixedAt.{FixedAt}
 use Rattle.cv_scan.specs.Found.{found_all, found_by}
 
@@ -22,9 +23,9 @@ all_feed feed advisories [] = refl
 all_feed feed advisories (p ∷ ps) = ap (λ (front : List Finding). front ++ flat_map (found_in (feed_of feed advisories)) ps) (append-nil (found_by feed advisories p)) ∙ ap (λ (rest : List Finding). found_by feed advisories p ++ rest) (all_feed feed advisories ps)
 
 -- the findings of packages with the records of one feed
-pub findings_feed : (feed : List ℕ) (advisories : List Advisory) (ps : List Package) → in_order (found_all feed advisories ps) ≡ findings ps (feed_of feed advisories)
+pub findings_feed : (feed : List ℕ) (advisories : List Advisory) (ps : List Package) → in_order finding_cmp (found_all feed advisories ps) ≡ findings ps (feed_of feed advisories)
 unfolding findings
-findings_feed feed advisories ps = ap in_order (sym (all_feed feed advisories ps))
+findings_feed feed advisories ps = ap (in_order finding_cmp) (sym (all_feed feed advisories ps))
 
 -- a record that does not affect a package says nothing
 pub found_not : (p : Package) (feed : List ℕ) (advisory : Advisory) → affects advisory p ≡ false → found p feed advisory ≡ []

@@ -1,7 +1,6 @@
 -- The entries of a root that was laid layer by layer: they rise by their paths and are at each path what the layers make
 -- of it, and there is only one such list.
 use Rattle.std.specs.Prelude.{◌≡◌, Bool, true, false, ◌&&◌, ◌||◌, if◌then◌else◌, List, [], ◌∷◌, map, Option, Some, None, refl}
-use Rattle.std.specs.BTreeSet.{insert_key}
 use Rattle.std.specs.Cmp.Lexicographic.{slice_cmp, lists_ties, texts_ties}
 use Rattle.std.specs.List.{AllByRecursion, cons_option, flat_map, list_any}
 use Rattle.std.specs.List.Sorted.{IsStrictlySortedBy}
@@ -11,84 +10,29 @@ use Rattle.std.specs.declared.cmp.Ordering.{Ordering}
 use Rattle.std.specs.declared.cmp.Ordering.TheVariants.{Less, Equal, Greater}
 use Rattle.std.proofs.Common.{ap, sym, ◌∙◌}
 use Rattle.std.proofs.lemmas.List.Folds.{list_any-append}
-use Rattle.cv_base.specs.Path.{Path, path_cmp}
+use Rattle.cv_base.specs.InOrder.{in_order}
+use Rattle.cv_base.specs.Path.{Path, path_cmp, same_path}
 use Rattle.cv_base.specs.declared.tree.Node.{Node}
 use Rattle.cv_base.specs.declared.tree.TreeEntry.{TreeEntry}
+use Rattle.cv_base.proofs.InOrder.{after_lower, any_order, order_rises}
+use Rattle.cv_base.proofs.Same.{path_is, path_self, path_total, tied_path}
 use Rattle.cv_overlay.specs.Lay.{hides, is_plain, lay, node_at, or_node, plain_at, root_from, root_of}
-use Rattle.cv_overlay.specs.Mark.{mark, same_path}
+use Rattle.cv_overlay.specs.Mark.{mark}
 use Rattle.cv_overlay.specs.Merge.{AreRising}
 use Rattle.cv_overlay.proofs.MergeWords.{ComesAfter, nothing_before}
-use Rattle.cv_overlay.proofs.ParentWords.{path_total}
-use Rattle.cv_overlay.proofs.PathWords.{path_is, path_self}
-use Rattle.cv_scan.specs.Root.{entries_at, paths_in_order, paths_of, root_entries}
+use Rattle.cv_scan.specs.Root.{entries_at, paths_of, root_entries}
 
 abbrev path_in : TreeEntry → Path
 path_in e = e.path
 
 -- Paths in order.
 
-tied_same : (p q : Path) → path_cmp p q ≡ Equal → p ≡ q
-tied_same p q h = path_is p q (lists_ties (slice_cmp nat_cmp) texts_ties p q ∙ ap is_eq h)
-
-turned : (p q : Path) → path_cmp p q ≡ Greater → path_cmp q p ≡ Less
-turned p q h = path_total.antisymm q p ∙ ap ordering_reverse h
-
--- what comes after a path comes after one before it
-after_lower : {A : Type 0} (place : A → Path) (p q : Path) (xs : List A) → path_cmp p q ≡ Less
-    → AllByRecursion (λ x. path_cmp q (place x) ≡ Less) xs → AllByRecursion (λ x. path_cmp p (place x) ≡ Less) xs
-after_lower place p q [] h k = tt
-after_lower place p q (x ∷ xs) h k = (path_total.trans p q (place x) h k.0, after_lower place p q xs h k.1)
-
-after_put : (p q : Path) (qs : List Path) → path_cmp p q ≡ Less → AllByRecursion (λ r. path_cmp p r ≡ Less) qs
-    → AllByRecursion (λ r. path_cmp p r ≡ Less) (insert_key path_cmp qs q)
-after_put p q [] h k = (h, tt)
-after_put p q (x ∷ xs) h k = by_order (path_cmp q x) (after_put p q xs h k.1) where
-  by_order : (o : Ordering) → AllByRecursion (λ r. path_cmp p r ≡ Less) (insert_key path_cmp xs q)
-      → AllByRecursion (λ r. path_cmp p r ≡ Less) (match_ordering o (q ∷ x ∷ xs) (x ∷ xs) (x ∷ insert_key path_cmp xs q))
-  by_order Less rest = (h, k)
-  by_order Equal rest = k
-  by_order Greater rest = (k.0, rest)
-
-put_rises : (qs : List Path) (q : Path) → IsStrictlySortedBy path_cmp qs → IsStrictlySortedBy path_cmp (insert_key path_cmp qs q)
-unfolding IsStrictlySortedBy
-put_rises [] q h = (tt, tt)
-put_rises (x ∷ xs) q h = by_order (path_cmp q x) refl (put_rises xs q h.1) where
-  by_order : (o : Ordering) → path_cmp q x ≡ o → IsStrictlySortedBy path_cmp (insert_key path_cmp xs q)
-      → IsStrictlySortedBy path_cmp (match_ordering o (q ∷ x ∷ xs) (x ∷ xs) (x ∷ insert_key path_cmp xs q))
-  by_order Less e rest = ((e, after_lower (λ (r : Path). r) q x xs e h.0), h)
-  by_order Equal e rest = h
-  by_order Greater e rest = (after_put x q xs (turned q x e) h.0, rest)
-
-order_rises : (ps : List Path) → IsStrictlySortedBy path_cmp (paths_in_order ps)
-unfolding IsStrictlySortedBy
-order_rises [] = tt
-order_rises (p ∷ ps) = put_rises (paths_in_order ps) p (order_rises ps)
-
 -- a path is one of these
 abbrev is_among : List Path → Path → Bool
 is_among qs p = list_any (λ q. same_path q p) qs
 
-or_twice : (a b c : Bool) → b ≡ a → (b || c) ≡ (a || (b || c))
-or_twice true b c h = ap (λ (d : Bool). d || c) h
-or_twice false b c h = refl
-
-or_turned : (a b c : Bool) → (a || (b || c)) ≡ (b || (a || c))
-or_turned true true c = refl
-or_turned true false c = refl
-or_turned false b c = refl
-
-among_put : (qs : List Path) (q p : Path) → is_among (insert_key path_cmp qs q) p ≡ (same_path q p || is_among qs p)
-among_put [] q p = refl
-among_put (x ∷ xs) q p = by_order (path_cmp q x) refl (among_put xs q p) where
-  by_order : (o : Ordering) → path_cmp q x ≡ o → is_among (insert_key path_cmp xs q) p ≡ (same_path q p || is_among xs p)
-      → is_among (match_ordering o (q ∷ x ∷ xs) (x ∷ xs) (x ∷ insert_key path_cmp xs q)) p ≡ (same_path q p || (same_path x p || is_among xs p))
-  by_order Less e rest = refl
-  by_order Equal e rest = or_twice (same_path q p) (same_path x p) (is_among xs p) (ap (λ (r : Path). same_path r p) (sym (tied_same q x e)))
-  by_order Greater e rest = ap (λ (b : Bool). same_path x p || b) rest ∙ or_turned (same_path x p) (same_path q p) (is_among xs p)
-
-among_order : (ps : List Path) (p : Path) → is_among (paths_in_order ps) p ≡ is_among ps p
-among_order [] p = refl
-among_order (q ∷ qs) p = among_put (paths_in_order qs) q p ∙ ap (λ (b : Bool). same_path q p || b) (among_order qs p)
+among_order : (ps : List Path) (p : Path) → is_among (in_order path_cmp ps) p ≡ is_among ps p
+among_order ps p = any_order (λ q. same_path q p) (λ q r h. ap (λ (x : Path). same_path x p) (tied_path q r h)) ps
 
 -- The entries at paths that rise.
 
@@ -173,7 +117,7 @@ node_root trees p =
 -- and rise
 pub root_rises : (trees : List (List TreeEntry)) → AreRising (root_entries trees)
 unfolding root_entries
-root_rises trees = entries_rise (root_of trees) (paths_of trees) (order_rises (all_paths trees))
+root_rises trees = entries_rise (root_of trees) (paths_of trees) (order_rises path_total (all_paths trees))
 
 -- Two lists that rise and have the same nodes are one.
 
@@ -189,7 +133,7 @@ own_node x xs = ap (λ (b : Bool). if b then Some x.node else node_at xs x.path)
 -- the lower of two first entries is missing in the other list
 missing : (x y : TreeEntry) (xs ys : List TreeEntry) → path_cmp x.path y.path ≡ Less → AreRising (y ∷ ys) → ((p : Path) → node_at (x ∷ xs) p ≡ node_at (y ∷ ys) p) → ⊥
 missing x y xs ys e k same =
-    some_none x.node (sym (own_node x xs) ∙ same x.path ∙ nothing_before x.path (y ∷ ys) (e, after_lower path_in x.path y.path ys e k.0))
+    some_none x.node (sym (own_node x xs) ∙ same x.path ∙ nothing_before x.path (y ∷ ys) (e, after_lower path_total path_in x.path y.path ys e k.0))
 
 one_entry : (x y : TreeEntry) → x.path ≡ y.path → x.node ≡ y.node → x ≡ y
 one_entry x y place node = λ i. record { path = place i; node = node i }
@@ -217,7 +161,7 @@ same_entries (x ∷ xs) (y ∷ ys) h k same = by_order (path_cmp x.path y.path) 
   by_order : (o : Ordering) → path_cmp x.path y.path ≡ o → (((p : Path) → node_at xs p ≡ node_at ys p) → xs ≡ ys) → x ∷ xs ≡ y ∷ ys
   by_order Less e rest = absurd (missing x y xs ys e k same)
   by_order Equal e rest =
-      let place = tied_same x.path y.path e in
+      let place = tied_path x.path y.path e in
       λ i. same_first x y xs ys place same i ∷ rest (same_rest x y xs ys place h.0 k.0 same) i
   by_order Greater e rest = absurd (missing y x ys xs (turned x.path y.path e) h (λ p. sym (same p)))
 

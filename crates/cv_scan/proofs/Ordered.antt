@@ -6,7 +6,8 @@ use Rattle.std.specs.declared.cmp.Ordering.{Ordering}
 use Rattle.std.specs.declared.cmp.Ordering.TheVariants.{Less, Equal, Greater}
 use Rattle.std.proofs.Common.{ap}
 use Rattle.cv_base.specs.declared.finding.Finding.{Finding}
-use Rattle.cv_match.specs.Findings.{finding_cmp, in_order}
+use Rattle.cv_base.specs.InOrder.{in_order}
+use Rattle.cv_match.specs.Findings.{finding_cmp}
 use Rattle.cv_scan.specs.Keyed.{keyed_cmp}
 use Rattle.cv_scan.specs.declared.order.KeyedFinding.{KeyedFinding}
 
@@ -25,7 +26,7 @@ put_last others [] f = refl
 put_last others (g ∷ fs) f = ap (λ xs. insert_key finding_cmp xs g) (put_last others fs f)
 
 -- put among none they are in order
-pub put_none : (fs : List Finding) → put_all [] fs ≡ in_order fs
+pub put_none : (fs : List Finding) → put_all [] fs ≡ in_order finding_cmp fs
 put_none [] = refl
 put_none (f ∷ fs) = ap (λ xs. insert_key finding_cmp xs f) (put_none fs)
 

@@ -4,18 +4,18 @@ use Rattle.std.specs.Prelude.{◌≡◌, ℕ, ◌+◌, Bool, true, false, ◌&&�
 use Rattle.std.specs.List.{cons_option, flat_map}
 use Rattle.std.specs.Option.{option_map}
 use Rattle.std.proofs.Common.{ap, ◌∙◌}
-use Rattle.cv_base.specs.Path.{Path, is_above}
+use Rattle.cv_base.specs.Path.{Path, is_above, same_path}
 use Rattle.cv_base.specs.declared.advisory.Advisory.{Advisory}
 use Rattle.cv_base.specs.declared.tree.Node.{Node}
 use Rattle.cv_base.specs.declared.tree.TreeEntry.{TreeEntry}
+use Rattle.cv_base.proofs.Same.{path_is}
 use Rattle.cv_overlay.specs.Lay.{hides, hides_by, is_plain, lay, or_node, plain_at, root_from, root_of}
-use Rattle.cv_overlay.specs.Mark.{mark, mark_of, same_path}
+use Rattle.cv_overlay.specs.Mark.{mark, mark_of}
 use Rattle.cv_overlay.specs.declared.fault.ImageFault.{ImageFault}
 use Rattle.cv_overlay.specs.declared.mark.Mark.{Mark}
 use Rattle.cv_overlay.specs.declared.mark.Mark.TheVariants.{Reserved, Opaque, Whiteout, Bad, Plain}
-use Rattle.cv_overlay.proofs.PathWords.{path_is}
 use Rattle.cv_packages.specs.Packages.{packages}
-use Rattle.cv_scan.specs.Root.{entries_at, paths_in_order, paths_of, root_entries}
+use Rattle.cv_scan.specs.Root.{entries_at, paths_of, root_entries}
 use Rattle.cv_scan.specs.Scan.{as_scanned, bad_tree_from, or_bad, scan, scan_good, scan_layers, trees_from, with_findings, with_tree}
 use Rattle.cv_scan.proofs.Loaded.{dir_loaded, load_entry, load_node, loaded_fault, loaded_packages}
 
@@ -104,7 +104,7 @@ all_paths (tree ∷ trees) = λ i. tree_paths tree i ++ all_paths trees i
 pub root_loaded : (trees : List (List TreeEntry)) → root_entries (map (map load_entry) trees) ≡ map load_entry (root_entries trees)
 unfolding root_entries
 root_loaded trees =
-    ap (λ ps. entries_at (root_of (map (map load_entry) trees)) (paths_in_order ps)) (all_paths trees)
+    ap (λ ps. entries_at (root_of (map (map load_entry) trees)) (in_order path_cmp ps)) (all_paths trees)
     ∙ entries_loaded (root_of (map (map load_entry) trees)) (root_of trees) (paths_of trees) (from_loaded (λ p. None) (λ p. None) trees (λ p. refl))
 
 -- The scan.

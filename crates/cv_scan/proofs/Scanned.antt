@@ -9,9 +9,9 @@ use Rattle.cv_base.specs.Texts.{same}
 use Rattle.cv_base.specs.declared.advisory.Advisory.{Advisory}
 use Rattle.cv_base.specs.declared.finding.Finding.{Finding}
 use Rattle.cv_base.specs.declared.tree.TreeEntry.{TreeEntry}
+use Rattle.cv_base.proofs.Same.{same_is, same_self}
 use Rattle.cv_desk.specs.Loaded.{loaded, whole}
 use Rattle.cv_desk.specs.Stored.{Stored}
-use Rattle.cv_overlay.proofs.PathWords.{same_is, same_self}
 use Rattle.cv_overlay.specs.declared.fault.ImageFault.{ImageFault}
 use Rattle.cv_scan.specs.Layers.{AreListed, IsOfLayers, IsScanned, IsTold, distinct, is_image_memory, refusing, stored_layers, tree_in, whole_layers, with_stored}
 use Rattle.cv_scan.specs.Scan.{Scanned, scan}

@@ -3,24 +3,19 @@
 use Rattle.std.specs.Prelude.{List, [], ◌∷◌, map, Option}
 use Rattle.std.specs.List.{filter_map, flat_map}
 use Rattle.std.specs.Option.{option_map}
-use Rattle.std.specs.BTreeSet.{insert_key}
+use Rattle.cv_base.specs.InOrder.{in_order}
 use Rattle.cv_base.specs.Path.{Path, path_cmp}
 use Rattle.cv_base.specs.declared.tree.Node.{Node}
 use Rattle.cv_base.specs.declared.tree.TreeEntry.{TreeEntry}
 use Rattle.cv_overlay.specs.Lay.{root_of}
 
--- paths in rising order, each once
-abbrev pub paths_in_order : List Path → List Path
-paths_in_order [] = []
-paths_in_order (p ∷ ps) = insert_key path_cmp (paths_in_order ps) p
-
 -- what a root has at these paths
 abbrev pub entries_at : (Path → Option Node) → List Path → List TreeEntry
 entries_at root paths = filter_map (λ p. option_map (λ n. record { path = p; node = n }) (root p)) paths
 
--- all paths at which some tree has an entry
+-- all paths at which some tree has an entry, in rising order, each once
 abbrev pub paths_of : List (List TreeEntry) → List Path
-paths_of trees = paths_in_order (flat_map (λ (tree : List TreeEntry). map (λ (e : TreeEntry). e.path) tree) trees)
+paths_of trees = in_order path_cmp (flat_map (λ (tree : List TreeEntry). map (λ (e : TreeEntry). e.path) tree) trees)
 
 -- the entries of the root of an image: takes the trees of its layers, the base first
 unfoldable pub root_entries : List (List TreeEntry) → List TreeEntry

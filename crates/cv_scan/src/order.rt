@@ -1,5 +1,6 @@
 ghost use Rattle.std.specs.Prelude.{◌≡◌, IfOk};
-ghost use Rattle.cv_match.specs.Findings.{in_order};
+ghost use Rattle.cv_base.specs.InOrder.{in_order};
+ghost use Rattle.cv_match.specs.Findings.{finding_cmp};
 
 use cv_base::Finding;
 use cv_seq::{NoMemory, Seq};
@@ -74,7 +75,7 @@ impl Ord for KeyedFinding {
 /// same by these three the last one stays.
 #[tactic(auto, using(crate::proofs::Ordered::put_last, crate::proofs::Ordered::put_none, crate::proofs::Ordered::put_seen))]
 pub fn in_order(alloc: Global, mut found: Vec<Finding>) -> Result<Seq<Finding>, NoMemory>
-    ensures { IfOk result (λ out. out ≡ in_order found.items) }
+    ensures { IfOk result (λ out. out ≡ in_order finding_cmp found.items) }
 {
     let mut keyed = BTreeSet::new(alloc);
     while let Some(finding) = found.pop() {
