@@ -3,4 +3,5 @@ pub mod DigestLemmas
 pub mod InOrder
 pub mod PathLemmas
 pub mod PlaceLemmas
+pub mod Results
 pub mod Same
