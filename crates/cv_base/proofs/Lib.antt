@@ -4,4 +4,5 @@ pub mod InOrder
 pub mod Lists
 pub mod PathLemmas
 pub mod PlaceLemmas
+pub mod Results
 pub mod Same

@@ -10,18 +10,13 @@ use Rattle.std.proofs.lemmas.List.Splits.{join_with_byte-slice_split}
 use Rattle.std.proofs.Math.Bool.{and_assoc}
 use Rattle.cv_base.specs.Path.{Path, components, is_above, is_component, is_slash, is_special, path_cmp}
 use Rattle.cv_base.specs.PathText.{goes_on, rank, text_cmp, HasNoNul, is_above_text}
-use Rattle.cv_base.specs.Texts.{same}
+use Rattle.cv_base.specs.Texts.{is_cons, same}
 use Rattle.cv_base.proofs.Bools.{and_left, and_right}
 
 -- joining the components gives the text back
 pub join_components : (t : List ℕ) → join_with_byte 47 (components t) ≡ t
 join_components [] = refl
 join_components (x ∷ xs) = join_with_byte-slice_split 47 (x ∷ xs)
-
--- a path has a component
-abbrev pub is_cons : Path → Bool
-is_cons [] = false
-is_cons (h ∷ r) = true
 
 cons_by : (x : ℕ) (s : Path) (b : Bool) → is_cons (cond b ([] ∷ s) (onto_first x s)) ≡ true
 cons_by x s true = refl

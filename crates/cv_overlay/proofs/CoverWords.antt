@@ -14,9 +14,9 @@ use Rattle.std.proofs.lemmas.List.Sorted.{searchable_from_sorted, list_any-IsPer
 use Rattle.std.proofs.Math.Bool.{or_assoc, or_comm, or-false}
 use Rattle.cv_base.specs.Path.{Path, components, is_above, is_slash, is_special, same_path}
 use Rattle.cv_base.specs.PathText.{goes_on}
-use Rattle.cv_base.specs.Texts.{same}
-use Rattle.cv_base.proofs.PathLemmas.{above_components, none_above, split_cons, top_above, is_cons}
-use Rattle.cv_overlay.specs.Cover.{any_front, has_text, hides_text, is_some_text}
+use Rattle.cv_base.specs.Texts.{same, is_cons}
+use Rattle.cv_base.proofs.PathLemmas.{above_components, none_above, split_cons, top_above}
+use Rattle.cv_overlay.specs.Cover.{any_front, has_text, hides_text}
 use Rattle.cv_base.specs.declared.tree.TreeEntry.{TreeEntry}
 use Rattle.cv_overlay.specs.Lay.{hides_by}
 use Rattle.cv_overlay.specs.Mark.{at_or_above, parent_of, name_of, target_of, is_dir_node, is_whiteout_name, is_opaque_name, is_reserved_name, has_mark, mark, mark_of}
@@ -36,13 +36,13 @@ or_middle false true true = refl
 or_middle false true false = refl
 or_middle false false c = sym (or-false c)
 
-pub empty_text : (t : List ℕ) (b : Bool) → b ≡ (length t == 0) → b ≡ true → is_some_text t ≡ false
+pub empty_text : (t : List ℕ) (b : Bool) → b ≡ (length t == 0) → b ≡ true → is_cons t ≡ false
 empty_text [] b h k = refl
 empty_text (x ∷ xs) b h k =
     let none : length (x ∷ xs) ≡ 0 = eqb-true (length (x ∷ xs)) 0 (sym h ∙ k) in
     absurd (omega (arith, none))
 
-pub some_text : (t : List ℕ) (b : Bool) → b ≡ (length t == 0) → b ≡ false → is_some_text t ≡ true
+pub some_text : (t : List ℕ) (b : Bool) → b ≡ (length t == 0) → b ≡ false → is_cons t ≡ true
 some_text [] b h k = cc
 some_text (x ∷ xs) b h k = refl
 
@@ -50,8 +50,8 @@ some_text (x ∷ xs) b h k = refl
 
 pub told_whole : (w b : List (List ℕ)) (a : Bool) (t c : List ℕ) → hides_text (w ++ c ∷ []) b a t ≡ (hides_text w b a t || is_within c t true)
 told_whole w b a t c =
-    ap (λ h. h || (list_any (λ c. goes_on c t) b || (a && is_some_text t))) (any_last (λ c. is_within c t true) w c)
-    ∙ or_middle (list_any (λ c. is_within c t true) w) (is_within c t true) (list_any (λ c. goes_on c t) b || (a && is_some_text t))
+    ap (λ h. h || (list_any (λ c. goes_on c t) b || (a && is_cons t))) (any_last (λ c. is_within c t true) w c)
+    ∙ or_middle (list_any (λ c. is_within c t true) w) (is_within c t true) (list_any (λ c. goes_on c t) b || (a && is_cons t))
 
 below_last : (w b g a : Bool) → (w || ((b || g) || a)) ≡ ((w || (b || a)) || g)
 below_last true b g a = refl
@@ -59,8 +59,8 @@ below_last false b g a = or_middle b g a
 
 pub told_below : (w b : List (List ℕ)) (a : Bool) (t c : List ℕ) → hides_text w (b ++ c ∷ []) a t ≡ (hides_text w b a t || goes_on c t)
 told_below w b a t c =
-    ap (λ h. list_any (λ c. is_within c t true) w || (h || (a && is_some_text t))) (any_last (λ c. goes_on c t) b c)
-    ∙ below_last (list_any (λ c. is_within c t true) w) (list_any (λ c. goes_on c t) b) (goes_on c t) (a && is_some_text t)
+    ap (λ h. list_any (λ c. is_within c t true) w || (h || (a && is_cons t))) (any_last (λ c. goes_on c t) b c)
+    ∙ below_last (list_any (λ c. is_within c t true) w) (list_any (λ c. goes_on c t) b) (goes_on c t) (a && is_cons t)
 
 all_last : (w b a s : Bool) → (w || (b || s)) ≡ ((w || (b || (a && s))) || s)
 all_last true b a s = refl
@@ -69,8 +69,8 @@ all_last false false true true = refl
 all_last false false true false = refl
 all_last false false false s = refl
 
-pub told_all : (w b : List (List ℕ)) (a : Bool) (t : List ℕ) → hides_text w b true t ≡ (hides_text w b a t || is_some_text t)
-told_all w b a t = all_last (list_any (λ c. is_within c t true) w) (list_any (λ c. goes_on c t) b) a (is_some_text t)
+pub told_all : (w b : List (List ℕ)) (a : Bool) (t : List ℕ) → hides_text w b true t ≡ (hides_text w b a t || is_cons t)
+told_all w b a t = all_last (list_any (λ c. is_within c t true) w) (list_any (λ c. goes_on c t) b) a (is_cons t)
 
 -- What a cover hides, as paths.
 
@@ -79,7 +79,7 @@ none_same [] h = cc
 none_same (x ∷ xs) h = refl
 
 -- a text that is not empty, and what is at its path or below
-pub whole_is : (c t : List ℕ) → is_some_text c ≡ true → is_within c t true ≡ at_or_above (components c) (components t)
+pub whole_is : (c t : List ℕ) → is_cons c ≡ true → is_within c t true ≡ at_or_above (components c) (components t)
 whole_is [] t h = cc
 whole_is (x ∷ xs) [] h = sym (rw (none_same (slice_split is_slash (x ∷ xs)) (split_cons (x ∷ xs)), none_above (slice_split is_slash (x ∷ xs))) refl)
 whole_is (x ∷ xs) (y ∷ ys) h =
@@ -98,17 +98,17 @@ directory_is a n t h = rw (components_last a n h, parent_of_last (slice_split is
   at_text [] = goes_none a ∙ sym (none_above (slice_split is_slash a))
   at_text (y ∷ ys) = sym (above_split a (y ∷ ys) refl)
 
-all_below : (t : List ℕ) → is_some_text t ≡ is_above [] (components t)
+all_below : (t : List ℕ) → is_cons t ≡ is_above [] (components t)
 all_below [] = refl
 all_below (y ∷ ys) = sym (top_above (slice_split is_slash (y ∷ ys)) (split_cons (y ∷ ys)))
 
 -- the directory of a path of one component is the top
-pub top_is : (m t : List ℕ) → list_any is_slash m ≡ false → is_some_text t ≡ is_above (parent_of (components m)) (components t)
+pub top_is : (m t : List ℕ) → list_any is_slash m ≡ false → is_cons t ≡ is_above (parent_of (components m)) (components t)
 top_is [] t h = all_below t
 top_is (x ∷ xs) t h = rw (split_none (x ∷ xs) h) (all_below t)
 
 -- a path, and what is below it
-pub below_is : (m t : List ℕ) → is_some_text m ≡ true → goes_on m t ≡ is_above (components m) (components t)
+pub below_is : (m t : List ℕ) → is_cons m ≡ true → goes_on m t ≡ is_above (components m) (components t)
 below_is [] t h = cc
 below_is (x ∷ xs) [] h = sym (none_above (slice_split is_slash (x ∷ xs)))
 below_is (x ∷ xs) (y ∷ ys) h = above_components (x ∷ xs) (y ∷ ys)
@@ -120,7 +120,7 @@ any_drop zero t h = h
 any_drop (suc n) [] h = refl
 any_drop (suc n) (x ∷ xs) h = any_drop n xs (or_parts (is_slash x) (list_any is_slash xs) h).1
 
-some_name : (x : List ℕ) → not (is_special x) ≡ true → is_some_text x ≡ true
+some_name : (x : List ℕ) → not (is_special x) ≡ true → is_cons x ≡ true
 some_name [] h = cc
 some_name (y ∷ ys) h = refl
 
@@ -132,7 +132,7 @@ target_in a n h =
     ∙ ap (λ c. parent_of (slice_split is_slash a ++ n ∷ []) ++ drop 4 c ∷ []) (sym (name_of_last (slice_split is_slash a) n))
     ∙ ap target_of (sym (components_last a n h))
 
-split_some : (x : List ℕ) → is_some_text x ≡ true → components x ≡ slice_split is_slash x
+split_some : (x : List ℕ) → is_cons x ≡ true → components x ≡ slice_split is_slash x
 split_some [] h = cc
 split_some (y ∷ ys) h = refl
 
@@ -142,7 +142,7 @@ target_top [] h k = cc
 target_top (x ∷ xs) h k =
     let parts = split_none (x ∷ xs) h in
     let named : is_whiteout_name (x ∷ xs) ≡ true = rw parts at k in
-    let some : is_some_text (drop 4 (x ∷ xs)) ≡ true = some_name (drop 4 (x ∷ xs)) (and_right (has_mark (x ∷ xs)) (not (is_special (drop 4 (x ∷ xs)))) named) in
+    let some : is_cons (drop 4 (x ∷ xs)) ≡ true = some_name (drop 4 (x ∷ xs)) (and_right (has_mark (x ∷ xs)) (not (is_special (drop 4 (x ∷ xs)))) named) in
     split_some (drop 4 (x ∷ xs)) some ∙ split_none (drop 4 (x ∷ xs)) (any_drop 4 (x ∷ xs) h) ∙ ap target_of (sym parts)
 
 target_cons : (p : Path) (c : List ℕ) → is_cons (p ++ c ∷ []) ≡ true
@@ -150,7 +150,7 @@ target_cons [] c = refl
 target_cons (x ∷ xs) c = refl
 
 -- the text of a target is not empty
-pub target_some : (c : List ℕ) (p : Path) → components c ≡ target_of p → is_some_text c ≡ true
+pub target_some : (c : List ℕ) (p : Path) → components c ≡ target_of p → is_cons c ≡ true
 target_some [] p e = absurd (differ ([]) (target_of p) e refl (target_cons (parent_of p) (drop 4 (name_of p)))) where
   differ : (q r : Path) → q ≡ r → is_cons q ≡ false → is_cons r ≡ true → ⊥
   differ q r e h k = cc
@@ -247,11 +247,11 @@ looked_by false false false a = refl
 
 -- the look-up of a text and its fronts tells what is hidden
 pub looked_up : (w b : List (List ℕ)) (a : Bool) (t : List ℕ)
-    → (any_front (λ f. has_text w f || has_text b f) [] t || (has_text w t || (a && is_some_text t))) ≡ hides_text w b a t
+    → (any_front (λ f. has_text w f || has_text b f) [] t || (has_text w t || (a && is_cons t))) ≡ hides_text w b a t
 looked_up w b a t =
-    ap (λ r. r || (has_text w t || (a && is_some_text t))) (front_or (has_text w) (has_text b) [] t ∙ ap (λ r. r || any_front (has_text b) [] t) (fronts_in w t) ∙ ap (λ r. list_any (λ c. goes_on c t) w || r) (fronts_in b t))
-    ∙ looked_by (list_any (λ c. goes_on c t) w) (list_any (λ c. goes_on c t) b) (has_text w t) (a && is_some_text t)
-    ∙ ap (λ r. r || (list_any (λ c. goes_on c t) b || (a && is_some_text t))) (sym (whole_parts w t))
+    ap (λ r. r || (has_text w t || (a && is_cons t))) (front_or (has_text w) (has_text b) [] t ∙ ap (λ r. r || any_front (has_text b) [] t) (fronts_in w t) ∙ ap (λ r. list_any (λ c. goes_on c t) w || r) (fronts_in b t))
+    ∙ looked_by (list_any (λ c. goes_on c t) w) (list_any (λ c. goes_on c t) b) (has_text w t) (a && is_cons t)
+    ∙ ap (λ r. r || (list_any (λ c. goes_on c t) b || (a && is_cons t))) (sym (whole_parts w t))
 
 -- Sorted lists.
 
@@ -326,10 +326,10 @@ any_moved p key xs ys h = any_map p key ys ∙ sym (list_any-IsPermutation (λ x
 pub told_moved : {X Y : Type 0} (f : X → List ℕ) (g : Y → List ℕ) (w v : List X) (b d : List Y) (a : Bool) (t : List ℕ)
     → IsPermutation w v → IsPermutation b d → hides_text (map f v) (map g d) a t ≡ hides_text (map f w) (map g b) a t
 told_moved f g w v b d a t h k =
-    ap (λ r. r || (list_any (λ c. goes_on c t) (map g d) || (a && is_some_text t))) (any_moved (λ c. is_within c t true) f w v h)
-    ∙ ap (λ r. list_any (λ c. is_within c t true) (map f w) || (r || (a && is_some_text t))) (any_moved (λ c. goes_on c t) g b d k)
+    ap (λ r. r || (list_any (λ c. goes_on c t) (map g d) || (a && is_cons t))) (any_moved (λ c. is_within c t true) f w v h)
+    ∙ ap (λ r. list_any (λ c. is_within c t true) (map f w) || (r || (a && is_cons t))) (any_moved (λ c. goes_on c t) g b d k)
 
 -- the same, by the answers of three look-ups
 pub looked_so : (w b : List (List ℕ)) (a : Bool) (t : List ℕ) (f h s : Bool)
-    → f ≡ any_front (λ f. has_text w f || has_text b f) [] t → h ≡ has_text w t → s ≡ is_some_text t → (f || (h || (a && s))) ≡ hides_text w b a t
+    → f ≡ any_front (λ f. has_text w f || has_text b f) [] t → h ≡ has_text w t → s ≡ is_cons t → (f || (h || (a && s))) ≡ hides_text w b a t
 looked_so w b a t f h s e k n = rw (e, k, n) (looked_up w b a t)

@@ -10,7 +10,7 @@ use Rattle.cv_overlay.specs.Text.{mark_by}
 use Rattle.cv_overlay.specs.declared.mark.Mark.{Mark}
 use Rattle.cv_overlay.specs.declared.mark.Mark.TheVariants.{Reserved, Opaque, Whiteout, Bad, Plain}
 use Rattle.cv_base.proofs.Same.{same_is}
-use Rattle.cv_base.proofs.PathLemmas.{is_cons}
+use Rattle.cv_base.specs.Texts.{is_cons}
 
 -- The last component.
 

@@ -7,11 +7,10 @@ use Rattle.std.specs.List.{join_with_byte}
 use Rattle.std.proofs.lemmas.Cmp.{nat_eq_equiv}
 use Rattle.cv_base.specs.Path.{Path, components, is_above, is_slash, same_path}
 use Rattle.cv_base.specs.PathText.{goes_on}
-use Rattle.cv_base.specs.Texts.{same}
-use Rattle.cv_base.proofs.PathLemmas.{above_components, is_cons, none_above, split_cons}
+use Rattle.cv_base.specs.Texts.{same, is_cons}
+use Rattle.cv_base.proofs.PathLemmas.{above_components, none_above, split_cons}
 use Rattle.cv_overlay.specs.Fault.{needs_parent}
 use Rattle.cv_overlay.specs.Mark.{parent_of, name_of, is_reserved_name, mark_of}
-use Rattle.cv_overlay.specs.Cover.{is_some_text}
 use Rattle.cv_overlay.specs.Text.{is_within, mark_by}
 use Rattle.cv_base.proofs.Bools.{both_ways}
 use Rattle.cv_base.proofs.Same.{same_is, same_self, path_is, path_self}
@@ -95,13 +94,13 @@ above_at_end y (d ∷ ds) true h = refl
 above_at_end y [] false h = refl
 above_at_end y (d ∷ ds) false h = refl
 
-pub above_split : (a b : List ℕ) → is_some_text b ≡ true → is_above (slice_split is_slash a) (components b) ≡ goes_on a b
+pub above_split : (a b : List ℕ) → is_cons b ≡ true → is_above (slice_split is_slash a) (components b) ≡ goes_on a b
 above_split a [] h = cc
 above_split [] (y ∷ ys) h = above_at_end y (slice_split is_slash ys) (is_slash y) (split_cons ys)
 above_split (x ∷ xs) (y ∷ ys) h = sym (above_components (x ∷ xs) (y ∷ ys))
 
 -- a path of some text is a directory's own, or lies within it
-pub within_is : (a b : List ℕ) (dir : Bool) → is_some_text b ≡ true
+pub within_is : (a b : List ℕ) (dir : Bool) → is_cons b ≡ true
     → is_within a b dir ≡ (is_above (slice_split is_slash a) (components b) || (dir && same_path (components b) (slice_split is_slash a)))
 within_is a [] dir h = cc
 within_is a (y ∷ ys) dir h =
@@ -110,7 +109,7 @@ within_is a (y ∷ ys) dir h =
     ∙ ap (λ b. is_above (slice_split is_slash a) (components (y ∷ ys)) || (dir && b)) (sym (same_split a (y ∷ ys)))
 
 -- what the code finds: a path of no text lies within no directory, and is none
-pub stands_in : (a n b : List ℕ) (dir : Bool) → list_any is_slash n ≡ false → is_some_text b ≡ true
+pub stands_in : (a n b : List ℕ) (dir : Bool) → list_any is_slash n ≡ false → is_cons b ≡ true
     → is_within a b dir ≡ (is_above (parent_of (components (a ++ 47 ∷ n))) (components b) || (dir && same_path (components b) (parent_of (components (a ++ 47 ∷ n)))))
 stands_in a n b dir h k = rw (components_last a n h, parent_of_last (slice_split is_slash a) n) (within_is a b dir k)
 
@@ -122,7 +121,7 @@ none_by : (dir : Bool) → false ≡ (false || (dir && false))
 none_by true = refl
 none_by false = refl
 
-pub stands_in_none : (a n b : List ℕ) (dir : Bool) → list_any is_slash n ≡ false → is_some_text b ≡ false
+pub stands_in_none : (a n b : List ℕ) (dir : Bool) → list_any is_slash n ≡ false → is_cons b ≡ false
     → false ≡ (is_above (parent_of (components (a ++ 47 ∷ n))) (components b) || (dir && same_path (components b) (parent_of (components (a ++ 47 ∷ n)))))
 stands_in_none a n [] dir h k = rw (components_last a n h, parent_of_last (slice_split is_slash a) n, none_above (slice_split is_slash a), none_same (slice_split is_slash a) (split_cons a)) (none_by dir)
 stands_in_none a n (y ∷ ys) dir h k = cc
