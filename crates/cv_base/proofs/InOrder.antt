@@ -28,7 +28,8 @@ after_put {K} cmp p q (x ∷ xs) h k = by_order (cmp q x) (after_put cmp p q xs 
   by_order Equal rest = k
   by_order Greater rest = (k.0, rest)
 
-turned : {K : Type 0} {cmp : K → K → Ordering} → IsTotalOrder cmp → (p q : K) → cmp p q ≡ Greater → cmp q p ≡ Less
+-- of two keys the one that is not after is before
+pub turned : {K : Type 0} {cmp : K → K → Ordering} → IsTotalOrder cmp → (p q : K) → cmp p q ≡ Greater → cmp q p ≡ Less
 turned o p q h = o.antisymm q p ∙ ap ordering_reverse h
 
 put_rises : {K : Type 0} {cmp : K → K → Ordering} → IsTotalOrder cmp → (qs : List K) (q : K) → IsStrictlySortedBy cmp qs → IsStrictlySortedBy cmp (insert_key cmp qs q)

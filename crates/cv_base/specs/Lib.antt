@@ -5,4 +5,5 @@ pub mod Path
 pub mod PathText
 pub mod Place
 pub mod Reading
+pub mod Results
 pub mod Texts

@@ -1,7 +1,12 @@
 -- Words on texts, seen as their bytes (cvwatch's own).
-use Rattle.std.specs.Prelude.{ℕ, Bool, ◌==◌, List}
+use Rattle.std.specs.Prelude.{ℕ, Bool, true, false, ◌==◌, List, [], ◌∷◌}
 use Rattle.std.specs.Cmp.Lexicographic.{pointwise}
 
 -- whether two texts are the same
 abbrev pub same : List ℕ → List ℕ → Bool
 same = pointwise ◌==◌
+
+-- whether a text, or another list, is not empty
+abbrev pub is_cons : {X : Type 0} → List X → Bool
+is_cons [] = false
+is_cons (x ∷ xs) = true

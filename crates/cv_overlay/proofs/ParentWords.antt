@@ -1,8 +1,7 @@
 -- Why one look at the entry before is enough: where all entries before are in order and have their parents, the
 -- parent of the next one stands before it as a directory exactly where it is the last of them, or is above that one.
 use Rattle.std.specs.Prelude.{◌≡◌, ℕ, ◌+◌, Bool, true, false, ◌&&◌, ◌||◌, not, List, [], ◌∷◌, if◌then◌else◌, Option, Some, None, refl}
-use Rattle.std.specs.Cmp.Lexicographic.{slice_cmp, lists_total, nat_list_cmp_total}
-use Rattle.std.specs.Cmp.{IsTotalOrder}
+use Rattle.std.specs.Cmp.Lexicographic.{slice_cmp, nat_list_cmp_total}
 use Rattle.std.specs.List.{list_all, list_any}
 use Rattle.std.specs.Ordering.{nat_cmp, ordering_then, ordering_reverse}
 use Rattle.std.specs.declared.cmp.Ordering.{Ordering}
@@ -12,9 +11,10 @@ use Rattle.std.proofs.lemmas.List.{length-map}
 use Rattle.std.proofs.lemmas.Bool.Decides.{nat_tests}
 use Rattle.std.proofs.lemmas.Map.Lookups.{exact_bytes}
 use Rattle.std.proofs.lemmas.Cmp.{tied_itself}
+use Rattle.std.specs.Option.{option_or}
 use Rattle.cv_base.specs.Path.{Path, is_above, path_cmp, same_path}
 use Rattle.cv_base.specs.Texts.{same}
-use Rattle.cv_overlay.specs.Fault.{is_less, comes_before, is_sorted_after, has_parent, needs_parent, fault, first_fault, or_fault}
+use Rattle.cv_overlay.specs.Fault.{is_less, comes_before, is_sorted_after, has_parent, needs_parent, fault, first_fault}
 use Rattle.cv_overlay.specs.Mark.{Outline, at_or_above, parent_of, is_bad}
 use Rattle.cv_overlay.specs.Step.{follows, stands_by_parent, fault_from}
 use Rattle.cv_overlay.specs.declared.fault.TreeFault.{TreeFault}
@@ -213,10 +213,10 @@ parents_all (b ∷ bs) s e h =
 
 abbrev told : ℕ → Outline → Bool → Bool → Option TreeFault → Option TreeFault
 told i e sorted parent rest =
-    or_fault (if not sorted then Some (Unsorted i) else (if not parent then Some (NoParent i) else (if is_bad e.path e.is_dir then Some (BadMark i) else None))) rest
+    option_or (if not sorted then Some (Unsorted i) else (if not parent then Some (NoParent i) else (if is_bad e.path e.is_dir then Some (BadMark i) else None))) rest
 
 told_alike : (i : ℕ) (e : Outline) (s t p q : Bool) (r u : Option TreeFault) → s ≡ t → (t ≡ true → p ≡ q) → (t ≡ true → q ≡ true → r ≡ u) → told i e s p r ≡ told i e t q u
-told_alike i e true true true true r u h k m = ap (or_fault (if is_bad e.path e.is_dir then Some (BadMark i) else None)) (m refl refl)
+told_alike i e true true true true r u h k m = ap (option_or (if is_bad e.path e.is_dir then Some (BadMark i) else None)) (m refl refl)
 told_alike i e true true true false r u h k m = cc (k refl)
 told_alike i e true true false true r u h k m = cc (k refl)
 told_alike i e true true false false r u h k m = refl
