@@ -4,7 +4,7 @@ use Rattle.std.specs.Prelude.{◌≡◌, ℕ, ◌+◌, Bool, true, false, ◌&&�
 use Rattle.std.specs.List.{AllByRecursion, list_all}
 use Rattle.std.specs.declared.cmp.Ordering.{Ordering}
 use Rattle.std.specs.declared.cmp.Ordering.TheVariants.{Less, Equal, Greater}
-use Rattle.std.proofs.Common.{ap, sym, ◌∙◌}
+use Rattle.std.proofs.Common.{ap, sym, ◌∙◌, append_assoc}
 use Rattle.std.proofs.lemmas.Cmp.{tied_itself}
 use Rattle.std.specs.Option.{option_or}
 use Rattle.cv_base.specs.Path.{Path, path_cmp, same_path}
@@ -198,13 +198,9 @@ pub laid_rises : (old tree : List TreeEntry) → AreRising old → AreRising tre
 laid_rises old tree h k =
     rising_merged (filter (λ e. not (hides tree e.path)) old) (filter (λ e. is_plain (mark e)) tree) (rising_kept (λ e. not (hides tree e.path)) old h) (rising_kept (λ e. is_plain (mark e)) tree k)
 
-append_one : (xs : List TreeEntry) (e : TreeEntry) (ys : List TreeEntry) → (xs ++ e ∷ []) ++ ys ≡ xs ++ e ∷ ys
-append_one [] e ys = refl
-append_one (x ∷ xs) e ys = ap (λ l. x ∷ l) (append_one xs e ys)
-
 -- one more item was kept
 pub kept_step : (q : TreeEntry → Bool) (kept more left rest : List TreeEntry) (e : TreeEntry) (all : List TreeEntry)
     → left ≡ e ∷ rest → more ≡ kept ++ e ∷ [] → q e ≡ true → kept ++ filter q left ≡ all → more ++ filter q rest ≡ all
 kept_step q kept more left rest e all l m h k =
-    ap (λ xs. xs ++ filter q rest) m ∙ append_one kept e (filter q rest)
+    ap (λ xs. xs ++ filter q rest) m ∙ append_assoc kept (e ∷ []) (filter q rest)
     ∙ ap (λ xs. kept ++ xs) (sym (rw h refl)) ∙ ap (λ xs. kept ++ filter q xs) (sym l) ∙ k

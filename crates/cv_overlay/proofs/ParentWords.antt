@@ -13,7 +13,7 @@ use Rattle.std.proofs.lemmas.Map.Lookups.{exact_bytes}
 use Rattle.std.proofs.lemmas.Cmp.{tied_itself}
 use Rattle.std.specs.Option.{option_or}
 use Rattle.cv_base.specs.Path.{Path, is_above, path_cmp, same_path}
-use Rattle.cv_base.specs.Texts.{same}
+use Rattle.cv_base.specs.Texts.{same, is_cons}
 use Rattle.cv_overlay.specs.Fault.{is_less, comes_before, is_sorted_after, has_parent, needs_parent, fault, first_fault}
 use Rattle.cv_overlay.specs.Mark.{Outline, at_or_above, parent_of, is_bad}
 use Rattle.cv_overlay.specs.Step.{follows, stands_by_parent, fault_from}
@@ -80,10 +80,6 @@ between (x ∷ xs) (y ∷ ys) (z ∷ zs) a h k =
 
 -- Parents.
 
-abbrev pub is_below_top : Path → Bool
-is_below_top [] = false
-is_below_top (c ∷ cs) = true
-
 -- what is above a path is its parent or above that
 above_parent : (q p : Path) → is_above q p ≡ true → at_or_above q (parent_of p) ≡ true
 above_parent [] [] h = cc
@@ -101,14 +97,14 @@ above_parent (x ∷ xs) (c ∷ d ∷ ds) h =
       step false b c h k = cc
 
 -- a path with one above it that is not the top needs a parent
-above_needs : (q p : Path) → is_below_top q ≡ true → is_above q p ≡ true → needs_parent p ≡ true
+above_needs : (q p : Path) → is_cons q ≡ true → is_above q p ≡ true → needs_parent p ≡ true
 above_needs [] p h k = cc
 above_needs (x ∷ xs) [] h k = cc
 above_needs (x ∷ []) (c ∷ []) h k = cc (and_right (same x c) false k)
 above_needs (x ∷ y ∷ ys) (c ∷ []) h k = cc (and_right (same x c) false k)
 above_needs (x ∷ xs) (c ∷ d ∷ ds) h k = refl
 
-parent_below_top : (p : Path) → needs_parent p ≡ true → is_below_top (parent_of p) ≡ true
+parent_below_top : (p : Path) → needs_parent p ≡ true → is_cons (parent_of p) ≡ true
 parent_below_top [] h = cc
 parent_below_top (c ∷ []) h = cc
 parent_below_top (c ∷ d ∷ ds) h = refl
@@ -146,7 +142,7 @@ given_parent true d h k = h
 given_parent false d h k = cc
 
 -- all directories above an entry are there
-pub closed : (bs : List Outline) → AreSettled bs → (q p : Path) → has_path bs p ≡ true → is_below_top q ≡ true → is_above q p ≡ true → has_dir bs q ≡ true
+pub closed : (bs : List Outline) → AreSettled bs → (q p : Path) → has_path bs p ≡ true → is_cons q ≡ true → is_above q p ≡ true → has_dir bs q ≡ true
 closed [] s q p h n a = cc
 closed (b ∷ bs) s q p h n a =
     or_cases (same_path b.path p) (has_path bs p) (has_dir (b ∷ bs) q ≡ true) h
@@ -187,7 +183,7 @@ follows_all (b ∷ bs) s e =
     (λ h. and_left (comes_before b.path e.path) (is_sorted_after bs e) h)
 
 -- the parent `q` of an entry at `p` that comes after all before it: the heart of the matter
-near_parent : (b : Outline) (bs : List Outline) (q p : Path) → AreSettled (b ∷ bs) → comes_before b.path p ≡ true → is_below_top q ≡ true → is_above q p ≡ true
+near_parent : (b : Outline) (bs : List Outline) (q p : Path) → AreSettled (b ∷ bs) → comes_before b.path p ≡ true → is_cons q ≡ true → is_above q p ≡ true
     → (is_above q b.path || (b.is_dir && same_path b.path q)) ≡ has_dir (b ∷ bs) q
 near_parent b bs q p s h n a =
     both_ways (is_above q b.path || (b.is_dir && same_path b.path q)) (has_dir (b ∷ bs) q)
