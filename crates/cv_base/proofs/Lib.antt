@@ -1,6 +1,10 @@
 pub mod Bools
+pub mod Cuts
 pub mod DigestLemmas
+pub mod Ends
 pub mod InOrder
+pub mod Lines
 pub mod PathLemmas
 pub mod PlaceLemmas
+pub mod Printing
 pub mod Same

@@ -1,7 +1,17 @@
 -- Words on texts, seen as their bytes (cvwatch's own).
-use Rattle.std.specs.Prelude.{ℕ, Bool, ◌==◌, List}
+use Rattle.std.specs.Prelude.{ℕ, Bool, true, false, ◌==◌, List, [], ◌∷◌, Option, None, Some}
 use Rattle.std.specs.Cmp.Lexicographic.{pointwise}
 
 -- whether two texts are the same
 abbrev pub same : List ℕ → List ℕ → Bool
 same = pointwise ◌==◌
+
+-- whether a list has nothing
+abbrev pub is_nil : {A : Type 0} → List A → Bool
+is_nil [] = true
+is_nil (x ∷ xs) = false
+
+-- a text that is not empty
+abbrev pub filled : List ℕ → Option (List ℕ)
+filled [] = None
+filled (x ∷ xs) = Some (x ∷ xs)

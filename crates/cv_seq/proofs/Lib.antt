@@ -1,2 +1,3 @@
 pub mod Causes
 mod Examples
+pub mod Utf8
