@@ -31,3 +31,10 @@ or_right false b h = h
 pub or_cases : (a b : Bool) (P : Type 0) → (a || b) ≡ true → (a ≡ true → P) → (b ≡ true → P) → P
 or_cases true b P h f g = f refl
 or_cases false b P h f g = g h
+
+-- the inner two of four change places
+pub or_swap_inner : (a b c d : Bool) → ((a || b) || (c || d)) ≡ ((a || c) || (b || d))
+or_swap_inner true b c d = refl
+or_swap_inner false true true d = refl
+or_swap_inner false true false d = refl
+or_swap_inner false false c d = refl
