@@ -1,6 +1,7 @@
 -- Words on texts, seen as their bytes (cvwatch's own).
 use Rattle.std.specs.Prelude.{ℕ, Bool, true, false, ◌==◌, List, [], ◌∷◌, Option, None, Some}
 use Rattle.std.specs.Cmp.Lexicographic.{pointwise}
+use Rattle.std.specs.List.{list_any}
 
 -- whether two texts are the same
 abbrev pub same : List ℕ → List ℕ → Bool
@@ -20,3 +21,7 @@ is_nil (x ∷ xs) = false
 abbrev pub filled : List ℕ → Option (List ℕ)
 filled [] = None
 filled (x ∷ xs) = Some (x ∷ xs)
+
+-- the text is one of these
+abbrev pub has_text : List (List ℕ) → List ℕ → Bool
+has_text texts text = list_any (λ other. same other text) texts

@@ -12,6 +12,7 @@ use Rattle.std.proofs.lemmas.Bool.Decides.{nat_tests}
 use Rattle.std.proofs.lemmas.Map.Lookups.{exact_bytes}
 use Rattle.std.proofs.lemmas.Cmp.{tied_itself}
 use Rattle.std.specs.Option.{option_or}
+use Rattle.std.proofs.lemmas.Bool.{or_left, or_right, and_from}
 use Rattle.cv_base.specs.Path.{Path, is_above, path_cmp, same_path}
 use Rattle.cv_base.specs.Texts.{same, is_cons}
 use Rattle.cv_overlay.specs.Fault.{is_less, comes_before, is_sorted_after, has_parent, needs_parent, fault, first_fault}
@@ -19,7 +20,7 @@ use Rattle.cv_overlay.specs.Mark.{Outline, at_or_above, parent_of, is_bad}
 use Rattle.cv_overlay.specs.Step.{follows, stands_by_parent, fault_from}
 use Rattle.cv_overlay.specs.declared.fault.TreeFault.{TreeFault}
 use Rattle.cv_overlay.specs.declared.fault.TreeFault.TheVariants.{Unsorted, NoParent, BadMark}
-use Rattle.cv_base.proofs.Bools.{both_ways, and_left, and_right, and_both, or_left, or_right, or_cases}
+use Rattle.cv_base.proofs.Bools.{both_ways, and_left, and_right, or_cases}
 use Rattle.cv_base.proofs.Same.{same_is, same_self, path_is, path_self, path_total}
 
 -- The order of paths.
@@ -76,7 +77,7 @@ between (x ∷ xs) (y ∷ ys) (z ∷ zs) a h k =
     let rest = between xs ys zs (and_right (same x z) (is_above xs zs) a)
     (then_less (slice_cmp nat_cmp x y) (path_cmp xs ys) h tied)
     (then_less (slice_cmp nat_cmp y x) (path_cmp ys zs) k_at tied_back) in
-    and_both (same x y) (is_above xs ys) first rest
+    and_from (same x y) (is_above xs ys) first rest
 
 -- Parents.
 
@@ -112,8 +113,8 @@ parent_below_top (c ∷ d ∷ ds) h = refl
 parent_above : (p : Path) → needs_parent p ≡ true → is_above (parent_of p) p ≡ true
 parent_above [] h = cc
 parent_above (c ∷ []) h = cc
-parent_above (c ∷ d ∷ []) h = and_both (same c c) true (same_self c) refl
-parent_above (c ∷ d ∷ e ∷ es) h = and_both (same c c) (is_above (parent_of (d ∷ e ∷ es)) (d ∷ e ∷ es)) (same_self c) (parent_above (d ∷ e ∷ es) refl)
+parent_above (c ∷ d ∷ []) h = and_from (same c c) true (same_self c) refl
+parent_above (c ∷ d ∷ e ∷ es) h = and_from (same c c) (is_above (parent_of (d ∷ e ∷ es)) (d ∷ e ∷ es)) (same_self c) (parent_above (d ∷ e ∷ es) refl)
 
 -- The entries before.
 
@@ -158,7 +159,7 @@ closed (b ∷ bs) s q p h n a =
 all_before : (bs : List Outline) (p q : Path) → list_all (λ b. comes_before b.path p) bs ≡ true → comes_before p q ≡ true → list_all (λ b. comes_before b.path q) bs ≡ true
 all_before [] p q h k = refl
 all_before (b ∷ bs) p q h k =
-    and_both (comes_before b.path q) (list_all (λ b. comes_before b.path q) bs)
+    and_from (comes_before b.path q) (list_all (λ b. comes_before b.path q) bs)
     (before_trans b.path p q (and_left (comes_before b.path p) (list_all (λ b. comes_before b.path p) bs) h) k)
     (all_before bs p q (and_right (comes_before b.path p) (list_all (λ b. comes_before b.path p) bs) h) k)
 
@@ -179,7 +180,7 @@ follows_all : (bs : List Outline) → AreSettled bs → (e : Outline) → follow
 follows_all [] s e = refl
 follows_all (b ∷ bs) s e =
     both_ways (comes_before b.path e.path) (is_sorted_after (b ∷ bs) e)
-    (λ h. and_both (comes_before b.path e.path) (is_sorted_after bs e) h (all_before bs b.path e.path s.0 h))
+    (λ h. and_from (comes_before b.path e.path) (is_sorted_after bs e) h (all_before bs b.path e.path s.0 h))
     (λ h. and_left (comes_before b.path e.path) (is_sorted_after bs e) h)
 
 -- the parent `q` of an entry at `p` that comes after all before it: the heart of the matter
