@@ -4,7 +4,7 @@ use Rattle.std.specs.Prelude.{ℕ, Bool, true, false, ◌&&◌, ◌||◌, List, 
 use Rattle.std.specs.List.{list_any}
 use Rattle.cv_base.specs.Path.{is_slash}
 use Rattle.cv_base.specs.PathText.{goes_on}
-use Rattle.cv_base.specs.Texts.{same, is_cons, has_text}
+use Rattle.cv_base.specs.Texts.{is_cons}
 use Rattle.cv_overlay.specs.Text.{is_within}
 
 -- a path is hidden, given by its text: it is one of the first texts or below one, it is below one of the second texts,
