@@ -14,7 +14,7 @@ use Rattle.cv_osv.specs.declared.error.OsvError.{OsvError}
 use Rattle.cv_osv.specs.declared.error.RecordWhat.{RecordWhat}
 use Rattle.cv_request.specs.Line.{json_of, requested, requesting}
 use Rattle.cv_request.specs.declared.error.RequestError.{RequestError}
-use Rattle.cv_request.specs.declared.error.RequestError.TheVariants.{BadJson, BadAdvisory, TooManyAdvisories}
+use Rattle.cv_request.specs.declared.error.RequestError.TheVariants.{BadJson, TooManyAdvisories}
 use Rattle.cv_scan_input.specs.Answer.{IsRefusedBy}
 use Rattle.cv_scan_input.specs.Asked.{Asked, RefusedAt, Scan, RecordLine, RefusedLine, at_stop, first_or, line_fault, line_records, record_lines, refused_behind}
 use Rattle.cv_scan_input.specs.Left.{asked_left, line_behind, record_behind, refused_at, text_behind}
