@@ -14,16 +14,16 @@ use Rattle.std.proofs.lemmas.List.Sorted.{searchable_from_sorted, list_any-IsPer
 use Rattle.std.proofs.Math.Bool.{or_assoc, or_comm, or-false}
 use Rattle.cv_base.specs.Path.{Path, components, is_above, is_slash, is_special, same_path}
 use Rattle.cv_base.specs.PathText.{goes_on}
-use Rattle.cv_base.specs.Texts.{same, is_cons}
+use Rattle.cv_base.specs.Texts.{same, is_cons, has_text}
 use Rattle.cv_base.proofs.PathLemmas.{above_components, none_above, split_cons, top_above}
-use Rattle.cv_overlay.specs.Cover.{any_front, has_text, hides_text}
+use Rattle.cv_overlay.specs.Cover.{any_front, hides_text}
 use Rattle.cv_base.specs.declared.tree.TreeEntry.{TreeEntry}
 use Rattle.cv_overlay.specs.Lay.{hides_by}
 use Rattle.cv_overlay.specs.Mark.{at_or_above, parent_of, name_of, target_of, is_dir_node, is_whiteout_name, is_opaque_name, is_reserved_name, has_mark, mark, mark_of}
 use Rattle.cv_overlay.specs.declared.mark.Mark.{Mark}
 use Rattle.cv_overlay.specs.declared.mark.Mark.TheVariants.{Reserved, Opaque, Whiteout, Bad, Plain}
 use Rattle.cv_overlay.specs.Text.{is_within}
-use Rattle.cv_base.proofs.Bools.{and_right}
+use Rattle.cv_base.proofs.Bools.{and_right, or_swap_inner}
 use Rattle.cv_base.proofs.Lists.{any_last}
 use Rattle.cv_overlay.proofs.PathWords.{parent_of_last, name_of_last, mark_told}
 use Rattle.cv_overlay.proofs.TextWords.{split_none, components_last, above_split, within_is, within_text}
@@ -224,33 +224,19 @@ fronts_in (c ∷ cs) t =
     ∙ ap (λ r. r || any_front (has_text cs) [] t) (front_from c [] t)
     ∙ ap (λ r. goes_on c t || r) (fronts_in cs t)
 
-four : (a b g h : Bool) → ((a || h) || (b || g)) ≡ ((a || b) || (h || g))
-four true b g h = refl
-four false true g true = refl
-four false true g false = refl
-four false false g true = refl
-four false false g false = refl
-
 whole_parts : (cs : List (List ℕ)) (t : List ℕ) → list_any (λ c. is_within c t true) cs ≡ (list_any (λ c. goes_on c t) cs || has_text cs t)
 whole_parts [] t = refl
 whole_parts (c ∷ cs) t =
     ap (λ r. is_within c t true || r) (whole_parts cs t)
     ∙ ap (λ r. r || (list_any (λ c. goes_on c t) cs || has_text cs t)) (within_text c t true ∙ ap (λ r. goes_on c t || r) (nat_list_eq_equiv.symm t c))
-    ∙ four (goes_on c t) (list_any (λ c. goes_on c t) cs) (has_text cs t) (same c t)
-
-looked_by : (g b h a : Bool) → ((g || b) || (h || a)) ≡ ((g || h) || (b || a))
-looked_by true b h a = refl
-looked_by false true true a = refl
-looked_by false true false a = refl
-looked_by false false true a = refl
-looked_by false false false a = refl
+    ∙ or_swap_inner (goes_on c t) (same c t) (list_any (λ c. goes_on c t) cs) (has_text cs t)
 
 -- the look-up of a text and its fronts tells what is hidden
 pub looked_up : (w b : List (List ℕ)) (a : Bool) (t : List ℕ)
     → (any_front (λ f. has_text w f || has_text b f) [] t || (has_text w t || (a && is_cons t))) ≡ hides_text w b a t
 looked_up w b a t =
     ap (λ r. r || (has_text w t || (a && is_cons t))) (front_or (has_text w) (has_text b) [] t ∙ ap (λ r. r || any_front (has_text b) [] t) (fronts_in w t) ∙ ap (λ r. list_any (λ c. goes_on c t) w || r) (fronts_in b t))
-    ∙ looked_by (list_any (λ c. goes_on c t) w) (list_any (λ c. goes_on c t) b) (has_text w t) (a && is_cons t)
+    ∙ or_swap_inner (list_any (λ c. goes_on c t) w) (list_any (λ c. goes_on c t) b) (has_text w t) (a && is_cons t)
     ∙ ap (λ r. r || (list_any (λ c. goes_on c t) b || (a && is_cons t))) (sym (whole_parts w t))
 
 -- Sorted lists.

@@ -4,9 +4,10 @@ use Rattle.std.specs.Prelude.{◌≡◌, ℕ, ◌+◌, Bool, true, false, ◌&&�
 use Rattle.std.specs.List.{AllByRecursion, list_all}
 use Rattle.std.specs.declared.cmp.Ordering.{Ordering}
 use Rattle.std.specs.declared.cmp.Ordering.TheVariants.{Less, Equal, Greater}
-use Rattle.std.proofs.Common.{ap, sym, ◌∙◌}
+use Rattle.std.proofs.Common.{ap, sym, ◌∙◌, append_assoc}
 use Rattle.std.proofs.lemmas.Cmp.{tied_itself}
 use Rattle.std.specs.Option.{option_or}
+use Rattle.std.proofs.lemmas.Bool.{and_from}
 use Rattle.cv_base.specs.Path.{Path, path_cmp, same_path}
 use Rattle.cv_base.specs.declared.tree.Node.{Node}
 use Rattle.cv_base.specs.declared.tree.TreeEntry.{TreeEntry}
@@ -16,7 +17,7 @@ use Rattle.cv_overlay.specs.Mark.{Outline, mark, outline}
 use Rattle.cv_overlay.specs.Merge.{AreRising, first_of_two, merged}
 use Rattle.cv_overlay.specs.declared.fault.TreeFault.{TreeFault}
 use Rattle.cv_overlay.specs.declared.fault.TreeFault.TheVariants.{Unsorted, NoParent, TooMany}
-use Rattle.cv_base.proofs.Bools.{and_left, and_right, and_both}
+use Rattle.cv_base.proofs.Bools.{and_left, and_right}
 use Rattle.cv_base.proofs.Same.{path_is, path_total, tied_path}
 use Rattle.cv_base.proofs.InOrder.{after_lower, turned}
 use Rattle.cv_overlay.proofs.ParentWords.{less_is}
@@ -153,12 +154,12 @@ sorted_all i bs [] h = refl
 sorted_all i bs (e ∷ es) h =
     let parts = no_fault (fault_at i bs (outline e)) (first_fault (i + 1) (outline e ∷ bs) (map outline es)) h in
     let first : is_sorted_after bs (outline e) ≡ true = sorted_by (is_sorted_after bs (outline e)) (has_parent bs (outline e)) _ (Unsorted i) (NoParent i) parts.0 in
-    and_both (is_sorted_after bs (outline e)) (list_all (λ e. is_sorted_after bs (outline e)) es) first (weaker es (sorted_all (i + 1) (outline e ∷ bs) es parts.1)) where
+    and_from (is_sorted_after bs (outline e)) (list_all (λ e. is_sorted_after bs (outline e)) es) first (weaker es (sorted_all (i + 1) (outline e ∷ bs) es parts.1)) where
       weaker : (xs : List TreeEntry) → list_all (λ x. is_sorted_after (outline e ∷ bs) (outline x)) xs ≡ true → list_all (λ x. is_sorted_after bs (outline x)) xs ≡ true
       weaker [] h = refl
       weaker (x ∷ xs) h =
           let whole = and_left (is_sorted_after (outline e ∷ bs) (outline x)) (list_all (λ x. is_sorted_after (outline e ∷ bs) (outline x)) xs) h in
-          and_both (is_sorted_after bs (outline x)) (list_all (λ x. is_sorted_after bs (outline x)) xs)
+          and_from (is_sorted_after bs (outline x)) (list_all (λ x. is_sorted_after bs (outline x)) xs)
           (and_right (comes_before e.path x.path) (is_sorted_after bs (outline x)) whole)
           (weaker xs (and_right (is_sorted_after (outline e ∷ bs) (outline x)) (list_all (λ x. is_sorted_after (outline e ∷ bs) (outline x)) xs) h))
 
@@ -198,13 +199,9 @@ pub laid_rises : (old tree : List TreeEntry) → AreRising old → AreRising tre
 laid_rises old tree h k =
     rising_merged (filter (λ e. not (hides tree e.path)) old) (filter (λ e. is_plain (mark e)) tree) (rising_kept (λ e. not (hides tree e.path)) old h) (rising_kept (λ e. is_plain (mark e)) tree k)
 
-append_one : (xs : List TreeEntry) (e : TreeEntry) (ys : List TreeEntry) → (xs ++ e ∷ []) ++ ys ≡ xs ++ e ∷ ys
-append_one [] e ys = refl
-append_one (x ∷ xs) e ys = ap (λ l. x ∷ l) (append_one xs e ys)
-
 -- one more item was kept
 pub kept_step : (q : TreeEntry → Bool) (kept more left rest : List TreeEntry) (e : TreeEntry) (all : List TreeEntry)
     → left ≡ e ∷ rest → more ≡ kept ++ e ∷ [] → q e ≡ true → kept ++ filter q left ≡ all → more ++ filter q rest ≡ all
 kept_step q kept more left rest e all l m h k =
-    ap (λ xs. xs ++ filter q rest) m ∙ append_one kept e (filter q rest)
+    ap (λ xs. xs ++ filter q rest) m ∙ append_assoc kept (e ∷ []) (filter q rest)
     ∙ ap (λ xs. kept ++ xs) (sym (rw h refl)) ∙ ap (λ xs. kept ++ filter q xs) (sym l) ∙ k

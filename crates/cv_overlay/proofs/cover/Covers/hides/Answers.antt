@@ -1,7 +1,6 @@
 use Rattle.std.proofs.Common.{ℕ, true, false, List, Bor, Vec, Global, map, refl, sym, ap, ◌∙◌}
 use Rattle.std.proofs.Math.Bool.{and-false, and-true}
-use Rattle.cv_base.specs.Texts.{is_cons}
-use Rattle.cv_overlay.specs.Cover.{has_text}
+use Rattle.cv_base.specs.Texts.{is_cons, has_text}
 use Rattle.cv_overlay.proofs.CoverWords.{empty_text, looked_so, some_text}
 use Rattle.cv_overlay.proofs.cover.Covers.hides.Goals as goal
 
