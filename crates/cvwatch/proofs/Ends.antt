@@ -8,7 +8,7 @@ use Rattle.cv_base.specs.declared.advisory.Advisory.{Advisory}
 use Rattle.cv_base.specs.declared.manifest.Manifest.{Manifest}
 use Rattle.cv_request.specs.Line.{is_request_memory}
 use Rattle.cv_request.specs.declared.error.RequestError.{RequestError}
-use Rattle.cv_scan_input.specs.Answer.{IsRefusedBy}
+use Rattle.cv_scan_input.specs.Answer.{IsRefusedBy, refuses_memory}
 use Rattle.cv_scan_input.specs.Asked.{Asked, NoLine, RefusedAt, Scan, asked_by, input_of}
 use Rattle.cv_scan_input.specs.declared.error.InputError.{InputError}
 use Rattle.cv_scan_input.specs.declared.error.InputError.TheVariants as input
@@ -103,6 +103,10 @@ module _ (trees : Trees) (before now : World) where
 pub refused_asked : (left : Option (List ℕ)) (e : InputError) (number : ℕ) (error : RequestError) → e ≡ input.Refused number error
     → IfSome left (λ bytes. IsRefusedBy (asked_by (input_of bytes)) e) → IsAskedBy left (RefusedAt number error)
 refused_asked left e number error same h = subst (λ f. IfSome left (λ bytes. IsRefusedBy (asked_by (input_of bytes)) f)) same h
+
+-- and not for want of memory
+pub refused_named : (e : InputError) (number : ℕ) (error : RequestError) → e ≡ input.Refused number error → refuses_memory e ≡ false → is_request_memory error ≡ false
+refused_named e number error same h = subst (λ f. refuses_memory f ≡ false) same h
 
 -- a text that was made was printed
 pub text_printed : (line text : List ℕ) (end : Status) (before now : Option (List ℕ)) (ended : Status) → text ≡ line → IsPrinted (record { text = text; ended = end }) before now ended

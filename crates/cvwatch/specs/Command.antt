@@ -6,6 +6,7 @@ use Rattle.std.specs.Io.KnownBytes.{Appends, IsAtEnd}
 use Rattle.cv_request.specs.Line.{is_request_memory}
 use Rattle.cv_scan.specs.Layers.{distinct}
 use Rattle.cv_scan_input.specs.Asked.{Asked, NoLine, RefusedAt, TooLongLine, TooLongInput, Scan, asked_by, input_of}
+use Rattle.cv_scan_input.specs.Passed.{Unrefused}
 use Rattle.cv_transcript.specs.Refusal.{no_manifest_text, refusal_text}
 use Rattle.cvwatch.specs.Outcome.{TellsOutcome}
 use Rattle.cvwatch.specs.Printed.{IsPrinted, Printed}
@@ -50,12 +51,12 @@ IsCutShort before now =
     (manifest : Manifest) × (records : List Advisory) × IsAskedBy before.left (Scan manifest records) × IsAtEnd now.left
     × Appends before.written now.written [] × (now.counts.listings ≤ before.counts.listings + length (distinct manifest.layers))
 
--- how the command ends: nothing is written and the desk was not asked where the input could not be read, or is too long
+-- how the command ends: nothing is written and the desk was not asked where the input could not be read, or is too long,
 -- before a line is refused
 abbrev pub ScanEnds : Trees → World → World → Status → Type 0
 ScanEnds trees before now status.LineTooLong = IsAskedBy before.left TooLongLine × IsIdle before now
 ScanEnds trees before now status.InputTooLong = IsAskedBy before.left TooLongInput × IsIdle before now
-ScanEnds trees before now status.ReadFault = IsIdle before now
+ScanEnds trees before now status.ReadFault = Unrefused before.left now.left × IsIdle before now
 ScanEnds trees before now status.Usage = ⊥
 ScanEnds trees before now status.Done = IsAnswered trees before now status.Done
 ScanEnds trees before now status.Refused = IsAnswered trees before now status.Refused
