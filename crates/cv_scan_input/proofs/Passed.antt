@@ -15,8 +15,8 @@ use Rattle.cv_io.specs.Takes.{Takes}
 use Rattle.cv_request.specs.declared.error.RequestError.{RequestError}
 use Rattle.cv_scan_input.specs.Asked.{asked_behind, manifest_or, record_lines}
 use Rattle.cv_scan_input.specs.Left.{asked_left, line_behind, refused_at}
-use Rattle.cv_scan_input.specs.Passed.{Begun, IsBegun, IsPassed, IsUnrefusedBehind, Passed, Unrefused, UnrefusedBehind}
-use Rattle.cv_scan_input.specs.Unrefused.{IsPiece, IsUnrefused, ended_lines, is_refusal}
+use Rattle.cv_scan_input.specs.Passed.{Begun, IsBegun, IsPassed, IsUnrefusedBehind, Passed, UnrefusedBehind}
+use Rattle.cv_scan_input.specs.Unrefused.{IsPiece, IsUnrefused, Unrefused, ended_lines, is_refusal}
 use Rattle.cv_scan_input.proofs.Lines.{line_taken}
 
 -- what a call took, and what the source has left behind it

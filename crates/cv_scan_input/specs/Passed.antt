@@ -7,7 +7,7 @@ use Rattle.cv_io.specs.Lines.{LF, Reading, Finished, lines_then, text_of}
 use Rattle.cv_io.specs.Reader.{Reader, room_of, ungiven}
 use Rattle.cv_scan_input.specs.Asked.{manifest_or}
 use Rattle.cv_scan_input.specs.Left.{asked_left}
-use Rattle.cv_scan_input.specs.Unrefused.{IsPiece, IsUnrefused, ended_lines, is_refusal}
+use Rattle.cv_scan_input.specs.Unrefused.{IsPiece, ended_lines, is_refusal}
 
 -- line 1 is a manifest
 pub record IsBegun (manifest : Manifest) (before now : Reader) (bytes rest : List ℕ) : Type 0 where
@@ -35,16 +35,17 @@ pub record IsUnrefusedBehind (manifest : Manifest) (before : Reader) (bytes rest
   pub within : length (ended_lines pieces ++ begun) < room_of before
   pub none : is_refusal (asked_left manifest [] 2 (record { lines = map text_of pieces; stop = Finished })) ≡ false
 
--- the same of bytes that are known, not given before a call and after it
+-- ---- the same of the bytes not yet given before a call and after it, where the source tells them
+
+-- line 1 is a manifest
 abbrev pub Begun : Manifest → Reader → Reader → Option (List ℕ) → Option (List ℕ) → Type 0
 Begun manifest before now left left_now = IfSome (ungiven before left) (λ bytes. IsSomeAnd (ungiven now left_now) (IsBegun manifest before now bytes))
 
+-- the lines behind it left these records
 abbrev pub Passed : Manifest → Reader → Reader → List Advisory → ℕ → Option (List ℕ) → Option (List ℕ) → Type 0
 Passed manifest before now records number left left_now =
     IfSome (ungiven before left) (λ bytes. IsSomeAnd (ungiven now left_now) (IsPassed manifest before now records number bytes))
 
+-- the source failed behind line 1
 abbrev pub UnrefusedBehind : Manifest → Reader → Option (List ℕ) → Option (List ℕ) → Type 0
 UnrefusedBehind manifest before left left_now = IfSome (ungiven before left) (λ bytes. IsSomeAnd left_now (IsUnrefusedBehind manifest before bytes))
-
-abbrev pub Unrefused : Option (List ℕ) → Option (List ℕ) → Type 0
-Unrefused before now = IfSome before (λ bytes. IsSomeAnd now (IsUnrefused bytes))

@@ -1,7 +1,7 @@
 -- What is known of an input whose source failed (cvwatch's own): a refused line is told before a failure of the source
 -- behind it. So the bytes that were taken are whole lines, of which none is refused, and then the beginning of a line,
 -- within the limits of an input.
-use Rattle.std.specs.Prelude.{◌≡◌, ℕ, ◌<◌, ◌≤◌, ◌^◌, Bool, true, false, List, [], ◌∷◌, ◌++◌, length, map}
+use Rattle.std.specs.Prelude.{◌≡◌, ℕ, ◌<◌, ◌≤◌, ◌^◌, Bool, true, false, List, [], ◌∷◌, ◌++◌, length, map, Option, IfSome, IsSomeAnd}
 use Rattle.std.specs.List.{AllByRecursion, flat_map}
 use Rattle.cv_io.specs.Lines.{LF, HasNoLineEnd, Finished, text_of}
 use Rattle.cv_scan_input.specs.Asked.{Asked, NoLine, RefusedAt, TooLongLine, TooLongInput, Scan, asked_of}
@@ -34,3 +34,7 @@ pub record IsUnrefused (bytes rest : List ℕ) : Type 0 where
   pub last : IsPiece begun
   pub within : length (ended_lines pieces ++ begun) < 2 ^ 36
   pub none : is_refusal (asked_of (map text_of pieces) Finished) ≡ false
+
+-- the same where the source tells its bytes
+abbrev pub Unrefused : Option (List ℕ) → Option (List ℕ) → Type 0
+Unrefused before now = IfSome before (λ bytes. IsSomeAnd now (IsUnrefused bytes))

@@ -6,7 +6,8 @@ ghost use Rattle.cv_osv.specs.Records.{HasDistinctIds};
 ghost use Rattle.cv_scan_input.specs.Answer.{IsAsked, is_input_fault, refuses_memory};
 ghost use Rattle.cv_scan_input.specs.Asked.{asked_by, input_of};
 ghost use Rattle.cv_scan_input.specs.Left.{Begins, asked_left};
-ghost use Rattle.cv_scan_input.specs.Passed.{Begun, Unrefused, UnrefusedBehind};
+ghost use Rattle.cv_scan_input.specs.Passed.{Begun, UnrefusedBehind};
+ghost use Rattle.cv_scan_input.specs.Unrefused.{Unrefused};
 ghost use Rattle.cv_scan_input.specs.declared.error.InputError.TheVariants as error;
 
 use crate::error::InputError;
