@@ -5,6 +5,7 @@ use Rattle.std.specs.List.{cons_option, filter_map, list_any}
 use Rattle.std.specs.Option.{option_map}
 use Rattle.std.specs.Result.{is_ok, result_err}
 use Rattle.std.proofs.Common.{ap, ◌∙◌}
+use Rattle.std.proofs.lemmas.Bool.{or_parts}
 use Rattle.cv_base.specs.Path.{Path}
 use Rattle.cv_base.specs.Place.{place_of}
 use Rattle.cv_base.specs.declared.fault.FileBad.{FileBad}
@@ -226,19 +227,12 @@ content_small (Bytes bytes) h = ap (λ b. if b then TooLarge else Bytes bytes) h
 content_small TooLarge h = refl
 content_small Unread h = refl
 
-or_left : (a b : Bool) → (a || b) ≡ false → a ≡ false
-or_left true b h = h
-or_left false b h = refl
-
-or_right : (a b : Bool) → (a || b) ≡ false → b ≡ false
-or_right true b h = cc
-or_right false b h = h
-
 files_small : (files : List PackageFile) → list_any is_large_file files ≡ false → map limited_file files ≡ files
 files_small [] h = refl
 files_small (file ∷ files) h =
-    let content = content_small file.content (or_left (is_large_file file) (list_any is_large_file files) h) in
-    let others = files_small files (or_right (is_large_file file) (list_any is_large_file files) h) in
+    let parts = or_parts (is_large_file file) (list_any is_large_file files) h in
+    let content = content_small file.content parts.0 in
+    let others = files_small files parts.1 in
     λ i. record { path = file.path; place = file.place; content = content i } ∷ others i
 
 files_alike : (files : List PackageFile) → read_files (system (map limited_file files)) (map limited_file files) ≡ read_files (system files) files
