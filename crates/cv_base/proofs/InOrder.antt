@@ -31,7 +31,7 @@ after_put {K} cmp p q (x ∷ xs) h k = by_order (cmp q x) (after_put cmp p q xs 
   by_order Equal rest = k
   by_order Greater rest = (k.0, rest)
 
--- of a key that is above another, the other is below it
+-- of two keys the one that is not after is before
 pub turned : {K : Type 0} {cmp : K → K → Ordering} → IsTotalOrder cmp → (p q : K) → cmp p q ≡ Greater → cmp q p ≡ Less
 turned o p q h = o.antisymm q p ∙ ap ordering_reverse h
 

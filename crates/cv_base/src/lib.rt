@@ -7,6 +7,8 @@
 #![tactic(auto)]
 
 mod advisory;
+mod ascii;
+mod bad_line;
 mod digest;
 mod fault;
 mod finding;
@@ -16,9 +18,11 @@ mod package_files;
 mod path;
 mod places;
 mod steps;
+mod text;
 mod tree;
 
 pub use advisory::{Advisory, Affected, Range, RangeKind, Turn};
+pub use ascii::{are_printing, printing_text};
 pub use cv_seq::{NoMemory, Seq, Text};
 pub use digest::{BadDigest, Digest, digest_round_trip};
 pub use fault::{FileBad, ReadBad, What};
@@ -26,7 +30,8 @@ pub use finding::{Finding, Reason, Row};
 pub use manifest::Manifest;
 pub use package::{Package, PackageKind, PackageName};
 pub use package_files::place;
-pub use path::{MAX_PATH_LEN, PathError, RelPath};
+pub use path::{MAX_PATH_LEN, PathError, RelPath, is_special};
 pub use places::Place;
 pub use steps::Steps;
+pub use text::{cut_at, is_blank, is_dropped, next_line, trim_line};
 pub use tree::{Content, Kind, ListEntry, Node, PACKAGE_FILE_LIMIT, Tree, TreeEntry};

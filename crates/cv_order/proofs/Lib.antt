@@ -1,3 +1,4 @@
 mod Examples
+pub mod Fronts
 pub mod Places
 pub mod Runs

@@ -11,19 +11,21 @@ use Rattle.std.specs.Cmp.Lexicographic.{slice_cmp, lists_total}
 abbrev pub is_digit : ℕ → Bool
 is_digit byte = is_ascii_digit byte
 
--- the longest part at the front whose items all pass, and what stands behind it
+-- the longest part at the front whose items all pass
 abbrev pub front_while : (ℕ → Bool) → List ℕ → List ℕ
 front_while test [] = []
 front_while test (x ∷ xs) = if test x then x ∷ front_while test xs else []
 
+-- what stands behind that part
 abbrev pub after_while : (ℕ → Bool) → List ℕ → List ℕ
 after_while test [] = []
 after_while test (x ∷ xs) = if test x then after_while test xs else x ∷ xs
 
--- the run of digits that a text begins with, which may be empty, and what stands behind it
+-- the run of digits that a text begins with, which may be empty
 abbrev pub front_digits : List ℕ → List ℕ
 front_digits text = front_while is_digit text
 
+-- what stands behind that run
 abbrev pub after_digits : List ℕ → List ℕ
 after_digits text = after_while is_digit text
 
@@ -39,8 +41,10 @@ run_cmp = then_cmp (on length nat_cmp) (slice_cmp nat_cmp)
 abbrev pub number_cmp : List ℕ → List ℕ → Ordering
 number_cmp = on without_zeros run_cmp
 
+-- runs that no zero leads are in a total order
 pub run_total : IsTotalOrder run_cmp
 run_total = then_total (on_total length nat_cmp_total) (lists_total nat_cmp_total)
 
+-- and so are runs as numbers
 pub number_total : IsTotalOrder number_cmp
 number_total = on_total without_zeros run_total

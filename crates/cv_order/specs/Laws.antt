@@ -7,6 +7,7 @@ use Rattle.std.specs.declared.cmp.Ordering.TheVariants.{Less, Equal, Greater}
 use Rattle.std.specs.Ordering.{is_le, ordering_reverse}
 use Rattle.std.specs.Cmp.{IsTotalOrder, alike_right}
 
+-- the three laws of a total preorder
 pub record IsTotalPreorder {K : Type 0} (R : K → K → Ordering) : Type 0 where
   -- any two compare: the one is at most the other, or the other at most the one
   pub total : (x y : K) → IsTrue (is_le (R x y) || is_le (R y x))

@@ -1,5 +1,6 @@
-ghost use Rattle.std.specs.Prelude.{◌≡◌, IfNone, IfSome, true, [], ◌∷◌};
+ghost use Rattle.std.specs.Prelude.{◌≡◌, IfNone, IfSome, not, true, [], ◌∷◌};
 ghost use Rattle.std.specs.Cmp.{IsTotalOrder};
+ghost use Rattle.std.specs.List.{list_all, position};
 ghost use Rattle.cv_order.specs.Digits.{after_digits, front_digits, is_digit, number_cmp, run_cmp, without_zeros};
 ghost use Rattle.cv_order.specs.Laws.{IsTotalPreorder};
 
@@ -44,6 +45,32 @@ pub fn skip_digits(text: &[u8]) -> &[u8]
         left = rest;
     }
     left
+}
+
+/// The digits that lead the text, and what stands behind them.
+#[tactic(auto, using(crate::proofs::Fronts::while_some, crate::proofs::Fronts::while_none, crate::proofs::Fronts::past_some, crate::proofs::Fronts::past_none))]
+pub fn split_digits(text: &[u8]) -> (&[u8], &[u8])
+    ensures digits { result.0.now ≡ front_digits text.now }
+    ensures rest { result.1.now ≡ after_digits text.now }
+{
+    match digits_end(text) {
+        Some(end) => text.split_at(end),
+        None => (text, &[]),
+    }
+}
+
+/// The index of the first byte that is no digit.
+fn digits_end(text: &[u8]) -> Option<usize>
+    ensures { result ≡ position (λ byte. not (is_digit byte)) text.now }
+{
+    text.iter().position(|byte| !byte.is_ascii_digit())
+}
+
+/// Whether all bytes are digits.
+pub fn are_digits(bytes: &[u8]) -> bool
+    ensures { result ≡ list_all is_digit bytes.now }
+{
+    bytes.iter().all(|byte| byte.is_ascii_digit())
 }
 
 /// Compares the runs of digits that lead two texts, as numbers of any length. A text that no digit leads has the empty run,

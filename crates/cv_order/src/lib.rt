@@ -4,8 +4,11 @@
 //! `compare_numbers(b"010-a", b"9+b")` is `Greater`, with the rests `-a` and `+b`.
 #![tactic(auto)]
 
+mod bytes;
 mod digits;
 
+pub use bytes::find;
 pub use digits::{
-    Compared, compare_digits, compare_numbers, number_order_laws, significant, skip_digits,
+    Compared, are_digits, compare_digits, compare_numbers, number_order_laws, significant,
+    skip_digits, split_digits,
 };

@@ -2,6 +2,7 @@
 use Rattle.std.proofs.Common.{◌≡◌, ℕ, Bool, true, false, nat_lt, if◌then◌else◌, List, [], ◌∷◌, ◌++◌, length, refl}
 use Rattle.std.specs.Prelude.{Option, Result, Ok, Err, IfErr}
 use Rattle.cv_base.specs.Path.{Path}
+use Rattle.cv_base.specs.Results.{◌>>=◌}
 use Rattle.cv_base.specs.declared.fault.FileBad.{FileBad}
 use Rattle.cv_base.specs.declared.package.Package.{Package}
 use Rattle.cv_base.specs.declared.places.Place.{Place}
@@ -16,7 +17,7 @@ use Rattle.cv_dpkg.specs.declared.package.DebPackage.{DebPackage}
 use Rattle.cv_dpkg.specs.declared.rule.StatusRule.TheVariants.{Needed, Optional}
 use Rattle.cv_osrel.specs.declared.name.OsName.{OsName}
 use Rattle.cv_packages.specs.Files.{PackageFile, package_files}
-use Rattle.cv_packages.specs.Packages.{◌>>=◌, apk_found, deb_found, is_packages_memory, packages, read_content, read_file, read_files, read_place, system}
+use Rattle.cv_packages.specs.Packages.{apk_found, deb_found, is_packages_memory, packages, read_content, read_file, read_files, read_place, system}
 use Rattle.cv_packages.specs.declared.error.PackagesError.{PackagesError}
 use Rattle.cv_packages.specs.declared.error.PackagesError.TheVariants as error
 

@@ -8,6 +8,7 @@ use Rattle.std.proofs.Common.{ap, ◌∙◌}
 use Rattle.std.proofs.lemmas.Bool.{or_parts}
 use Rattle.cv_base.specs.Path.{Path}
 use Rattle.cv_base.specs.Place.{place_of}
+use Rattle.cv_base.specs.Results.{◌>>=◌}
 use Rattle.cv_base.specs.declared.fault.FileBad.{FileBad}
 use Rattle.cv_base.specs.declared.package.Package.{Package}
 use Rattle.cv_base.specs.declared.places.Place.{Place}
@@ -28,7 +29,7 @@ use Rattle.cv_osrel.specs.declared.name.OsName.{OsName}
 use Rattle.cv_overlay.specs.Fault.{fault, tree_fault}
 use Rattle.cv_overlay.specs.Mark.{is_dir_node, outline}
 use Rattle.cv_packages.specs.Files.{PackageFile, content_in, counted, file_at, has_etc, is_etc_file, is_usr, package_file, package_files, placed}
-use Rattle.cv_packages.specs.Packages.{◌>>=◌, apk_found, deb_found, packages, read_content, read_file, read_files, read_place, system}
+use Rattle.cv_packages.specs.Packages.{apk_found, deb_found, packages, read_content, read_file, read_files, read_place, system}
 use Rattle.cv_packages.specs.declared.error.PackagesError.{PackagesError}
 use Rattle.cv_packages.specs.declared.error.PackagesError.TheVariants as error
 
