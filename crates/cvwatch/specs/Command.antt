@@ -6,7 +6,7 @@ use Rattle.std.specs.Io.KnownBytes.{Appends, IsAtEnd}
 use Rattle.cv_request.specs.Line.{is_request_memory}
 use Rattle.cv_scan.specs.Layers.{distinct}
 use Rattle.cv_scan_input.specs.Asked.{Asked, NoLine, RefusedAt, TooLongLine, TooLongInput, Scan, asked_by, input_of}
-use Rattle.cv_scan_input.specs.Passed.{Unrefused}
+use Rattle.cv_scan_input.specs.Unrefused.{Unrefused}
 use Rattle.cv_transcript.specs.Refusal.{no_manifest_text, refusal_text}
 use Rattle.cvwatch.specs.Outcome.{TellsOutcome}
 use Rattle.cvwatch.specs.Printed.{IsPrinted, Printed}
