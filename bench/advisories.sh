@@ -6,8 +6,7 @@
 set -euo pipefail
 # shellcheck source=bench/common.sh
 . "$(dirname "$0")/common.sh"
-data=$top/bench/data/advisories
-mkdir -p "$data"
+data=$(data_folder advisories)
 program=$(build cvwatch)
 ecosystem=$(own_root "$data")
 own_packages | awk -F'\t' '!seen[$3]++ { print $3 "\t" $4 }' >"$data/sources"

@@ -14,6 +14,9 @@ build() {
     echo "$top/crates/$1/out/$1"
 }
 
+# makes the folder of bench/data/ for what the script NAME generates, and says where it is
+data_folder() { mkdir -p "$top/bench/data/$1" && echo "$top/bench/data/$1"; }
+
 # the 64 digits that stand for a word, as the name of a layer or an image
 digest() { printf %s "$1" | sha256sum | cut -c1-64; }
 

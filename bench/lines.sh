@@ -4,8 +4,7 @@
 set -euo pipefail
 # shellcheck source=bench/common.sh
 . "$(dirname "$0")/common.sh"
-data=$top/bench/data/lines
-mkdir -p "$data"
+data=$(data_folder lines)
 program=$(build bench_lines)
 
 # one line of so many MB, its LF among them, so that 64 MB keep within the limit of a line

@@ -5,8 +5,7 @@
 set -euo pipefail
 # shellcheck source=bench/common.sh
 . "$(dirname "$0")/common.sh"
-data=$top/bench/data/osv
-mkdir -p "$data"
+data=$(data_folder osv)
 program=$(build bench_osv)
 
 # records N: a JSON list of N records, whose ids are in no order

@@ -6,8 +6,7 @@
 set -euo pipefail
 # shellcheck source=bench/common.sh
 . "$(dirname "$0")/common.sh"
-data=$top/bench/data/readers
-mkdir -p "$data"
+data=$(data_folder readers)
 program=$(build cvwatch)
 cd "$data"
 

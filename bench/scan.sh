@@ -5,8 +5,7 @@
 set -euo pipefail
 # shellcheck source=bench/common.sh
 . "$(dirname "$0")/common.sh"
-data=$top/bench/data/scan
-mkdir -p "$data"
+data=$(data_folder scan)
 program=$(build cvwatch)
 
 # the folder of a layer, with what each layer of Debian has

@@ -5,8 +5,7 @@
 set -euo pipefail
 # shellcheck source=bench/common.sh
 . "$(dirname "$0")/common.sh"
-data=$top/bench/data/status
-mkdir -p "$data"
+data=$(data_folder status)
 program=$(build bench_status)
 bytes=33554432
 

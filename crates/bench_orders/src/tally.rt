@@ -1,7 +1,7 @@
 ghost use Rattle.std.specs.Prelude.{◌≡◌, ◌+◌};
 
 use crate::numbers::Numbers;
-use cv_debver::compare;
+use crate::order::VersionOrder;
 use std::cmp::Ordering;
 
 /// How many pairs compared so.
@@ -12,8 +12,13 @@ pub struct Tally {
     pub greater: u64,
 }
 
-/// Compares so many pairs of versions of the pool.
-pub fn compare_pairs(pool: &[Vec<u8>], pairs: u64, numbers: &mut Numbers) -> Tally
+/// Compares so many pairs of versions of the pool by an order.
+pub fn compare_pairs(
+    order: VersionOrder,
+    pool: &[Vec<u8>],
+    pairs: u64,
+    numbers: &mut Numbers,
+) -> Tally
     ensures { result.less + result.equal + result.greater ≡ pairs }
 {
     let mut tally = Tally {
@@ -24,7 +29,7 @@ pub fn compare_pairs(pool: &[Vec<u8>], pairs: u64, numbers: &mut Numbers) -> Tal
     for _pair in 0..pairs {
         let left = pick(pool, numbers);
         let right = pick(pool, numbers);
-        match compare(left, right) {
+        match order.compare(left, right) {
             Ordering::Less => tally.less += 1,
             Ordering::Equal => tally.equal += 1,
             Ordering::Greater => tally.greater += 1,

@@ -4,8 +4,9 @@ use Rattle.std.specs.List.{flat_map, onto_first, slice_split}
 use Rattle.std.specs.Option.{is_some, option_map_or, option_or}
 use Rattle.cv_base.specs.Answer.{Gives}
 use Rattle.cv_base.specs.Cuts.{is_lf, split_left}
-use Rattle.cv_base.specs.Lines.{Line, and_then, answer, as_read, at, bad, given, is_gap, last_number, line_faults, numbered}
+use Rattle.cv_base.specs.Lines.{Line, answer, as_read, at, bad, given, is_gap, last_number, line_faults, numbered}
 use Rattle.cv_base.specs.Reading.{is_read_memory}
+use Rattle.cv_base.specs.Results.{◌>>=◌}
 use Rattle.cv_base.specs.declared.fault.FileBad.{FileBad}
 use Rattle.cv_base.specs.declared.fault.ReadBad.{ReadBad}
 use Rattle.cv_base.specs.declared.fault.ReadBad.TheVariants.{Bad, NoMemory}
@@ -72,22 +73,22 @@ answer_all found ps = as_read (answer (flat_map faults ps) (found ++ flat_map pa
 
 -- the end of a package
 ended_by : (n : ℕ) (w : Option What) (found made : List ApkPackage) (fs : List FileBad) (rest : List ApkPackage)
-    → as_read (answer (at n w ++ fs) (found ++ (made ++ rest))) ≡ and_then (given n w (found ++ made)) (λ o. as_read (answer fs (o ++ rest)))
+    → as_read (answer (at n w ++ fs) (found ++ (made ++ rest))) ≡ (given n w (found ++ made) >>= λ o. as_read (answer fs (o ++ rest)))
 ended_by n None found made fs rest = ap (λ r. as_read (answer fs r)) (sym (append_assoc found made rest))
 ended_by n (Some w) found made fs rest = refl
 
 ended : (o : Option ℕ) (n : ℕ) (w : Option What) (found made : List ApkPackage) (fs : List FileBad) (rest : List ApkPackage)
     → as_read (answer (option_map_or (λ m. at m w) (option_or o (Some n)) [] ++ fs) (found ++ (made ++ rest)))
-    ≡ and_then (option_map_or (λ m. given m w (found ++ made)) (option_or o (Some n)) (Ok found)) (λ o. as_read (answer fs (o ++ rest)))
+    ≡ (option_map_or (λ m. given m w (found ++ made)) (option_or o (Some n)) (Ok found) >>= λ o. as_read (answer fs (o ++ rest)))
 ended None n w found made fs rest = ended_by n w found made fs rest
 ended (Some m) n w found made fs rest = ended_by m w found made fs rest
 
 closed : (found : List ApkPackage) (p : List Line) (ps : List (List Line)) → as_read (answer (end_faults p ++ flat_map faults ps) (found ++ (packages p ++ flat_map packages ps)))
-    ≡ and_then (close (state_of p) found) (λ o. answer_all o ps)
+    ≡ (close (state_of p) found >>= λ o. answer_all o ps)
 closed found [] ps = refl
 closed found (l ∷ ls) ps = ended (last_number ls) l.number (whole_fault (facts (l ∷ ls))) found (packages (l ∷ ls)) (flat_map faults ps) (flat_map packages ps)
 
-answer_cons : (found : List ApkPackage) (p : List Line) (ps : List (List Line)) → line_faults line_fault [] p ≡ [] → answer_all found (p ∷ ps) ≡ and_then (close (state_of p) found) (λ o. answer_all o ps)
+answer_cons : (found : List ApkPackage) (p : List Line) (ps : List (List Line)) → line_faults line_fault [] p ≡ [] → answer_all found (p ∷ ps) ≡ (close (state_of p) found >>= λ o. answer_all o ps)
 answer_cons found p ps e = ap (λ r. as_read (answer ((r ++ end_faults p) ++ flat_map faults ps) (found ++ (packages p ++ flat_map packages ps)))) e ∙ closed found p ps
 
 -- a line with a fault
@@ -111,26 +112,26 @@ Tells ts = (p : List Line) (n : ℕ) (found : List ApkPackage) → line_faults l
 
 told_none : Tells []
 told_none p n found e = sym (answer_cons found p [] e ∙ last (close (state_of p) found)) ∙ ap (λ q. answer_all found (q ∷ [])) (sym (append-nil p)) where
-  last : (r : Result (List ApkPackage) ReadBad) → and_then r (λ o. answer_all o []) ≡ r
+  last : (r : Result (List ApkPackage) ReadBad) → (r >>= λ o. answer_all o []) ≡ r
   last (Ok o) = ap Ok (append-nil o)
   last (Err bad) = refl
 
 told_gap : (ts : List (List ℕ)) → Tells ts → Tells ([] ∷ ts)
 told_gap ts more p n found e =
-    ap (and_then (close (state_of p) found)) (λ i o. (more [] (n + 1) o refl ∙ ap (answer_all o) (glue_none (numbered (n + 1 + 1) ts))) i)
+    ap (◌>>=◌ (close (state_of p) found)) (λ i o. (more [] (n + 1) o refl ∙ ap (answer_all o) (glue_none (numbered (n + 1 + 1) ts))) i)
     ∙ sym (answer_cons found p (slice_split is_gap (numbered (n + 1 + 1) ts)) e)
     ∙ ap (λ q. answer_all found (q ∷ slice_split is_gap (numbered (n + 1 + 1) ts))) (sym (append-nil p))
 
 told_line : (x : ℕ) (xs : List ℕ) (ts : List (List ℕ)) → Tells ts → Tells ((x ∷ xs) ∷ ts)
 told_line x xs ts more p n found e =
-    ap (λ r. and_then r (λ k. told (n + 1) k found ts)) (line_given p l) ∙ by (line_fault p (x ∷ xs)) refl where
+    ap (λ r. r >>= λ k. told (n + 1) k found ts) (line_given p l) ∙ by (line_fault p (x ∷ xs)) refl where
       l : Line
       l = record { number = n + 1; text = x ∷ xs }
 
       rest : List (List Line)
       rest = slice_split is_gap (numbered (n + 1 + 1) ts)
 
-      by : (w : Option What) → line_fault p (x ∷ xs) ≡ w → and_then (given (n + 1) w (state_of (p ++ l ∷ []))) (λ k. told (n + 1) k found ts) ≡ answer_all found (glue p (onto_first l rest))
+      by : (w : Option What) → line_fault p (x ∷ xs) ≡ w → (given (n + 1) w (state_of (p ++ l ∷ [])) >>= λ k. told (n + 1) k found ts) ≡ answer_all found (glue p (onto_first l rest))
       by None h = more (p ++ l ∷ []) (n + 1) found (first_fault line_fault p l [] e ∙ ap (λ o. at (n + 1) o ++ []) h) ∙ ap (answer_all found) (glue_first p l rest)
       by (Some w) h = faulty_first found p l rest w e h
 
@@ -144,6 +145,6 @@ pub told_installed : (bytes : List ℕ) → told 0 opening [] (split_left (Some 
 told_installed bytes = told_is (slice_split is_lf bytes) [] 0 [] refl ∙ ap (answer_all []) (glue_none (numbered 1 (slice_split is_lf bytes)))
 
 -- a step that was refused refuses all
-pub stopped : {A B X : Type 0} (r : Result A ReadBad) (f : A → Result B ReadBad) (v : X → A) (e : ReadBad) → Gives is_read_memory v (Err e) r → Gives is_read_memory (λ (y : B). y) (Err e) (and_then r f)
-stopped r f v (Bad e) h = ap (λ q. and_then q f) h
+pub stopped : {A B X : Type 0} (r : Result A ReadBad) (f : A → Result B ReadBad) (v : X → A) (e : ReadBad) → Gives is_read_memory v (Err e) r → Gives is_read_memory (λ (y : B). y) (Err e) (r >>= f)
+stopped r f v (Bad e) h = ap (λ q. q >>= f) h
 stopped r f v NoMemory h = tt

@@ -1,7 +1,8 @@
 -- How an installed database is read in one pass over its lines. It is shown in `proofs/` that this tells what `Installed.antt` says.
 use Rattle.std.specs.Prelude.{ℕ, ◌+◌, if◌then◌else◌, List, [], ◌∷◌, ◌++◌, Option, None, Some, Result, Ok, Err}
 use Rattle.std.specs.Option.{is_some, option_map_or}
-use Rattle.cv_base.specs.Lines.{and_then, bad, given}
+use Rattle.cv_base.specs.Lines.{bad, given}
+use Rattle.cv_base.specs.Results.{◌>>=◌}
 use Rattle.cv_base.specs.Texts.{is_nil}
 use Rattle.cv_base.specs.declared.fault.ReadBad.{ReadBad}
 use Rattle.cv_base.specs.declared.fault.What.{What}
@@ -64,5 +65,5 @@ close s found = option_map_or (λ n. given n (whole_fault s.told) (found ++ pack
 abbrev pub told : ℕ → State → List ApkPackage → List (List ℕ) → Result (List ApkPackage) ReadBad
 told n s found [] = close s found
 told n s found (t ∷ ts) =
-    if is_nil t then and_then (close s found) (λ o. told (n + 1) opening o ts)
-    else and_then (line_step s (n + 1) t) (λ k. told (n + 1) k found ts)
+    if is_nil t then (close s found >>= λ o. told (n + 1) opening o ts)
+    else (line_step s (n + 1) t >>= λ k. told (n + 1) k found ts)

@@ -1,9 +1,9 @@
 -- The text of a digest and the reading of texts: each gives the other back.
-use Rattle.std.proofs.Common.{◌≡◌, ℕ, zero, suc, ◌+◌, ◌*◌, ◌/◌, ◌%◌, ◌<◌, Bool, true, false, ◌&&◌, cond, List, [], ◌∷◌, ◌++◌, length, take, drop, slice_index, codes, ◌==◌, Option, Some, None, unwrap_or, Result, Ok, Err, refl, sym, ap, ◌∙◌, arith, inl, inr}
+use Rattle.std.proofs.Common.{◌≡◌, ℕ, zero, suc, ◌+◌, ◌*◌, ◌/◌, ◌%◌, ◌<◌, Bool, true, false, ◌&&◌, cond, List, [], ◌∷◌, ◌++◌, length, take, drop, slice_index, codes, Option, Some, None, unwrap_or, Result, Ok, Err, refl, sym, ap, ◌∙◌, arith, inl, inr}
 use Rattle.std.specs.Prelude.{option_and_then}
 use Rattle.std.specs.List.{list_all}
 use Rattle.std.specs.Result.{result_ok, result_unwrap_or}
-use Rattle.std.proofs.lemmas.Bool.{and_parts, cases_lt, eqb-true}
+use Rattle.std.proofs.lemmas.Bool.{and_parts, cases_lt}
 use Rattle.std.proofs.lemmas.Bool.Decides.{nat_tests}
 use Rattle.std.proofs.lemmas.List.{take-append-drop}
 use Rattle.hex.specs.Hex.{IsBytes, decode_pairs, decode_sized, digit_or_error, encode_lower, encode_with, hex_digit_value, lower_digits, pair_value, value_at, ◌>>=◌}
@@ -11,6 +11,7 @@ use Rattle.hex.specs.declared.error.FromHexError.{FromHexError}
 use Rattle.hex.proofs.HexLemmas.{IsDigits-lower_digits, decode_sized-encode_lower, decode_sized-ok, decode_sized-twice, decode_of-even}
 use Rattle.cv_base.specs.Digest.{digest_of, digest_text, is_lower_digit}
 use Rattle.cv_base.specs.Texts.{same}
+use Rattle.cv_base.proofs.Same.{same_is}
 
 -- The digits.
 
@@ -100,14 +101,6 @@ ok_of : {A E : Type 0} (r : Result A E) (x : A) → result_ok r ≡ Some x → r
 ok_of (Ok y) x h = ap (λ o. Ok (unwrap_or o y)) h
 ok_of (Err e) x h = cc h
 
-same_codes : (s t : List ℕ) → same s t ≡ true → s ≡ t
-same_codes [] [] h = refl
-same_codes [] (y ∷ ys) h = cc h
-same_codes (x ∷ xs) [] h = cc h
-same_codes (x ∷ xs) (y ∷ ys) h =
-    let parts = and_parts (x == y) (same xs ys) h in
-    rw (eqb-true x y parts.0, same_codes xs ys parts.1) refl
-
 sized_back : (digits bytes : List ℕ) → decode_sized digits 32 ≡ Ok bytes → list_all is_lower_digit digits ≡ true → encode_lower bytes ≡ digits
 sized_back digits bytes h lower =
     let len = decode_sized-ok digits 32 bytes h in
@@ -120,7 +113,7 @@ text_by text bytes false lower f l h = cc h
 text_by text bytes true false f l h = cc h
 text_by text bytes true true f l h =
     let digits = sized_back (drop 7 text) bytes (ok_of (decode_sized (drop 7 text) 32) bytes h) l in
-    ap (λ d. codes "sha256:" ++ d) digits ∙ ap (λ p. p ++ drop 7 text) (sym (same_codes (take 7 text) (codes "sha256:") f)) ∙ take-append-drop 7 text
+    ap (λ d. codes "sha256:" ++ d) digits ∙ ap (λ p. p ++ drop 7 text) (sym (same_is (take 7 text) (codes "sha256:") f)) ∙ take-append-drop 7 text
 
 -- a text that reads as bytes is the text of them
 pub written_back : (text bytes : List ℕ) → digest_of text ≡ Some bytes → digest_text bytes ≡ text

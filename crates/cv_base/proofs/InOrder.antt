@@ -3,13 +3,16 @@
 use Rattle.std.specs.Prelude.{◌≡◌, Bool, true, false, ◌||◌, List, [], ◌∷◌, refl}
 use Rattle.std.specs.BTreeSet.{insert_key}
 use Rattle.std.specs.Cmp.{IsTotalOrder}
-use Rattle.std.specs.List.{AllByRecursion, list_any}
+use Rattle.std.specs.List.{All, AllByRecursion, list_any}
 use Rattle.std.specs.List.Sorted.{IsStrictlySortedBy}
 use Rattle.std.specs.Ordering.{match_ordering, ordering_reverse}
 use Rattle.std.specs.declared.cmp.Ordering.{Ordering}
 use Rattle.std.specs.declared.cmp.Ordering.TheVariants.{Less, Equal, Greater}
 use Rattle.std.proofs.Common.{ap, sym, ◌∙◌}
+use Rattle.std.proofs.lemmas.List.Elements.{All-head, All-tail}
+use Rattle.std.proofs.lemmas.Map.Views.{All-insert_key}
 use Rattle.cv_base.specs.InOrder.{in_order}
+use Rattle.cv_base.proofs.Bools.{or_swap_inner}
 
 -- what comes after a key comes after one before it
 pub after_lower : {K A : Type 0} {cmp : K → K → Ordering} → IsTotalOrder cmp → (key : A → K) (p q : K) (xs : List A) → cmp p q ≡ Less
@@ -28,7 +31,8 @@ after_put {K} cmp p q (x ∷ xs) h k = by_order (cmp q x) (after_put cmp p q xs 
   by_order Equal rest = k
   by_order Greater rest = (k.0, rest)
 
-turned : {K : Type 0} {cmp : K → K → Ordering} → IsTotalOrder cmp → (p q : K) → cmp p q ≡ Greater → cmp q p ≡ Less
+-- of two keys the one that is not after is before
+pub turned : {K : Type 0} {cmp : K → K → Ordering} → IsTotalOrder cmp → (p q : K) → cmp p q ≡ Greater → cmp q p ≡ Less
 turned o p q h = o.antisymm q p ∙ ap ordering_reverse h
 
 put_rises : {K : Type 0} {cmp : K → K → Ordering} → IsTotalOrder cmp → (qs : List K) (q : K) → IsStrictlySortedBy cmp qs → IsStrictlySortedBy cmp (insert_key cmp qs q)
@@ -51,11 +55,6 @@ or_twice : (a b c : Bool) → a ≡ b → (b || c) ≡ (a || (b || c))
 or_twice true b c h = ap (λ (d : Bool). d || c) (sym h)
 or_twice false b c h = refl
 
-or_turned : (a b c : Bool) → (a || (b || c)) ≡ (b || (a || c))
-or_turned true true c = refl
-or_turned true false c = refl
-or_turned false b c = refl
-
 any_put : {K : Type 0} {cmp : K → K → Ordering} (test : K → Bool) → ((p q : K) → cmp p q ≡ Equal → test p ≡ test q) → (qs : List K) (q : K)
     → list_any test (insert_key cmp qs q) ≡ (test q || list_any test qs)
 any_put test ties [] q = refl
@@ -64,10 +63,15 @@ any_put {K} {cmp} test ties (x ∷ xs) q = by_order (cmp q x) refl (any_put test
       → list_any test (match_ordering o (q ∷ x ∷ xs) (x ∷ xs) (x ∷ insert_key cmp xs q)) ≡ (test q || (test x || list_any test xs))
   by_order Less e rest = refl
   by_order Equal e rest = or_twice (test q) (test x) (list_any test xs) (ties q x e)
-  by_order Greater e rest = ap (λ (b : Bool). test x || b) rest ∙ or_turned (test x) (test q) (list_any test xs)
+  by_order Greater e rest = ap (λ (b : Bool). test x || b) rest ∙ or_swap_inner false (test x) (test q) (list_any test xs)
 
 -- some key in order passes a test exactly where some key that was given does, if the test tells no two equal keys apart
 pub any_order : {K : Type 0} {cmp : K → K → Ordering} (test : K → Bool) → ((p q : K) → cmp p q ≡ Equal → test p ≡ test q) → (ks : List K)
     → list_any test (in_order cmp ks) ≡ list_any test ks
 any_order test ties [] = refl
 any_order {K} {cmp} test ties (k ∷ ks) = any_put test ties (in_order cmp ks) k ∙ ap (λ (b : Bool). test k || b) (any_order test ties ks)
+
+-- what holds of all keys that were given holds of all in order
+pub all_order : {K : Type 0} (cmp : K → K → Ordering) (P : K → Type 0) (ks : List K) → All P ks → All P (in_order cmp ks)
+all_order cmp P [] h = h
+all_order cmp P (k ∷ ks) h = All-insert_key cmp k P (in_order cmp ks) (all_order cmp P ks (All-tail P k ks h)) (All-head P k ks h)

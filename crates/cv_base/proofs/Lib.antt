@@ -4,7 +4,9 @@ pub mod DigestLemmas
 pub mod Ends
 pub mod InOrder
 pub mod Lines
+pub mod Lists
 pub mod PathLemmas
 pub mod PlaceLemmas
 pub mod Printing
+pub mod Results
 pub mod Same

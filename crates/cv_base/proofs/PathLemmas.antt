@@ -7,9 +7,10 @@ use Rattle.std.specs.declared.cmp.Ordering.{Ordering}
 use Rattle.std.specs.declared.cmp.Ordering.TheVariants.{Less, Equal, Greater}
 use Rattle.std.proofs.lemmas.Bool.Decides.{nat_tests}
 use Rattle.std.proofs.lemmas.List.Splits.{join_with_byte-slice_split}
+use Rattle.std.proofs.Math.Bool.{and_assoc}
 use Rattle.cv_base.specs.Path.{Path, components, is_above, is_component, is_slash, is_special, path_cmp}
 use Rattle.cv_base.specs.PathText.{goes_on, rank, text_cmp, HasNoNul, is_above_text}
-use Rattle.cv_base.specs.Texts.{same}
+use Rattle.cv_base.specs.Texts.{is_cons, same}
 use Rattle.cv_base.proofs.Bools.{and_left, and_right}
 
 -- joining the components gives the text back
@@ -17,17 +18,13 @@ pub join_components : (t : List ℕ) → join_with_byte 47 (components t) ≡ t
 join_components [] = refl
 join_components (x ∷ xs) = join_with_byte-slice_split 47 (x ∷ xs)
 
-abbrev is_cons : Path → Bool
-is_cons [] = false
-is_cons (h ∷ r) = true
-
 cons_by : (x : ℕ) (s : Path) (b : Bool) → is_cons (cond b ([] ∷ s) (onto_first x s)) ≡ true
 cons_by x s true = refl
 cons_by x [] false = refl
 cons_by x (h ∷ r) false = refl
 
 -- a split has a first part
-split_cons : (t : List ℕ) → is_cons (slice_split is_slash t) ≡ true
+pub split_cons : (t : List ℕ) → is_cons (slice_split is_slash t) ≡ true
 split_cons [] = refl
 split_cons (x ∷ xs) = cons_by x (slice_split is_slash xs) (is_slash x)
 
@@ -99,23 +96,20 @@ order_components (x ∷ xs) (y ∷ ys) m n = order_split (x ∷ xs) (y ∷ ys) m
 
 -- Being above.
 
-top_above : (s : Path) → is_cons s ≡ true → is_above [] s ≡ true
+-- the top is above every other path, and below none
+pub top_above : (s : Path) → is_cons s ≡ true → is_above [] s ≡ true
 top_above [] h = cc
 top_above (c ∷ cs) h = refl
 
-none_above : (s : Path) → is_cons s ≡ true → is_above s [] ≡ false
-none_above [] h = cc
-none_above (c ∷ cs) h = refl
-
-and_assoc : (a b c : Bool) → (a && (b && c)) ≡ ((a && b) && c)
-and_assoc true b c = refl
-and_assoc false b c = refl
+pub none_above : (s : Path) → is_above s [] ≡ false
+none_above [] = refl
+none_above (c ∷ cs) = refl
 
 above_heads : (x y : ℕ) (s p : Path) → is_cons s ≡ true → is_cons p ≡ true
     → ((x == y) && is_above s p) ≡ is_above (onto_first x s) (onto_first y p)
 above_heads x y [] p h k = cc
 above_heads x y (c ∷ cs) [] h k = cc
-above_heads x y (c ∷ cs) (d ∷ ds) h k = and_assoc (x == y) (same c d) (is_above cs ds)
+above_heads x y (c ∷ cs) (d ∷ ds) h k = sym (and_assoc (x == y) (same c d) (is_above cs ds))
 
 differ_left : (y : ℕ) (s p : Path) → false ≡ is_above ([] ∷ s) (onto_first y p)
 differ_left y s [] = refl
@@ -149,7 +143,7 @@ above_split [] (y ∷ ys) = at_end y (slice_split is_slash ys) (is_slash y) (spl
   at_end y s false h = differ_left y [] s
 above_split (x ∷ xs) [] = past_end x (slice_split is_slash xs) (is_slash x) (split_cons xs) where
   past_end : (x : ℕ) (s : Path) (c : Bool) → is_cons s ≡ true → false ≡ is_above (cond c ([] ∷ s) (onto_first x s)) ([] ∷ [])
-  past_end x s true h = sym (none_above s h)
+  past_end x s true h = sym (none_above s)
   past_end x s false h = differ_right x s []
 above_split (x ∷ xs) (y ∷ ys) =
     ap (λ b. (x == y) && b) (above_split xs ys)
@@ -159,7 +153,7 @@ above_split (x ∷ xs) (y ∷ ys) =
 pub above_components : (t u : List ℕ) → is_above_text t u ≡ is_above (components t) (components u)
 above_components [] [] = refl
 above_components [] (y ∷ ys) = sym (top_above (slice_split is_slash (y ∷ ys)) (split_cons (y ∷ ys)))
-above_components (x ∷ xs) [] = sym (none_above (slice_split is_slash (x ∷ xs)) (split_cons (x ∷ xs)))
+above_components (x ∷ xs) [] = sym (none_above (slice_split is_slash (x ∷ xs)))
 above_components (x ∷ xs) (y ∷ ys) = above_split (x ∷ xs) (y ∷ ys)
 
 -- What is read has no NUL.

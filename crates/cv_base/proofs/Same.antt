@@ -6,9 +6,10 @@ use Rattle.std.specs.Ordering.{is_eq, nat_cmp}
 use Rattle.std.specs.declared.cmp.Ordering.TheVariants.{Equal}
 use Rattle.std.proofs.Common.{ap, arith, sym, ◌∙◌}
 use Rattle.std.proofs.lemmas.Bool.Decides.{nat_tests}
+use Rattle.std.proofs.lemmas.Bool.{and_from}
 use Rattle.cv_base.specs.Path.{Path, path_cmp, same_path}
 use Rattle.cv_base.specs.Texts.{same}
-use Rattle.cv_base.proofs.Bools.{and_both, and_left, and_right}
+use Rattle.cv_base.proofs.Bools.{and_left, and_right}
 
 -- the same texts are equal
 pub same_is : (x y : List ℕ) → same x y ≡ true → x ≡ y
@@ -16,7 +17,7 @@ same_is x y h = same_text x y (sym h)
 
 pub same_self : (x : List ℕ) → same x x ≡ true
 same_self [] = refl
-same_self (x ∷ xs) = and_both (x == x) (same xs xs) (grind (arith, nat_tests)) (same_self xs)
+same_self (x ∷ xs) = and_from (x == x) (same xs xs) (grind (arith, nat_tests)) (same_self xs)
 
 -- the same paths are equal
 pub path_is : (p q : Path) → same_path p q ≡ true → p ≡ q
@@ -30,7 +31,7 @@ path_is (x ∷ xs) (y ∷ ys) h =
 
 pub path_self : (p : Path) → same_path p p ≡ true
 path_self [] = refl
-path_self (x ∷ xs) = and_both (same x x) (same_path xs xs) (same_self x) (path_self xs)
+path_self (x ∷ xs) = and_from (same x x) (same_path xs xs) (same_self x) (path_self xs)
 
 -- the order of paths is total, and paths that it holds equal are equal
 pub path_total : IsTotalOrder path_cmp

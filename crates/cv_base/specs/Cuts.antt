@@ -30,10 +30,14 @@ abbrev pub without_end : (ℕ → Bool) → List ℕ → List ℕ
 without_end drops [] = []
 without_end drops (x ∷ xs) = keep drops x (without_end drops xs)
 
+-- the parts of what is left of a text, which lie between the bytes that pass
+abbrev pub parts_left : (ℕ → Bool) → Option (List ℕ) → List (List ℕ)
+parts_left passes None = []
+parts_left passes (Some text) = slice_split passes text
+
 -- the lines of what is left of a text, which lie between LFs
 abbrev pub split_left : Option (List ℕ) → List (List ℕ)
-split_left None = []
-split_left (Some text) = slice_split is_lf text
+split_left left = parts_left is_lf left
 
 -- how many bytes and ends are left
 abbrev pub left_len : Option (List ℕ) → ℕ

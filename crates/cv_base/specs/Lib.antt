@@ -8,4 +8,5 @@ pub mod PathText
 pub mod Place
 pub mod Printing
 pub mod Reading
+pub mod Results
 pub mod Texts

@@ -59,8 +59,3 @@ bad n w = Err (Bad (record { line = n; what = w }))
 abbrev pub given : {A : Type 0} → ℕ → Option What → A → Result A ReadBad
 given n None x = Ok x
 given n (Some w) x = bad n w
-
--- a step and then the next one, unless it is refused
-abbrev pub and_then : {A B : Type 0} → Result A ReadBad → (A → Result B ReadBad) → Result B ReadBad
-and_then (Ok x) f = f x
-and_then (Err e) f = Err e

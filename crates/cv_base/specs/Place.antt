@@ -2,7 +2,7 @@
 -- npm (npm's folders) keep what is installed.
 use Rattle.std.specs.Prelude.{ℕ, Bool, false, ◌&&◌, ◌||◌, not, if◌then◌else◌, List, [], ◌∷◌, take, drop, length, ◌-◌, codes, Option, Some, None}
 use Rattle.std.specs.Option.{option_or}
-use Rattle.std.specs.List.{list_any, join_with_byte, slice_split}
+use Rattle.std.specs.List.{list_any, join_with_byte}
 use Rattle.cv_base.specs.Path.{Path, is_slash}
 use Rattle.cv_base.specs.Texts.{same}
 use Rattle.cv_base.specs.declared.places.Place.{Place}
@@ -36,11 +36,6 @@ names_package _ = false
 abbrev pub is_npm : Path → Bool
 is_npm [] = false
 is_npm (part ∷ parts) = same part (codes "node_modules") && names_package parts || is_npm parts
-
--- the components of what is left of a text, if anything is
-abbrev pub parts_left : Option (List ℕ) → Path
-parts_left None = []
-parts_left (Some text) = slice_split is_slash text
 
 -- the places that have one path
 abbrev pub fixed_place : List ℕ → Option Place

@@ -1,10 +1,16 @@
 -- Words on texts, seen as their bytes (cvwatch's own).
 use Rattle.std.specs.Prelude.{ℕ, Bool, true, false, ◌==◌, List, [], ◌∷◌, Option, None, Some}
 use Rattle.std.specs.Cmp.Lexicographic.{pointwise}
+use Rattle.std.specs.List.{list_any}
 
 -- whether two texts are the same
 abbrev pub same : List ℕ → List ℕ → Bool
 same = pointwise ◌==◌
+
+-- whether a text, or another list, is not empty
+abbrev pub is_cons : {X : Type 0} → List X → Bool
+is_cons [] = false
+is_cons (x ∷ xs) = true
 
 -- whether a list has nothing
 abbrev pub is_nil : {A : Type 0} → List A → Bool
@@ -15,3 +21,7 @@ is_nil (x ∷ xs) = false
 abbrev pub filled : List ℕ → Option (List ℕ)
 filled [] = None
 filled (x ∷ xs) = Some (x ∷ xs)
+
+-- the text is one of these
+abbrev pub has_text : List (List ℕ) → List ℕ → Bool
+has_text texts text = list_any (λ other. same other text) texts

@@ -30,7 +30,7 @@ pub use finding::{Finding, Reason, Row};
 pub use manifest::Manifest;
 pub use package::{Package, PackageKind, PackageName};
 pub use package_files::place;
-pub use path::{MAX_PATH_LEN, PathError, RelPath};
+pub use path::{MAX_PATH_LEN, PathError, RelPath, is_special};
 pub use places::Place;
 pub use steps::Steps;
 pub use text::{cut_at, is_blank, is_dropped, next_line, trim_line};

@@ -1,12 +1,14 @@
-ghost use Rattle.std.specs.Prelude.{◌≡◌, ◌<◌, ◌+◌, ◌∷◌, length, codes, IfSome, position};
+ghost use Rattle.std.specs.Prelude.{◌≡◌, ◌≤◌, ◌∷◌, length, codes};
 ghost use Rattle.std.specs.List.{list_any, slice_split};
 ghost use Rattle.std.specs.Option.{option_map, option_or};
+ghost use Rattle.cv_base.specs.Cuts.{left_len, parts_left};
 ghost use Rattle.cv_base.specs.Path.{components, is_slash};
-ghost use Rattle.cv_base.specs.Place.{ends_with, fixed_place, is_in_status_folder, is_npm, is_scope, is_status_name, names_package, open_place, parts_left, place_of};
+ghost use Rattle.cv_base.specs.Place.{ends_with, fixed_place, is_in_status_folder, is_npm, is_scope, is_status_name, names_package, open_place, place_of};
 ghost use Rattle.cv_base.specs.Texts.{same};
 
 use crate::path::RelPath;
 use crate::places::Place;
+use crate::text::split_first;
 
 /// The place of package files that a path is, if it is one.
 pub fn place(path: &RelPath) -> Option<Place>
@@ -104,7 +106,7 @@ fn is_npm(text: &[u8]) -> bool
 
 /// Whether what stands behind `node_modules/`, if anything does, names a package's own file.
 fn names_package_after(after: Option<&[u8]>) -> bool
-    ensures { result ≡ names_package (parts_left (option_map (λ text. text.now) after.entry)) }
+    ensures { result ≡ names_package (parts_left is_slash (option_map (λ text. text.now) after.entry)) }
 {
     match after {
         Some(text) => names_package(text),
@@ -145,20 +147,9 @@ fn is_scope(name: &[u8]) -> bool
 }
 
 /// The first component, and what stands behind its slash.
-#[tactic(auto, using(crate::proofs::PlaceLemmas::cut_rest, crate::proofs::PlaceLemmas::cut_none))]
 fn cut(text: &[u8]) -> (&[u8], Option<&[u8]>)
-    ensures parts { slice_split is_slash text.now ≡ result.0.now ∷ parts_left (option_map (λ rest. rest.now) result.1) }
-    ensures shorter { IfSome result.1 (λ rest. length rest.now < length text.now) }
+    ensures parts { slice_split is_slash text.now ≡ result.0.now ∷ parts_left is_slash (option_map (λ rest. rest.now) result.1) }
+    ensures shorter { left_len (option_map (λ rest. rest.now) result.1) ≤ length text.now }
 {
-    match first_slash(text) {
-        Some(end) => (&text[..end], Some(&text[end + 1..])),
-        None => (text, None),
-    }
-}
-
-fn first_slash(text: &[u8]) -> Option<usize>
-    ensures first { result ≡ position is_slash text.now }
-    ensures within { IfSome result (λ end. end < length text.now) }
-{
-    text.iter().position(|byte| *byte == b'/')
+    split_first(text, b'/')
 }

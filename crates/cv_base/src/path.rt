@@ -146,8 +146,8 @@ fn has_nul(text: &[u8]) -> bool
     text.iter().any(|byte| *byte == 0)
 }
 
-/// Whether a text is no component, though it may have no NUL.
-fn is_special(text: &[u8]) -> bool
+/// Whether a text is empty, `.` or `..`, which are no components of a path.
+pub fn is_special(text: &[u8]) -> bool
     ensures { result ≡ is_special text.now }
 {
     text == b"".as_slice() || text == b".".as_slice() || text == b"..".as_slice()

@@ -1,10 +1,10 @@
 -- A call that was to fail raised the count of faults.
 use Rattle.std.proofs.Common.{◌≡◌, ℕ, ◌+◌, ◌<◌, ◌^◌, Bool, true, ap, arith, ◌∙◌}
-use Rattle.cv_seq.specs.Cause.{CausedBy}
-use Rattle.cv_desk.specs.Failing.{faults_after, next}
+use Rattle.cv_seq.specs.Cause.{CausedBy, next_count}
+use Rattle.cv_desk.specs.Failing.{faults_after}
 
 pub blamed : (before now behind behind' : ℕ) (fails : Bool) → fails ≡ true → now ≡ faults_after fails before → behind' ≡ behind → before < 2 ^ 64
     → CausedBy (before + behind) (now + behind') true
 blamed before now behind behind' fails t n same small =
-    let rose : now ≡ next before = n ∙ ap (λ b. faults_after b before) t in
+    let rose : now ≡ next_count before = n ∙ ap (λ b. faults_after b before) t in
     record { later = omega (arith, rose, same); rose = omega (arith, rose, same) }

@@ -1,9 +1,10 @@
 -- A layer that is loaded by its listing and its reads is the layer as it is loaded.
-use Rattle.std.proofs.Common.{◌≡◌, ℕ, Bool, true, false, ◌&&◌, ◌||◌, not, cond, nat_lt, List, [], ◌∷◌, ◌++◌, map, length, Option, Some, None, is_none, refl, ◌∙◌, ap}
+use Rattle.std.proofs.Common.{◌≡◌, ℕ, Bool, true, false, ◌&&◌, not, cond, nat_lt, List, [], ◌∷◌, ◌++◌, map, length, Option, Some, None, is_none, refl, ◌∙◌, ap}
 use Rattle.std.specs.Prelude.{IfOk, IfSome, Result, Ok, Err}
 use Rattle.std.specs.Option.{option_map}
-use Rattle.std.specs.Cmp.Lexicographic.{nat_list_eq_equiv, lists_equiv}
 use Rattle.std.specs.List.{AllByRecursion, list_all, list_any}
+use Rattle.std.proofs.lemmas.Bool.{or_parts}
+use Rattle.std.proofs.lemmas.List.Folds.{list_all-append}
 use Rattle.cv_base.specs.Path.{Path, same_path}
 use Rattle.cv_base.specs.Place.{place_of}
 use Rattle.cv_base.specs.declared.tree.Content.TheVariants.{Bytes, TooLarge, Unread}
@@ -11,6 +12,7 @@ use Rattle.cv_base.specs.declared.tree.ListEntry.{ListEntry}
 use Rattle.cv_base.specs.declared.tree.Node.TheVariants as node
 use Rattle.cv_base.specs.declared.tree.Tree.{Tree}
 use Rattle.cv_base.specs.declared.tree.TreeEntry.{TreeEntry}
+use Rattle.cv_base.proofs.Same.{path_self}
 use Rattle.cv_desk.specs.declared.desk.DeskFault.{DeskFault}
 use Rattle.cv_desk.specs.Loaded.{answered, loaded, loaded_by, loaded_kind, node_of}
 use Rattle.cv_desk.specs.Stored.{Item, Dir, File, Other, Stored, IsDistinctIn, is_distinct, item_at, kind_of, listed}
@@ -19,34 +21,23 @@ use Rattle.cv_desk.specs.Stored.{Item, Dir, File, Other, Stored, IsDistinctIn, i
 abbrev AreFound : List Stored → List Stored → Type 0
 AreFound all es = AllByRecursion (λ e. item_at all e.path ≡ Some e.item) es
 
-or_left : (a b : Bool) → a || b ≡ false → a ≡ false
-or_left true b h = h
-or_left false b h = refl
-
-or_right : (a b : Bool) → a || b ≡ false → b ≡ false
-or_right true b h = cc
-or_right false b h = h
-
 -- an entry of another path in front hides none
 behind : (e : Stored) (all es : List Stored) → list_any (λ f. same_path e.path f.path) es ≡ false → AreFound all es → AreFound (e ∷ all) es
 behind e all [] h found = tt
 behind e all (f ∷ fs) h found = (
-  rw (or_left (same_path e.path f.path) (list_any (λ g. same_path e.path g.path) fs) h) found.0,
-  behind e all fs (or_right (same_path e.path f.path) (list_any (λ g. same_path e.path g.path) fs) h) found.1,
+  rw (or_parts (same_path e.path f.path) (list_any (λ g. same_path e.path g.path) fs) h).0 found.0,
+  behind e all fs (or_parts (same_path e.path f.path) (list_any (λ g. same_path e.path g.path) fs) h).1 found.1,
 )
 
 not_false : (b c : Bool) → not b && c ≡ true → (b ≡ false) × (c ≡ true)
 not_false true c h = cc
 not_false false c h = (refl, h)
 
-same_itself : (p : Path) → same_path p p ≡ true
-same_itself p = (lists_equiv nat_list_eq_equiv).refl p
-
 found_all : (es : List Stored) → is_distinct es ≡ true → AreFound es es
 found_all [] h = tt
 found_all (e ∷ es) h =
     let parts = not_false (list_any (λ f. same_path e.path f.path) es) (is_distinct es) h in
-    (rw (same_itself e.path) refl, behind e es es parts.0 (found_all es parts.1))
+    (rw (path_self e.path) refl, behind e es es parts.0 (found_all es parts.1))
 
 file_by : (path : Path) (bytes : List ℕ) (none large : Bool)
     → cond none (node.File Unread) (answered (cond large Rattle.cv_desk.specs.declared.desk.FileRead.TheVariants.TooLarge (Rattle.cv_desk.specs.declared.desk.FileRead.TheVariants.Bytes bytes)))
@@ -73,12 +64,9 @@ entries_loaded all (e ∷ es) h = λ i. entry_loaded all e h.0 i ∷ entries_loa
 pub loaded_whole : (es : List Stored) → is_distinct es ≡ true → map (loaded_by (Some es)) (map listed es) ≡ map loaded es
 loaded_whole es h = entries_loaded es es (found_all es h)
 
+-- the last entry was read too
 pub all_snoc : {X : Type 0} (p : X → Bool) (xs : List X) (x : X) → list_all p xs ≡ true → p x ≡ true → list_all p (xs ++ x ∷ []) ≡ true
-all_snoc p [] x h k = rw k refl
-all_snoc p (y ∷ ys) x h k = by_test (p y) h (λ g. all_snoc p ys x g k) where
-  by_test : (b : Bool) → b && list_all p ys ≡ true → (list_all p ys ≡ true → list_all p (ys ++ x ∷ []) ≡ true) → b && list_all p (ys ++ x ∷ []) ≡ true
-  by_test true h others = others h
-  by_test false h others = cc
+all_snoc p xs x h k = list_all-append p xs (x ∷ []) ∙ rw (h, k) refl
 
 -- the entries of what was loaded
 abbrev entries_in : Option Tree → Option (List TreeEntry)

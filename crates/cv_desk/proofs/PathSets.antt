@@ -4,9 +4,8 @@ use Rattle.std.specs.BTreeSet.{BTreeSet, contains}
 use Rattle.std.specs.Cmp.Lexicographic.{lists_ties, slice_cmp, texts_ties}
 use Rattle.std.specs.Ordering.{is_eq, nat_cmp}
 use Rattle.cv_base.specs.Path.{Path, path_cmp, same_path}
-use Rattle.cv_base.proofs.Same.{path_is}
+use Rattle.cv_base.proofs.Lists.{any_last}
 use Rattle.cv_desk.specs.Stored.{Stored}
-use Rattle.cv_desk.specs.TableLaws.{any_snoc}
 use Rattle.cv_desk.specs.TableSteps.{HasPaths, stands}
 
 -- the second set has the paths of the first, and this one
@@ -26,10 +25,4 @@ one_more old new entries path has more q =
 
 pub paths_more : (old new : BTreeSet Path) (entries : List Stored) (entry : Stored) → HasPaths old entries → HasOneMore old new entry.path → HasPaths new (entries ++ entry ∷ [])
 paths_more old new entries entry has more = λ q.
-    one_more old new entries entry.path has more q ∙ or_by (same_path entry.path q) (stands entries q) ∙ sym (any_snoc (λ e. same_path e.path q) entries entry)
-
-pub paths_again : (old new : BTreeSet Path) (entries : List Stored) (path : Path) → HasPaths old entries → HasOneMore old new path → stands entries path ≡ true → HasPaths new entries
-paths_again old new entries path has more s = λ q. one_more old new entries path has more q ∙ by_test q (same_path path q) refl where
-  by_test : (q : Path) (b : Bool) → same_path path q ≡ b → cond b true (stands entries q) ≡ stands entries q
-  by_test q true h = sym (sym (ap (stands entries) (path_is path q h)) ∙ s)
-  by_test q false h = refl
+    one_more old new entries entry.path has more q ∙ or_by (same_path entry.path q) (stands entries q) ∙ sym (any_last (λ e. same_path e.path q) entries entry)

@@ -1,7 +1,7 @@
 -- A desk before another one, whose calls fail by a list (cvwatch's own, for tests). Listings and reads are numbered
 -- together, from 1 up to the last value of 64 bits.
-use Rattle.std.specs.Prelude.{ℕ, ◌+◌, ◌-◌, ◌^◌, ◌==◌, min, Bool, if◌then◌else◌, List}
-use Rattle.std.specs.List.{list_any}
+use Rattle.std.specs.Prelude.{ℕ, Bool, if◌then◌else◌, List}
+use Rattle.cv_seq.specs.Cause.{is_to_fail, next_count}
 
 -- such a desk: the one behind it, the numbers of the calls that are to fail, how many calls were made, how many of them
 -- were failed, and how many were listings
@@ -12,18 +12,10 @@ pub record Failing (D : Type 0) : Type 0 where
   pub faults : ℕ
   pub listings : ℕ
 
--- the number of the call after so many, and the count of faults after one more
-abbrev pub next : ℕ → ℕ
-next count = min (count + 1) (2 ^ 64 - 1)
-
--- whether the call with this number is to fail
-abbrev pub is_to_fail : List ℕ → ℕ → Bool
-is_to_fail fails call = list_any (λ number. number == call) fails
-
 -- whether the next call is to fail
 abbrev pub fails_next : {D : Type 0} → Failing D → Bool
-fails_next desk = is_to_fail desk.fails (next desk.calls)
+fails_next desk = is_to_fail desk.fails (next_count desk.calls)
 
 -- the count of faults after a call, if it was to fail or not
 abbrev pub faults_after : Bool → ℕ → ℕ
-faults_after fails faults = if fails then next faults else faults
+faults_after fails faults = if fails then next_count faults else faults

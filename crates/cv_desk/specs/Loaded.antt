@@ -19,6 +19,7 @@ abbrev pub content_of : Path → List ℕ → Content
 content_of path bytes =
     if is_none (place_of path) then Unread else (if nat_lt 33554432 (length bytes) then TooLarge else Bytes bytes)
 
+-- an item as it is loaded at a path
 abbrev pub node_of : Path → Item → Node
 node_of path Dir = node.Dir
 node_of path (File bytes) = node.File (content_of path bytes)
@@ -56,6 +57,7 @@ is_read_node path (node.File TooLarge) = true
 is_read_node path (node.File Unread) = is_none (place_of path)
 is_read_node path node.Other = true
 
+-- an entry's file was read, where it had to be
 abbrev pub is_read : TreeEntry → Bool
 is_read entry = is_read_node entry.path entry.node
 

@@ -4,6 +4,7 @@ use Rattle.cv_base.specs.declared.tree.Kind.{Kind}
 use Rattle.cv_base.specs.declared.tree.Kind.TheVariants as kind
 use Rattle.cv_desk.specs.Row.{Row}
 
+-- a row of a table
 abbrev pub row : List ℕ → Kind → List ℕ → Row
 row path kind bytes = record { path = path; kind = kind; bytes = bytes }
 

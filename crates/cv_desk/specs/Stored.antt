@@ -15,6 +15,7 @@ pub data Item : Type 0 where
   File : List ℕ → Item
   Other : Item
 
+-- an entry of a layer with all that is stored of it
 pub record Stored : Type 0 where
   pub path : Path
   pub item : Item
@@ -24,6 +25,7 @@ abbrev pub is_distinct : List Stored → Bool
 is_distinct [] = true
 is_distinct (e ∷ es) = not (list_any (λ f. same_path e.path f.path) es) && is_distinct es
 
+-- the kind of an item
 abbrev pub kind_of : Item → Kind
 kind_of Dir = kind.Dir
 kind_of (File bytes) = kind.File

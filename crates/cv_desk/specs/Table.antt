@@ -8,6 +8,7 @@ use Rattle.cv_base.specs.declared.tree.Kind.TheVariants as kind
 use Rattle.cv_desk.specs.Row.{Row}
 use Rattle.cv_desk.specs.Stored.{Item, Dir, File, Other, Stored}
 
+-- the item of a row; only a file has bytes
 abbrev pub item_of : Kind → List ℕ → Item
 item_of kind.Dir bytes = Dir
 item_of kind.File bytes = File bytes
@@ -27,6 +28,7 @@ abbrev pub entry_read : List Row → Row → Result Path PathError → Option St
 entry_read before row (Ok path) = if have before path then None else Some (record { path = path; item = item_of row.kind row.bytes })
 entry_read before row (Err error) = None
 
+-- the same, where the text of the row is read here
 abbrev pub entry_behind : List Row → Row → Option Stored
 entry_behind before row = entry_read before row (path_of row.path)
 

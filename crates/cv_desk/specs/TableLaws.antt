@@ -1,27 +1,18 @@
 -- Rows that are added one by one make the tree of a table, and no path stands twice in it.
-use Rattle.std.specs.Prelude.{◌≡◌, ℕ, Bool, true, false, ◌&&◌, ◌||◌, ◌==◌, not, cond, List, [], ◌∷◌, ◌++◌, Option, Some, None, option_map, option_to_list, Result, Ok, Err, refl, fold}
+use Rattle.std.specs.Prelude.{◌≡◌, Bool, true, false, ◌&&◌, ◌||◌, not, cond, List, [], ◌∷◌, ◌++◌, Option, Some, None, option_map, option_to_list, Result, Ok, Err, refl, fold}
 use Rattle.std.specs.List.{list_any}
-use Rattle.std.proofs.Common.{ap, append-nil, sym, ◌∙◌}
+use Rattle.std.proofs.Common.{ap, append-nil, append_assoc, sym, ◌∙◌}
 use Rattle.std.proofs.Math.Bool.{or_comm}
 use Rattle.cv_base.specs.Path.{Path, path_of, same_path}
 use Rattle.cv_base.proofs.Same.{path_is}
 use Rattle.cv_base.specs.declared.path.PathError.{PathError}
+use Rattle.cv_base.proofs.Lists.{any_last}
 use Rattle.cv_desk.specs.Row.{Row}
 use Rattle.cv_desk.specs.Stored.{Stored, is_distinct, IsDistinctIn, item_at}
 use Rattle.cv_desk.specs.Table.{entries_behind, entry_read, have, is_path, item_of, tree_of_rows}
 use Rattle.cv_desk.specs.TableSteps.{first_at, stands, with_read, with_row}
 
 -- No path stands twice in entries that were added one by one.
-
-pub any_snoc : {X : Type 0} (p : X → Bool) (xs : List X) (x : X) → list_any p (xs ++ x ∷ []) ≡ list_any p xs || p x
-any_snoc p [] x = or_false (p x) where
-  or_false : (b : Bool) → b || false ≡ b
-  or_false true = refl
-  or_false false = refl
-any_snoc p (y ∷ ys) x = by_test (p y) (any_snoc p ys x) where
-  by_test : (b : Bool) → list_any p (ys ++ x ∷ []) ≡ list_any p ys || p x → b || list_any p (ys ++ x ∷ []) ≡ (b || list_any p ys) || p x
-  by_test true h = refl
-  by_test false h = h
 
 append_by : (x y z : Bool) (later longer : Bool) → not x && later ≡ true → y || z ≡ false → (later ≡ true → z ≡ false → longer ≡ true) → not (x || y) && longer ≡ true
 append_by true y z later longer d s others = cc
@@ -31,7 +22,7 @@ append_by false false z later longer d s others = others d s
 append_distinct : (entries : List Stored) (entry : Stored) → is_distinct entries ≡ true → stands entries entry.path ≡ false → is_distinct (entries ++ entry ∷ []) ≡ true
 append_distinct [] entry d s = refl
 append_distinct (e ∷ es) entry d s =
-    rw (any_snoc (λ f. same_path e.path f.path) es entry)
+    rw (any_last (λ f. same_path e.path f.path) es entry)
     (append_by (list_any (λ f. same_path e.path f.path) es) (same_path e.path entry.path) (stands es entry.path) (is_distinct es) (is_distinct (es ++ entry ∷ []))
     d s (λ h k. append_distinct es entry h k))
 
@@ -51,10 +42,6 @@ rows_distinct entries [] d = d
 rows_distinct entries (row ∷ rows) d = rows_distinct (with_row entries row) rows (read_distinct entries row (path_of row.path) d)
 
 -- The entries that were added one by one are those of the tree.
-
-append_one : (es : List Stored) (e : Stored) (fs : List Stored) → (es ++ e ∷ []) ++ fs ≡ es ++ e ∷ fs
-append_one [] e fs = refl
-append_one (d ∷ es) e fs = ap (λ gs. d ∷ gs) (append_one es e fs)
 
 -- the entries have the paths that the rows have
 abbrev Alike : List Stored → List Row → Type 0
@@ -79,7 +66,7 @@ alike_again entries before row path e s alike = λ p. by_test p (same_path path 
 alike_new : (entries : List Stored) (before : List Row) (row : Row) (entry : Stored) → path_of row.path ≡ Ok entry.path → Alike entries before
     → Alike (entries ++ entry ∷ []) (row ∷ before)
 alike_new entries before row entry e alike = λ p.
-    any_snoc (λ f. same_path f.path p) entries entry ∙ ap (λ b. b || same_path entry.path p) (alike p) ∙ or_comm (have before p) (same_path entry.path p)
+    any_last (λ f. same_path f.path p) entries entry ∙ ap (λ b. b || same_path entry.path p) (alike p) ∙ or_comm (have before p) (same_path entry.path p)
     ∙ sym (ap (λ found. is_path found p || have before p) e)
 
 row_adds : (entries : List Stored) (before rows : List Row) (row : Row) (found : Result Path PathError) → path_of row.path ≡ found → Alike entries before
@@ -95,7 +82,7 @@ row_adds entries before rows row (Ok path) e alike adds =
       by_test entry e true s false h = cc
       by_test entry e false s true h = cc
       by_test entry e false s false h =
-          adds (entries ++ entry ∷ []) (alike_new entries before row entry e alike) ∙ append_one entries entry (entries_behind (row ∷ before) rows)
+          adds (entries ++ entry ∷ []) (alike_new entries before row entry e alike) ∙ append_assoc entries (entry ∷ []) (entries_behind (row ∷ before) rows)
 
 rows_add : (before rows : List Row) → Adds before rows
 rows_add before [] = λ entries alike. sym (append-nil entries)
@@ -129,6 +116,7 @@ behind_found : (before rows : List Row) (p : Path) → have before p ≡ false �
 behind_found before [] p h = refl
 behind_found before (row ∷ rows) p h = row_found before rows row p (path_of row.path) refl h (λ k. behind_found (row ∷ before) rows p k)
 
+-- what the first row of a path has is what the tree has there
 pub first_found : (rows : List Row) (p : Path) → first_at rows p ≡ item_at (tree_of_rows rows) p
 first_found rows p = sym (behind_found [] rows p refl)
 

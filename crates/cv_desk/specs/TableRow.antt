@@ -5,6 +5,7 @@ use Rattle.cv_desk.specs.Table.{item_of}
 use Rattle.cv_desk.specs.declared.table.Entry.{Entry}
 use Rattle.cv_desk.specs.declared.table.TableEntry.{TableEntry}
 
+-- a row as the code holds it
 abbrev pub row_of : TableEntry → Row
 row_of e = record { path = e.path.now; kind = e.kind; bytes = e.bytes.now }
 

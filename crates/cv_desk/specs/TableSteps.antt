@@ -26,6 +26,7 @@ abbrev pub with_read : List Stored → Row → Result Path PathError → List St
 with_read entries row (Ok path) = with_entry entries (record { path = path; item = item_of row.kind row.bytes })
 with_read entries row (Err error) = entries
 
+-- the same, where the text of the row is read here
 abbrev pub with_row : List Stored → Row → List Stored
 with_row entries row = with_read entries row (path_of row.path)
 

@@ -1,7 +1,7 @@
 ghost use Rattle.std.specs.Prelude.{◌≡◌, ◌+◌, ◌<◌, ◌^◌, MatchBool, IfOk, IfSome, map};
 ghost use Rattle.std.specs.Option.{option_map};
-ghost use Rattle.cv_seq.specs.Cause.{CausedBy};
-ghost use Rattle.cv_desk.specs.Failing.{fails_next, faults_after, next};
+ghost use Rattle.cv_seq.specs.Cause.{CausedBy, next_count};
+ghost use Rattle.cv_desk.specs.Failing.{fails_next, faults_after};
 ghost use Rattle.cv_desk.specs.Fault.{is_failed};
 ghost use Rattle.cv_desk.specs.Stored.{file_read, item_in, listed};
 
@@ -54,7 +54,7 @@ impl<D: Desk> Faulty<D> {
     fn begin(&mut self) -> bool
         ensures fails { result ≡ fails_next self.old }
         ensures small { self.old.faults < 2 ^ 64 }
-        ensures counted { self.new ≡ record self.old { calls = next self.old.calls; faults = faults_after (fails_next self.old) self.old.faults } }
+        ensures counted { self.new ≡ record self.old { calls = next_count self.old.calls; faults = faults_after (fails_next self.old) self.old.faults } }
     {
         self.calls = self.calls.saturating_add(1);
         let fails = self.fails.as_slice().contains(&self.calls);
@@ -82,7 +82,7 @@ impl<D: Desk> Desk for Faulty<D> {
         ensures cause { CausedBy (self.old.faults + D.faults self.old.desk) (self.new.faults + D.faults self.new.desk) (is_failed result) }
         ensures counted { self.new.listings ≡ self.old.listings + 1 }
         ensures fails { self.new.fails ≡ self.old.fails }
-        ensures call { self.new.calls ≡ next self.old.calls }
+        ensures call { self.new.calls ≡ next_count self.old.calls }
         ensures faults { self.new.faults ≡ faults_after (fails_next self.old) self.old.faults }
         ensures answer { MatchBool (fails_next self.old) (result ≡ Err DeskFault.Failed) (CausedBy (D.faults self.old.desk) (D.faults self.new.desk) (is_failed result)) }
         ensures behind { MatchBool (fails_next self.old) (self.new.desk ≡ self.old.desk) (D.listings self.new.desk ≡ D.listings self.old.desk + 1) }
@@ -106,7 +106,7 @@ impl<D: Desk> Desk for Faulty<D> {
         ensures cause { CausedBy (self.old.faults + D.faults self.old.desk) (self.new.faults + D.faults self.new.desk) (is_failed result) }
         ensures same { self.new.listings ≡ self.old.listings }
         ensures fails { self.new.fails ≡ self.old.fails }
-        ensures call { self.new.calls ≡ next self.old.calls }
+        ensures call { self.new.calls ≡ next_count self.old.calls }
         ensures faults { self.new.faults ≡ faults_after (fails_next self.old) self.old.faults }
         ensures answer { MatchBool (fails_next self.old) (result ≡ Err DeskFault.Failed) (CausedBy (D.faults self.old.desk) (D.faults self.new.desk) (is_failed result)) }
         ensures behind { MatchBool (fails_next self.old) (self.new.desk ≡ self.old.desk) (D.listings self.new.desk ≡ D.listings self.old.desk) }

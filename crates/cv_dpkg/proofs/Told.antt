@@ -3,8 +3,9 @@ use Rattle.std.proofs.Common.{◌≡◌, ℕ, ◌+◌, Bool, true, false, ◌||�
 use Rattle.std.specs.Bool.{MatchBool, ⊤}
 use Rattle.std.specs.List.{flat_map, onto_first, slice_split}
 use Rattle.std.specs.Option.{is_some, option_map_or, option_or}
-use Rattle.cv_base.specs.Lines.{Line, and_then, answer, as_read, at, bad, given, is_gap, last_number, line_faults, numbered}
+use Rattle.cv_base.specs.Lines.{Line, answer, as_read, at, bad, given, is_gap, last_number, line_faults, numbered}
 use Rattle.cv_base.specs.Reading.{is_read_memory}
+use Rattle.cv_base.specs.Results.{◌>>=◌}
 use Rattle.cv_base.specs.Texts.{is_nil}
 use Rattle.cv_base.specs.declared.fault.FileBad.{FileBad}
 use Rattle.cv_base.specs.declared.fault.ReadBad.{ReadBad}
@@ -127,19 +128,19 @@ closed : (rule : StatusRule) (p : List Line) (found : List DebPackage) → close
 closed rule [] found = ap Ok (sym (append-nil found))
 closed rule (l ∷ ls) found = closed_by (whole_fault rule (facts (l ∷ ls))) (last_number (l ∷ ls)) found (found ++ packages (l ∷ ls)) (some_or (last_number ls) l.number)
 
-joint : (e f : List FileBad) (found q ps : List DebPackage) → as_read (answer (e ++ f) (found ++ (q ++ ps))) ≡ and_then (as_read (answer e (found ++ q))) (λ o. as_read (answer f (o ++ ps)))
+joint : (e f : List FileBad) (found q ps : List DebPackage) → as_read (answer (e ++ f) (found ++ (q ++ ps))) ≡ (as_read (answer e (found ++ q)) >>= λ o. as_read (answer f (o ++ ps)))
 joint [] f found q ps = ap (λ o. as_read (answer f o)) (sym (append_assoc found q ps))
 joint (x ∷ e) f found q ps = refl
 
 -- a paragraph whose lines have no fault is ended, and then the next ones are answered
 answer_cons : (rule : StatusRule) (p : List Line) (found : List DebPackage) (ps : List (List Line)) → line_faults line_fault [] p ≡ []
-    → answer_all rule found (p ∷ ps) ≡ and_then (close rule (state_of p) found) (λ o. answer_all rule o ps)
+    → answer_all rule found (p ∷ ps) ≡ (close rule (state_of p) found >>= λ o. answer_all rule o ps)
 answer_cons rule p found ps e = ap (λ f. as_read (answer ((f ++ end_faults rule p) ++ flat_map (faults rule) ps) (found ++ (packages p ++ flat_map packages ps)))) e
     ∙ joint (end_faults rule p) (flat_map (faults rule) ps) found (packages p) (flat_map packages ps)
-    ∙ ap (λ r. and_then r (λ o. answer_all rule o ps)) (sym (closed rule p found))
+    ∙ ap (λ r. r >>= λ o. answer_all rule o ps) (sym (closed rule p found))
 
 -- nothing more is left
-answer_end : (rule : StatusRule) (r : Result (List DebPackage) ReadBad) → and_then r (λ o. answer_all rule o []) ≡ r
+answer_end : (rule : StatusRule) (r : Result (List DebPackage) ReadBad) → (r >>= λ o. answer_all rule o []) ≡ r
 answer_end rule (Ok o) = ap Ok (append-nil o)
 answer_end rule (Err e) = refl
 
@@ -165,9 +166,9 @@ glue_bad rule p l (h ∷ t) found w e k = answer_bad rule (p ++ l ∷ h) found t
 -- one more line, where what follows it is told
 line_case : (rule : StatusRule) (p : List Line) (l : Line) (s : List (List Line)) (found : List DebPackage) (k : State → Result (List DebPackage) ReadBad) → line_faults line_fault [] p ≡ []
     → (line_faults line_fault [] (p ++ l ∷ []) ≡ [] → k (state_of (p ++ l ∷ [])) ≡ answer_all rule found (glue (p ++ l ∷ []) s))
-    → and_then (line_step (state_of p) l.number l.text) k ≡ answer_all rule found (glue p (onto_first l s))
-line_case rule p l s found k e h = ap (λ r. and_then r k) (line_given p l) ∙ by (line_fault p l.text) refl where
-  by : (w : Option What) → line_fault p l.text ≡ w → and_then (given l.number w (state_of (p ++ l ∷ []))) k ≡ answer_all rule found (glue p (onto_first l s))
+    → (line_step (state_of p) l.number l.text >>= k) ≡ answer_all rule found (glue p (onto_first l s))
+line_case rule p l s found k e h = ap (λ r. r >>= k) (line_given p l) ∙ by (line_fault p l.text) refl where
+  by : (w : Option What) → line_fault p l.text ≡ w → (given l.number w (state_of (p ++ l ∷ [])) >>= k) ≡ answer_all rule found (glue p (onto_first l s))
   by None q = h (none_yet p l e q) ∙ ap (answer_all rule found) (glue_first p l s)
   by (Some w) q = sym (glue_bad rule p l s found w e q)
 
@@ -175,7 +176,7 @@ line_case rule p l s found k e h = ap (λ r. and_then r k) (line_given p l) ∙ 
 told_is : (rule : StatusRule) (p : List Line) (n : ℕ) (found : List DebPackage) (ts : List (List ℕ)) → line_faults line_fault [] p ≡ []
     → told rule n (state_of p) found ts ≡ answer_all rule found (glue p (slice_split is_gap (numbered (n + 1) ts)))
 told_is rule p n found [] e = sym (ap (λ q. answer_all rule found (q ∷ [])) (append-nil p) ∙ (answer_cons rule p found [] e ∙ answer_end rule (close rule (state_of p) found)))
-told_is rule p n found ([] ∷ ts) e = ap (and_then (close rule (state_of p) found))
+told_is rule p n found ([] ∷ ts) e = ap (◌>>=◌ (close rule (state_of p) found))
     (λ i o. (told_is rule [] (n + 1) o ts refl ∙ ap (answer_all rule o) (glue_none (numbered (n + 1 + 1) ts))) i)
     ∙ (sym (answer_cons rule p found (slice_split is_gap (numbered (n + 1 + 1) ts)) e) ∙ ap (λ q. answer_all rule found (q ∷ slice_split is_gap (numbered (n + 1 + 1) ts))) (sym (append-nil p)))
 told_is rule p n found ((x ∷ xs) ∷ ts) e = line_case rule p (record { number = n + 1; text = x ∷ xs }) (slice_split is_gap (numbered (n + 1 + 1) ts)) found
@@ -186,6 +187,6 @@ pub told_status : (rule : StatusRule) (bytes : List ℕ) → told rule 0 opening
 told_status rule bytes = told_is rule [] 0 [] (lines_left (Some bytes)) refl ∙ ap (answer_all rule []) (glue_none (numbered 1 (lines_left (Some bytes))))
 
 -- a step that was refused refuses all
-pub stopped : {A B : Type 0} (r : Result A ReadBad) (f : A → Result B ReadBad) (e : ReadBad) → MatchBool (is_read_memory e) ⊤ (r ≡ Err e) → MatchBool (is_read_memory e) ⊤ (and_then r f ≡ Err e)
-stopped r f (Bad w) h = ap (λ r. and_then r f) h
+pub stopped : {A B : Type 0} (r : Result A ReadBad) (f : A → Result B ReadBad) (e : ReadBad) → MatchBool (is_read_memory e) ⊤ (r ≡ Err e) → MatchBool (is_read_memory e) ⊤ ((r >>= f) ≡ Err e)
+stopped r f (Bad w) h = ap (λ r. r >>= f) h
 stopped r f NoMemory h = tt

@@ -2,7 +2,8 @@
 use Rattle.std.specs.Prelude.{ℕ, ◌+◌, Bool, true, false, if◌then◌else◌, not, List, [], ◌∷◌, ◌++◌, map, Option, None, Some, Result, Ok}
 use Rattle.std.specs.Option.{option_map_or}
 use Rattle.cv_base.specs.Cuts.{is_dropped, split_left, without_end}
-use Rattle.cv_base.specs.Lines.{and_then, bad, given}
+use Rattle.cv_base.specs.Lines.{bad, given}
+use Rattle.cv_base.specs.Results.{◌>>=◌}
 use Rattle.cv_base.specs.Texts.{is_nil}
 use Rattle.cv_base.specs.declared.fault.ReadBad.{ReadBad}
 use Rattle.cv_base.specs.declared.fault.What.TheVariants.{NoColon, BadField, RepeatedField, LooseContinuation}
@@ -59,8 +60,8 @@ close rule s found = option_map_or (λ n. given n (whole_fault rule s.told) (fou
 abbrev pub told : StatusRule → ℕ → State → List DebPackage → List (List ℕ) → Result (List DebPackage) ReadBad
 told rule n s found [] = close rule s found
 told rule n s found (t ∷ ts) =
-    if is_nil t then and_then (close rule s found) (λ o. told rule (n + 1) opening o ts)
-    else and_then (line_step s (n + 1) t) (λ k. told rule (n + 1) k found ts)
+    if is_nil t then (close rule s found >>= λ o. told rule (n + 1) opening o ts)
+    else (line_step s (n + 1) t >>= λ k. told rule (n + 1) k found ts)
 
 -- the lines of what is left of the bytes, without what is dropped at their ends
 abbrev pub lines_left : Option (List ℕ) → List (List ℕ)

@@ -4,28 +4,12 @@ use Rattle.std.specs.Prelude.{Option, None, Some}
 use Rattle.std.specs.Io.KnownBytes.{Consumes}
 use Rattle.cv_io.specs.Takes.{Progress, Takes}
 
--- nothing was consumed
-pub Consumes-none : (a : Option (List ℕ)) → Consumes a a []
-Consumes-none None = tt
-Consumes-none (Some xs) = refl
-
 -- one piece consumed after another
 pub Consumes-more : (a b c : Option (List ℕ)) (xs ys : List ℕ) → Consumes a b xs → Consumes b c ys → Consumes a c (xs ++ ys)
 Consumes-more None b c xs ys h k = tt
 Consumes-more (Some l) None c xs ys h k = absurd h
 Consumes-more (Some l) (Some m) None xs ys h k = absurd k
 Consumes-more (Some l) (Some m) (Some n) xs ys h k = h ∙ ap (λ v. xs ++ v) k ∙ sym (append_assoc xs ys n)
-
--- nothing was taken
-pub Takes-none : (held : List ℕ) (p : Progress) (left : Option (List ℕ)) → Takes held held p p left left
-Takes-none held p left = record {
-  more = [];
-  joined = sym (append-nil held);
-  consumed = Consumes-none left;
-  counted = omega arith;
-  over = λ e. (refl, e);
-  seen = λ before now. before now;
-}
 
 -- one taking after another
 pub Takes-more : (a b c : List ℕ) (p q r : Progress) (l m n : Option (List ℕ)) → Takes a b p q l m → Takes b c q r m n → Takes a c p r l n

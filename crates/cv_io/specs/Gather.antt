@@ -10,9 +10,11 @@ use Rattle.cv_io.specs.Reader.{Reader}
 abbrev pub held_by : Gather → List ℕ
 held_by g = g.line.items ++ g.chunk
 
+-- what a gathering took, and whether its source ended
 abbrev pub progress_by : Gather → Progress
 progress_by g = record { taken = g.taken; ended = g.ended }
 
+-- a gathering as a reader
 abbrev pub reader_of : Gather → Bool → Reader
 reader_of g spent = record {
   held = held_by g;

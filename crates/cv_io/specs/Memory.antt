@@ -1,7 +1,6 @@
 -- Sources and sinks in memory, whose calls fail by a list (cvwatch's own, for tests). Calls are numbered from 1, up to
 -- the last value of 64 bits.
-use Rattle.std.specs.Prelude.{ℕ, ◌+◌, ◌-◌, ◌^◌, ◌==◌, min, Bool, List}
-use Rattle.std.specs.List.{list_any}
+use Rattle.std.specs.Prelude.{ℕ, List}
 
 -- a source or a sink in memory that never fails: the bytes that are left or were written, and the most that one call moves
 pub record Pieces : Type 0 where
@@ -25,11 +24,3 @@ pub record Store : Type 0 where
   pub fails : List ℕ
   pub calls : ℕ
   pub faults : ℕ
-
--- the number of the call after so many
-abbrev pub call_after : ℕ → ℕ
-call_after calls = min (calls + 1) (2 ^ 64 - 1)
-
--- the call is to fail
-abbrev pub is_to_fail : List ℕ → ℕ → Bool
-is_to_fail fails call = list_any (λ number. number == call) fails

@@ -26,6 +26,7 @@ pub record Reader : Type 0 where
 abbrev pub new_reader : ℕ → ℕ → Reader
 new_reader max_line max_input = record { held = []; taken = 0; ended = false; spent = false; max_line = max_line; max_input = max_input }
 
+-- what a reader took, and whether its source ended
 abbrev pub progress_of : Reader → Progress
 progress_of r = record { taken = r.taken; ended = r.ended }
 

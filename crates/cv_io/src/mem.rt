@@ -1,9 +1,8 @@
 ghost use Rattle.std.specs.Prelude.{◌≡◌, ◌≤◌, ℕ, List, [], Some, length, drop, min, IfOk, OnOk, OnErr, take, ◌++◌, ◌<◌};
 ghost use Rattle.std.specs.Io.{ReadsAtMost};
 ghost use Rattle.std.specs.Io.KnownBytes.{ReadConsumes, WriteAppends};
-ghost use Rattle.cv_seq.specs.Cause.{CausedBy};
+ghost use Rattle.cv_seq.specs.Cause.{CausedBy, is_to_fail, next_count};
 ghost use Rattle.cv_io.specs.Fault.{is_failed};
-ghost use Rattle.cv_io.specs.Memory.{is_to_fail, call_after};
 
 use crate::copies::copy_front;
 use crate::fault::IoFault;
@@ -63,8 +62,8 @@ impl Source for MemSource {
         ensures bytes { ReadConsumes (Some self.old.left) (Some self.new.left) result buf.new }
         ensures cause { CausedBy self.old.faults self.new.faults (is_failed result) }
         ensures count { IfOk result (λ n. n ≡ min (min (length self.old.left) self.old.piece) (length buf.old)) }
-        ensures call { self.new.calls ≡ call_after self.old.calls }
-        ensures failed { is_failed result ≡ is_to_fail self.old.fails (call_after self.old.calls) }
+        ensures call { self.new.calls ≡ next_count self.old.calls }
+        ensures failed { is_failed result ≡ is_to_fail self.old.fails (next_count self.old.calls) }
         ensures piece { self.new.piece ≡ self.old.piece }
         ensures fails { self.new.fails ≡ self.old.fails }
     {
@@ -135,8 +134,8 @@ impl Sink for MemSink {
         ensures bytes { WriteAppends (Some self.old.contents) (Some self.new.contents) result bytes.now }
         ensures cause { CausedBy self.old.faults self.new.faults (is_failed result) }
         ensures count { IfOk result (λ n. n ≡ min (length bytes.now) self.old.piece) }
-        ensures call { self.new.calls ≡ call_after self.old.calls }
-        ensures failed { is_failed result ≡ is_to_fail self.old.fails (call_after self.old.calls) }
+        ensures call { self.new.calls ≡ next_count self.old.calls }
+        ensures failed { is_failed result ≡ is_to_fail self.old.fails (next_count self.old.calls) }
         ensures piece { self.new.piece ≡ self.old.piece }
         ensures fails { self.new.fails ≡ self.old.fails }
     {

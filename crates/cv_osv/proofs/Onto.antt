@@ -1,18 +1,9 @@
 -- A list that is read item by item: what has been read, and then what is left.
 use Rattle.std.specs.Prelude.{◌≡◌, List, [], ◌∷◌, ◌++◌, Result, Ok, Err, refl}
-use Rattle.std.proofs.Common.{ap, append_assoc}
-use Rattle.cv_osv.specs.Json.{◌>>=◌, each, each_joined, onto}
+use Rattle.cv_base.specs.Results.{onto}
+use Rattle.cv_base.proofs.Results.{onto_joined, onto_one}
+use Rattle.cv_osv.specs.Json.{each, each_joined}
 use Rattle.serde_json.specs.Data.{Data, Items, item}
-
--- what one item is read as may stand in front
-onto_joined : {A E : Type 0} (front x : List A) (rest : Result (List A) E) → onto (front ++ x) rest ≡ onto front (rest >>= λ xs. Ok (x ++ xs))
-onto_joined front x (Ok xs) = ap Ok (append_assoc front x xs)
-onto_joined front x (Err e) = refl
-
--- the same of one thing
-onto_one : {A E : Type 0} (front : List A) (x : A) (rest : Result (List A) E) → onto (front ++ x ∷ []) rest ≡ onto front (rest >>= λ xs. Ok (x ∷ xs))
-onto_one front x (Ok xs) = ap Ok (append_assoc front (x ∷ []) xs)
-onto_one front x (Err e) = refl
 
 -- one more item was read
 pub each_more : {A E : Type 0} (f : Data → Result A E) (front : List A) (d : Data) (ds : Items) (x : A) → f d ≡ Ok x → onto (front ++ x ∷ []) (each f ds) ≡ onto front (each f (item d ds))

@@ -3,6 +3,7 @@ use Rattle.std.specs.Prelude.{◌≡◌, ℕ, ◌+◌, Bool, true, false, cond, 
 use Rattle.std.specs.BTreeMap.{BTreeMap, get}
 use Rattle.std.specs.Cmp.Lexicographic.{bytes_decides, nat_list_eq_equiv, slice_cmp, texts_ties}
 use Rattle.std.specs.List.{AllByRecursion, IsDistinct, position_from}
+use Rattle.std.specs.Option.{option_or}
 use Rattle.std.specs.Ordering.{is_eq, nat_cmp}
 use Rattle.std.proofs.Common.{◌∙◌, sym, ap, arith}
 use Rattle.std.proofs.lemmas.Option.{none-some}
@@ -11,20 +12,15 @@ use Rattle.cv_base.specs.declared.advisory.Advisory.{Advisory}
 use Rattle.cv_osv.specs.Records.{HasDistinctIds}
 use Rattle.cv_osv.specs.Told.{index_of, Indexes}
 
--- the first of two that is there
-abbrev or_else : Option ℕ → Option ℕ → Option ℕ
-or_else None y = y
-or_else (Some n) y = Some n
-
 -- an item behind the others is found where none of them was
-position_snoc : {X : Type 0} (p : X → Bool) (i : ℕ) (xs : List X) (x : X) → position_from p i (xs ++ x ∷ []) ≡ or_else (position_from p i xs) (cond (p x) (Some (i + length xs)) None)
+position_snoc : {X : Type 0} (p : X → Bool) (i : ℕ) (xs : List X) (x : X) → position_from p i (xs ++ x ∷ []) ≡ option_or (position_from p i xs) (cond (p x) (Some (i + length xs)) None)
 position_snoc p i [] x = ap (λ n. cond (p x) (Some n) None) (omega arith)
 position_snoc p i (y ∷ ys) x = by_test (p y) (position_snoc p (i + 1) ys x)
   where
-    by_test : (found : Bool) → position_from p (i + 1) (ys ++ x ∷ []) ≡ or_else (position_from p (i + 1) ys) (cond (p x) (Some (i + 1 + length ys)) None)
-        → cond found (Some i) (position_from p (i + 1) (ys ++ x ∷ [])) ≡ or_else (cond found (Some i) (position_from p (i + 1) ys)) (cond (p x) (Some (i + length (y ∷ ys))) None)
+    by_test : (found : Bool) → position_from p (i + 1) (ys ++ x ∷ []) ≡ option_or (position_from p (i + 1) ys) (cond (p x) (Some (i + 1 + length ys)) None)
+        → cond found (Some i) (position_from p (i + 1) (ys ++ x ∷ [])) ≡ option_or (cond found (Some i) (position_from p (i + 1) ys)) (cond (p x) (Some (i + length (y ∷ ys))) None)
     by_test true more = refl
-    by_test false more = more ∙ ap (λ n. or_else (position_from p (i + 1) ys) (cond (p x) (Some n) None)) (omega arith)
+    by_test false more = more ∙ ap (λ n. option_or (position_from p (i + 1) ys) (cond (p x) (Some n) None)) (omega arith)
 
 -- no records
 pub distinct_none : HasDistinctIds []
@@ -63,12 +59,12 @@ indexes_more places more records here indexed fresh updated id =
     ∙ by_same (same id here.id) refl ∙ sym (position_snoc (λ there. same id there.id) 0 records here)
   where
     by_same : (found : Bool) → same id here.id ≡ found
-        → cond found (Some (length records)) (get (slice_cmp nat_cmp) places id) ≡ or_else (index_of id records) (cond found (Some (0 + length records)) None)
+        → cond found (Some (length records)) (get (slice_cmp nat_cmp) places id) ≡ option_or (index_of id records) (cond found (Some (0 + length records)) None)
     by_same true e =
         let none : index_of id records ≡ None = ap (λ t. index_of t records) ((bytes_decides id here.id).0 e) ∙ sym (indexed here.id) ∙ fresh in
         rw none (ap Some (omega arith))
     by_same false e = indexed id ∙ kept (index_of id records)
       where
-        kept : (found : Option ℕ) → found ≡ or_else found None
+        kept : (found : Option ℕ) → found ≡ option_or found None
         kept None = refl
         kept (Some n) = refl

@@ -4,54 +4,63 @@ use Rattle.std.specs.List.{position_from}
 use Rattle.std.specs.Option.{option_to_list}
 use Rattle.std.proofs.Common.{◌∙◌, sym, ap, append_assoc, le-ltb, lt-ltb}
 use Rattle.std.proofs.lemmas.List.{append-nil, length-map, map-append}
+use Rattle.cv_base.specs.Results.{◌>>=◌}
 use Rattle.cv_base.specs.Texts.{same}
 use Rattle.cv_base.specs.declared.advisory.Advisory.{Advisory}
-use Rattle.cv_osv.specs.Json.{◌>>=◌, items_list}
+use Rattle.cv_osv.specs.Json.{items_list}
 use Rattle.cv_osv.specs.Record.{advisory_of}
-use Rattle.cv_osv.specs.Records.{Reading, has_id, faults_behind, records_in, unless, listed, records_of}
-use Rattle.cv_osv.specs.Told.{index_of, one_more, pushed, told}
+use Rattle.cv_osv.specs.Records.{RecordRead, fault_behind, faults_behind, has_id, listed, one_more, reads_of, records_in, records_of, unless}
+use Rattle.cv_osv.specs.Told.{index_of, pushed, put, told}
+use Rattle.cv_osv.specs.declared.error.OsvError.{OsvError}
 use Rattle.cv_osv.specs.declared.error.OsvError.TheVariants.{BadAdvisory, DuplicateId, NotList, TooMany}
 use Rattle.serde_json.specs.Data.{Data}
 use Rattle.serde_json.specs.Find.{as_array}
 use Rattle.serde_json.specs.View.{items_of, items_view, view}
 use Rattle.serde_json.specs.declared.value.Value.{Value}
 
--- records, as they were read
-abbrev read : List Advisory → List Reading
-read records = map (λ here. Ok here) records
-
 -- an id has its index among the records as among their readings
-index_is : (id : List ℕ) (i : ℕ) (records : List Advisory) → position_from (has_id id) i (read records) ≡ position_from (λ there. same id there.id) i records
+index_is : (id : List ℕ) (i : ℕ) (records : List Advisory) → position_from (has_id id) i (reads_of records) ≡ position_from (λ there. same id there.id) i records
 index_is id i [] = refl
 index_is id i (here ∷ more) = ap (cond (same id here.id) (Some i)) (index_is id (i + 1) more)
 
-count_is : (records : List Advisory) → length (read records) ≡ length records
+count_is : (records : List Advisory) → length (reads_of records) ≡ length records
 count_is records = length-map records (λ here. Ok here)
 
--- a record comes behind the others, or has the id of one of them
-told_at : (records : List Advisory) (here : Advisory) (rest : List Reading) (ds : List Data) (found : Option ℕ)
-    → ((more : List Advisory) → told more ds ≡ unless (faults_behind (read more) rest) (more ++ records_in rest))
-    → (pushed records here found >>= λ more. told more ds)
-    ≡ unless (option_to_list (option_map (λ first. DuplicateId first (length records)) found) ++ faults_behind (read records ++ Ok here ∷ []) rest) (records ++ here ∷ records_in rest)
-told_at records here rest ds (Some first) left = refl
+-- a record put behind others, by the index of its id
+put_by : (records : List Advisory) (here : Advisory) (found : Option ℕ)
+    → pushed records here found ≡ unless (option_to_list (option_map (λ first. DuplicateId first (length records)) found)) (records ++ here ∷ [])
+put_by records here None = refl
+put_by records here (Some first) = refl
+
+-- to put a reading behind others is to read one more
+pub put_is : (records : List Advisory) (reading : RecordRead) → put records reading ≡ one_more records reading
+put_is records (Err what) = ap (λ n. Err (BadAdvisory n what)) (sym (count_is records))
+put_is records (Ok here) =
+    put_by records here (index_of here.id records)
+    ∙ ap (λ n. unless (option_to_list (option_map (λ first. DuplicateId first n) (index_of here.id records))) (records ++ here ∷ [])) (sym (count_is records))
+    ∙ ap (λ found. unless (option_to_list (option_map (λ first. DuplicateId first (length (reads_of records))) found)) (records ++ here ∷ [])) (sym (index_is here.id 0 records))
+
+-- a record comes behind the others, or something stands at its index
+told_at : (records : List Advisory) (here : Advisory) (rest : List RecordRead) (ds : List Data) (fault : Option OsvError)
+    → ((more : List Advisory) → told more ds ≡ unless (faults_behind (reads_of more) rest) (more ++ records_in rest))
+    → (unless (option_to_list fault) (records ++ here ∷ []) >>= λ more. told more ds)
+    ≡ unless (option_to_list fault ++ faults_behind (reads_of records ++ Ok here ∷ []) rest) (records ++ here ∷ records_in rest)
+told_at records here rest ds (Some bad) left = refl
 told_at records here rest ds None left =
     left (records ++ here ∷ [])
     ∙ ap (λ before. unless (faults_behind before rest) ((records ++ here ∷ []) ++ records_in rest)) (map-append (λ x. Ok x) records (here ∷ []))
-    ∙ ap (λ all. unless (faults_behind (read records ++ Ok here ∷ []) rest) all) (append_assoc records (here ∷ []) (records_in rest))
+    ∙ ap (λ all. unless (faults_behind (reads_of records ++ Ok here ∷ []) rest) all) (append_assoc records (here ∷ []) (records_in rest))
 
 -- one more reading
-told_by : (records : List Advisory) (reading : Reading) (rest : List Reading) (ds : List Data)
-    → ((more : List Advisory) → told more ds ≡ unless (faults_behind (read more) rest) (more ++ records_in rest))
+told_by : (records : List Advisory) (reading : RecordRead) (rest : List RecordRead) (ds : List Data)
+    → ((more : List Advisory) → told more ds ≡ unless (faults_behind (reads_of more) rest) (more ++ records_in rest))
     → (one_more records reading >>= λ more. told more ds)
-    ≡ unless (faults_behind (read records) (reading ∷ rest)) (records ++ records_in (reading ∷ rest))
-told_by records (Err what) rest ds left = ap (λ n. Err (BadAdvisory n what)) (sym (count_is records))
-told_by records (Ok here) rest ds left =
-    told_at records here rest ds (index_of here.id records) left
-    ∙ ap (λ n. unless (option_to_list (option_map (λ first. DuplicateId first n) (index_of here.id records)) ++ faults_behind (read records ++ Ok here ∷ []) rest) (records ++ here ∷ records_in rest)) (sym (count_is records))
-    ∙ ap (λ found. unless (option_to_list (option_map (λ first. DuplicateId first (length (read records))) found) ++ faults_behind (read records ++ Ok here ∷ []) rest) (records ++ here ∷ records_in rest)) (sym (index_is here.id 0 records))
+    ≡ unless (faults_behind (reads_of records) (reading ∷ rest)) (records ++ records_in (reading ∷ rest))
+told_by records (Err what) rest ds left = refl
+told_by records (Ok here) rest ds left = told_at records here rest ds (fault_behind (reads_of records) (Ok here)) left
 
 -- the values that are left, behind the records
-told_is : (ds : List Data) (records : List Advisory) → told records ds ≡ unless (faults_behind (read records) (map advisory_of ds)) (records ++ records_in (map advisory_of ds))
+told_is : (ds : List Data) (records : List Advisory) → told records ds ≡ unless (faults_behind (reads_of records) (map advisory_of ds)) (records ++ records_in (map advisory_of ds))
 told_is [] records = ap Ok (sym (append-nil records))
 told_is (d ∷ ds) records = told_by records (advisory_of d) (map advisory_of ds) ds (told_is ds)
 

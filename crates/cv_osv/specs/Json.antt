@@ -2,14 +2,9 @@
 -- counts as absent, and a value that is no object has no members.
 use Rattle.std.specs.Prelude.{ℕ, if◌then◌else◌, List, [], ◌∷◌, ◌++◌, Option, Some, None, is_some, option_map, option_and_then, Result, Ok, Err}
 use Rattle.std.specs.Option.{ok_or}
+use Rattle.cv_base.specs.Results.{◌>>=◌}
 use Rattle.serde_json.specs.Data.{Data, Items, no_items, item}
 use Rattle.serde_json.specs.Find.{get, as_array, as_null, as_object, as_str}
-
--- what is read, and then what follows from it; the first fault is the answer
-infixl 10 ◌>>=◌
-abbrev pub ◌>>=◌ : {A B E : Type 0} → Result A E → (A → Result B E) → Result B E
-(Ok x) >>= f = f x
-(Err e) >>= f = Err e
 
 -- a value that is there: null counts as absent
 abbrev pub there : Option Data → Option Data
@@ -52,8 +47,3 @@ each f (item d ds) = f d >>= λ x. each f ds >>= λ xs. Ok (x ∷ xs)
 abbrev pub each_joined : {A E : Type 0} → (Data → Result (List A) E) → Items → Result (List A) E
 each_joined f no_items = Ok []
 each_joined f (item d ds) = f d >>= λ x. each_joined f ds >>= λ xs. Ok (x ++ xs)
-
--- what is read stands behind what was read before
-abbrev pub onto : {A E : Type 0} → List A → Result (List A) E → Result (List A) E
-onto front (Ok xs) = Ok (front ++ xs)
-onto front (Err e) = Err e

@@ -4,6 +4,7 @@
 -- unknown members are passed over, among them those that no answer needs (summary, details, severity, references).
 use Rattle.std.specs.Prelude.{ℕ, if◌then◌else◌, List, [], ◌∷◌, ◌++◌, codes, Option, Some, None, is_some, option_map, Result, Ok, Err}
 use Rattle.std.specs.Option.{option_to_list}
+use Rattle.cv_base.specs.Results.{◌>>=◌}
 use Rattle.cv_base.specs.Texts.{same}
 use Rattle.cv_base.specs.declared.advisory.Advisory.{Advisory}
 use Rattle.cv_base.specs.declared.advisory.Affected.{Affected}
@@ -13,7 +14,7 @@ use Rattle.cv_base.specs.declared.advisory.RangeKind.TheVariants.{Ecosystem, Sem
 use Rattle.cv_base.specs.declared.advisory.Turn.{Turn}
 use Rattle.cv_base.specs.declared.advisory.Turn.TheVariants.{Introduced, Fixed, LastAffected, Limit}
 use Rattle.cv_base.specs.declared.package.PackageName.{PackageName}
-use Rattle.cv_osv.specs.Json.{◌>>=◌, member_at, object_or, text_or, optional_text_or, items_or, each, each_joined}
+use Rattle.cv_osv.specs.Json.{member_at, object_or, text_or, optional_text_or, items_or, each, each_joined}
 use Rattle.cv_osv.specs.declared.error.RecordWhat.{RecordWhat}
 use Rattle.cv_osv.specs.declared.error.RecordWhat.TheVariants.{NotObject, NoId, NoModified, BadWithdrawn, BadAffected, BadEntry, BadPackage, BadRange, BadEvent, BadVersions}
 use Rattle.serde_json.specs.Data.{Data}

@@ -1,6 +1,7 @@
 ghost use Rattle.std.specs.Prelude.{◌≡◌};
+ghost use Rattle.cv_base.specs.Results.{onto};
 ghost use Rattle.cv_osv.specs.Answer.{Reads};
-ghost use Rattle.cv_osv.specs.Json.{each_joined, onto};
+ghost use Rattle.cv_osv.specs.Json.{each_joined};
 ghost use Rattle.cv_osv.specs.Member.{name_of, make_of};
 ghost use Rattle.cv_osv.specs.Record.{kind_of, turn_of, turns_of};
 ghost use Rattle.serde_json.specs.View.{view, items_view};

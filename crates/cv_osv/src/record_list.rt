@@ -1,9 +1,9 @@
 ghost use Rattle.std.specs.Prelude.{◌≡◌, ◌+◌, ◌<◌, ◌≤◌, [], length, nat_le, IfOk, OnOk};
 ghost use Rattle.cv_base.specs.Answer.{Gives};
 ghost use Rattle.cv_osv.specs.Answer.{is_osv_memory};
-ghost use Rattle.cv_osv.specs.Records.{HasDistinctIds};
 ghost use Rattle.cv_osv.specs.Record.{advisory_of};
-ghost use Rattle.cv_osv.specs.Told.{at_index, Indexes, one_more};
+ghost use Rattle.cv_osv.specs.Records.{HasDistinctIds, one_more};
+ghost use Rattle.cv_osv.specs.Told.{at_index, Indexes, put};
 ghost use Rattle.serde_json.specs.View.{view};
 
 use crate::error::{AdvisoryError, OsvError};
@@ -59,6 +59,7 @@ impl RecordList {
 
     /// Reads a record as `read_advisory` does, and puts it behind the others. Its own fault is told, and else an
     /// earlier record with its id. A refusal drops the list.
+    #[tactic(auto, using(crate::proofs::Told::put_is))]
     pub fn read(mut self, alloc: Global, value: &Value) -> Result<RecordList, OsvError>
         requires room { length self < 200000 }
         ensures told { Gives is_osv_memory (λ records. records) result (one_more self (advisory_of (view value.now))) }
@@ -89,7 +90,7 @@ fn push_record(
     requires indexed { Indexes places.old records.old.items }
     requires distinct { HasDistinctIds records.old.items }
     ensures told { Gives is_osv_memory (λ _. records.new.items) result
-        (one_more records.old.items (advisory_of (view item.now))) }
+        (put records.old.items (advisory_of (view item.now))) }
     ensures indexed { OnOk result (Indexes places.new records.new.items) }
     ensures distinct { OnOk result (HasDistinctIds records.new.items) }
     ensures count { OnOk result (length records.new.items ≡ length records.old.items + 1) }

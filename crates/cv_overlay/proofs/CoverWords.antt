@@ -1,65 +1,48 @@
 -- What a tree hides, told by texts: each entry's part, and the look-up of the fronts of a text.
-use Rattle.std.specs.Prelude.{◌≡◌, ℕ, ◌<◌, ◌≤◌, Bool, true, false, ◌&&◌, ◌||◌, ◌==◌, not, if◌then◌else◌, List, [], ◌∷◌, ◌++◌, length, map, take, drop, Result, Ok, Err, refl}
-use Rattle.std.specs.Cmp.Lexicographic.{slice_cmp, nat_list_cmp_total, texts_ties}
+use Rattle.std.specs.Prelude.{◌≡◌, ℕ, ◌<◌, Bool, true, false, ◌&&◌, ◌||◌, ◌==◌, not, if◌then◌else◌, List, [], ◌∷◌, ◌++◌, length, map, drop, Result, Ok, Err, refl}
+use Rattle.std.specs.Cmp.Lexicographic.{nat_list_cmp_total, slice_cmp, texts_ties}
+use Rattle.std.proofs.lemmas.Cmp.{lists_equiv, nat_list_eq_equiv}
 use Rattle.std.specs.List.{list_any, slice_split}
 use Rattle.std.specs.List.Sorted.{IsSortedBy, IsSearchInRange, IsBinarySearchResult, IsPermutation}
 use Rattle.std.specs.Ordering.{nat_cmp, is_lt}
 use Rattle.std.specs.Result.{is_ok}
 use Rattle.std.specs.declared.cmp.Ordering.TheVariants.{Less, Equal, Greater}
-use Rattle.std.proofs.Common.{zero, suc, ap, sym, ◌∙◌, inl, inr, get_or, drop-cons, arith}
-use Rattle.std.proofs.lemmas.Grind.{common_steps}
-use Rattle.std.proofs.lemmas.Bool.{cases_lt, eqb-true}
+use Rattle.std.proofs.Common.{zero, suc, ap, sym, ◌∙◌, inl, inr, get_or, arith}
+use Rattle.std.proofs.lemmas.Bool.{cases_lt, eqb-true, or_parts}
 use Rattle.std.proofs.lemmas.List.Folds.{list_any_at, list_any_none}
 use Rattle.std.proofs.lemmas.List.Sorted.{searchable_from_sorted, list_any-IsPermutation}
+use Rattle.std.proofs.Math.Bool.{or_assoc, or_comm, or-false}
 use Rattle.cv_base.specs.Path.{Path, components, is_above, is_slash, is_special, same_path}
 use Rattle.cv_base.specs.PathText.{goes_on}
-use Rattle.cv_base.specs.Texts.{same}
-use Rattle.cv_base.proofs.PathLemmas.{above_components}
-use Rattle.cv_overlay.specs.Cover.{any_front, has_text, hides_text, is_some_text}
+use Rattle.cv_base.specs.Texts.{same, is_cons, has_text}
+use Rattle.cv_base.proofs.PathLemmas.{above_components, none_above, split_cons, top_above}
+use Rattle.cv_overlay.specs.Cover.{any_front, hides_text}
 use Rattle.cv_base.specs.declared.tree.TreeEntry.{TreeEntry}
 use Rattle.cv_overlay.specs.Lay.{hides_by}
 use Rattle.cv_overlay.specs.Mark.{at_or_above, parent_of, name_of, target_of, is_dir_node, is_whiteout_name, is_opaque_name, is_reserved_name, has_mark, mark, mark_of}
 use Rattle.cv_overlay.specs.declared.mark.Mark.{Mark}
 use Rattle.cv_overlay.specs.declared.mark.Mark.TheVariants.{Reserved, Opaque, Whiteout, Bad, Plain}
 use Rattle.cv_overlay.specs.Text.{is_within}
-use Rattle.cv_base.proofs.Bools.{both_ways, and_right}
-use Rattle.cv_base.proofs.Same.{same_is, same_self, path_is, path_self}
-use Rattle.cv_overlay.proofs.PathWords.{is_cons, parent_of_last, name_of_last, mark_told}
-use Rattle.cv_overlay.proofs.TextWords.{split_cons, split_none, components_last, above_split, within_is, within_text}
+use Rattle.cv_base.proofs.Bools.{and_right, or_swap_inner}
+use Rattle.cv_base.proofs.Lists.{any_last}
+use Rattle.cv_overlay.proofs.PathWords.{parent_of_last, name_of_last, mark_told}
+use Rattle.cv_overlay.proofs.TextWords.{split_none, components_last, above_split, within_is, within_text}
 
 -- Tests joined by "or".
-
-or_assoc : (a b c : Bool) → ((a || b) || c) ≡ (a || (b || c))
-or_assoc true b c = refl
-or_assoc false b c = refl
-
-or_swap : (a b : Bool) → (a || b) ≡ (b || a)
-or_swap true true = refl
-or_swap true false = refl
-or_swap false true = refl
-or_swap false false = refl
-
-pub or_false : (a : Bool) → a ≡ (a || false)
-or_false true = refl
-or_false false = refl
 
 or_middle : (a b c : Bool) → ((a || b) || c) ≡ ((a || c) || b)
 or_middle true b c = refl
 or_middle false true true = refl
 or_middle false true false = refl
-or_middle false false c = or_false c
+or_middle false false c = sym (or-false c)
 
-any_last : {A : Type 0} (p : A → Bool) (xs : List A) (x : A) → list_any p (xs ++ x ∷ []) ≡ (list_any p xs || p x)
-any_last p [] x = sym (or_false (p x))
-any_last p (y ∷ ys) x = ap (λ b. p y || b) (any_last p ys x) ∙ sym (or_assoc (p y) (list_any p ys) (p x))
-
-pub empty_text : (t : List ℕ) (b : Bool) → b ≡ (length t == 0) → b ≡ true → is_some_text t ≡ false
+pub empty_text : (t : List ℕ) (b : Bool) → b ≡ (length t == 0) → b ≡ true → is_cons t ≡ false
 empty_text [] b h k = refl
 empty_text (x ∷ xs) b h k =
     let none : length (x ∷ xs) ≡ 0 = eqb-true (length (x ∷ xs)) 0 (sym h ∙ k) in
     absurd (omega (arith, none))
 
-pub some_text : (t : List ℕ) (b : Bool) → b ≡ (length t == 0) → b ≡ false → is_some_text t ≡ true
+pub some_text : (t : List ℕ) (b : Bool) → b ≡ (length t == 0) → b ≡ false → is_cons t ≡ true
 some_text [] b h k = cc
 some_text (x ∷ xs) b h k = refl
 
@@ -67,8 +50,8 @@ some_text (x ∷ xs) b h k = refl
 
 pub told_whole : (w b : List (List ℕ)) (a : Bool) (t c : List ℕ) → hides_text (w ++ c ∷ []) b a t ≡ (hides_text w b a t || is_within c t true)
 told_whole w b a t c =
-    ap (λ h. h || (list_any (λ c. goes_on c t) b || (a && is_some_text t))) (any_last (λ c. is_within c t true) w c)
-    ∙ or_middle (list_any (λ c. is_within c t true) w) (is_within c t true) (list_any (λ c. goes_on c t) b || (a && is_some_text t))
+    ap (λ h. h || (list_any (λ c. goes_on c t) b || (a && is_cons t))) (any_last (λ c. is_within c t true) w c)
+    ∙ or_middle (list_any (λ c. is_within c t true) w) (is_within c t true) (list_any (λ c. goes_on c t) b || (a && is_cons t))
 
 below_last : (w b g a : Bool) → (w || ((b || g) || a)) ≡ ((w || (b || a)) || g)
 below_last true b g a = refl
@@ -76,8 +59,8 @@ below_last false b g a = or_middle b g a
 
 pub told_below : (w b : List (List ℕ)) (a : Bool) (t c : List ℕ) → hides_text w (b ++ c ∷ []) a t ≡ (hides_text w b a t || goes_on c t)
 told_below w b a t c =
-    ap (λ h. list_any (λ c. is_within c t true) w || (h || (a && is_some_text t))) (any_last (λ c. goes_on c t) b c)
-    ∙ below_last (list_any (λ c. is_within c t true) w) (list_any (λ c. goes_on c t) b) (goes_on c t) (a && is_some_text t)
+    ap (λ h. list_any (λ c. is_within c t true) w || (h || (a && is_cons t))) (any_last (λ c. goes_on c t) b c)
+    ∙ below_last (list_any (λ c. is_within c t true) w) (list_any (λ c. goes_on c t) b) (goes_on c t) (a && is_cons t)
 
 all_last : (w b a s : Bool) → (w || (b || s)) ≡ ((w || (b || (a && s))) || s)
 all_last true b a s = refl
@@ -86,36 +69,23 @@ all_last false false true true = refl
 all_last false false true false = refl
 all_last false false false s = refl
 
-pub told_all : (w b : List (List ℕ)) (a : Bool) (t : List ℕ) → hides_text w b true t ≡ (hides_text w b a t || is_some_text t)
-told_all w b a t = all_last (list_any (λ c. is_within c t true) w) (list_any (λ c. goes_on c t) b) a (is_some_text t)
+pub told_all : (w b : List (List ℕ)) (a : Bool) (t : List ℕ) → hides_text w b true t ≡ (hides_text w b a t || is_cons t)
+told_all w b a t = all_last (list_any (λ c. is_within c t true) w) (list_any (λ c. goes_on c t) b) a (is_cons t)
 
 -- What a cover hides, as paths.
-
-same_path_swap : (p q : Path) → same_path p q ≡ same_path q p
-same_path_swap p q =
-    both_ways (same_path p q) (same_path q p)
-    (λ h. rw (path_is p q h) (path_self q)) (λ h. rw (path_is q p h) (path_self p))
-
-same_swap : (x y : List ℕ) → same x y ≡ same y x
-same_swap x y = both_ways (same x y) (same y x) (λ h. rw (same_is x y h) (same_self y)) (λ h. rw (same_is y x h) (same_self x))
-
--- the top is below nothing, and is no path with a component
-pub above_none : (p : Path) → is_above p [] ≡ false
-above_none [] = refl
-above_none (x ∷ xs) = refl
 
 none_same : (p : Path) → is_cons p ≡ true → same_path p [] ≡ false
 none_same [] h = cc
 none_same (x ∷ xs) h = refl
 
 -- a text that is not empty, and what is at its path or below
-pub whole_is : (c t : List ℕ) → is_some_text c ≡ true → is_within c t true ≡ at_or_above (components c) (components t)
+pub whole_is : (c t : List ℕ) → is_cons c ≡ true → is_within c t true ≡ at_or_above (components c) (components t)
 whole_is [] t h = cc
-whole_is (x ∷ xs) [] h = sym (rw (none_same (slice_split is_slash (x ∷ xs)) (split_cons (x ∷ xs)), above_none (slice_split is_slash (x ∷ xs))) refl)
+whole_is (x ∷ xs) [] h = sym (rw (none_same (slice_split is_slash (x ∷ xs)) (split_cons (x ∷ xs)), none_above (slice_split is_slash (x ∷ xs))) refl)
 whole_is (x ∷ xs) (y ∷ ys) h =
     within_is (x ∷ xs) (y ∷ ys) true refl
-    ∙ or_swap (is_above (slice_split is_slash (x ∷ xs)) (components (y ∷ ys))) (same_path (components (y ∷ ys)) (slice_split is_slash (x ∷ xs)))
-    ∙ ap (λ b. b || is_above (components (x ∷ xs)) (components (y ∷ ys))) (same_path_swap (components (y ∷ ys)) (components (x ∷ xs)))
+    ∙ or_comm (is_above (slice_split is_slash (x ∷ xs)) (components (y ∷ ys))) (same_path (components (y ∷ ys)) (slice_split is_slash (x ∷ xs)))
+    ∙ ap (λ b. b || is_above (components (x ∷ xs)) (components (y ∷ ys))) ((lists_equiv nat_list_eq_equiv).symm (components (y ∷ ys)) (components (x ∷ xs)))
 
 goes_none : (c : List ℕ) → goes_on c [] ≡ false
 goes_none [] = refl
@@ -125,43 +95,32 @@ goes_none (x ∷ xs) = refl
 pub directory_is : (a n t : List ℕ) → list_any is_slash n ≡ false → goes_on a t ≡ is_above (parent_of (components (a ++ 47 ∷ n))) (components t)
 directory_is a n t h = rw (components_last a n h, parent_of_last (slice_split is_slash a) n) (at_text t) where
   at_text : (t : List ℕ) → goes_on a t ≡ is_above (slice_split is_slash a) (components t)
-  at_text [] = goes_none a ∙ sym (above_none (slice_split is_slash a))
+  at_text [] = goes_none a ∙ sym (none_above (slice_split is_slash a))
   at_text (y ∷ ys) = sym (above_split a (y ∷ ys) refl)
 
-top_above : (s : Path) → is_cons s ≡ true → true ≡ is_above [] s
-top_above [] h = cc
-top_above (c ∷ cs) h = refl
-
-all_below : (t : List ℕ) → is_some_text t ≡ is_above [] (components t)
+all_below : (t : List ℕ) → is_cons t ≡ is_above [] (components t)
 all_below [] = refl
-all_below (y ∷ ys) = top_above (slice_split is_slash (y ∷ ys)) (split_cons (y ∷ ys))
+all_below (y ∷ ys) = sym (top_above (slice_split is_slash (y ∷ ys)) (split_cons (y ∷ ys)))
 
 -- the directory of a path of one component is the top
-pub top_is : (m t : List ℕ) → list_any is_slash m ≡ false → is_some_text t ≡ is_above (parent_of (components m)) (components t)
+pub top_is : (m t : List ℕ) → list_any is_slash m ≡ false → is_cons t ≡ is_above (parent_of (components m)) (components t)
 top_is [] t h = all_below t
 top_is (x ∷ xs) t h = rw (split_none (x ∷ xs) h) (all_below t)
 
 -- a path, and what is below it
-pub below_is : (m t : List ℕ) → is_some_text m ≡ true → goes_on m t ≡ is_above (components m) (components t)
+pub below_is : (m t : List ℕ) → is_cons m ≡ true → goes_on m t ≡ is_above (components m) (components t)
 below_is [] t h = cc
-below_is (x ∷ xs) [] h = sym (above_none (slice_split is_slash (x ∷ xs)))
+below_is (x ∷ xs) [] h = sym (none_above (slice_split is_slash (x ∷ xs)))
 below_is (x ∷ xs) (y ∷ ys) h = above_components (x ∷ xs) (y ∷ ys)
-
-pub below_top : (m t : List ℕ) → is_some_text m ≡ false → is_some_text t ≡ is_above (components m) (components t)
-below_top [] t h = all_below t
-below_top (x ∷ xs) t h = cc
 
 -- The targets of whiteouts.
 
 any_drop : (n : ℕ) (t : List ℕ) → list_any is_slash t ≡ false → list_any is_slash (drop n t) ≡ false
 any_drop zero t h = h
 any_drop (suc n) [] h = refl
-any_drop (suc n) (x ∷ xs) h = any_drop n xs (rest (is_slash x) (list_any is_slash xs) h) where
-  rest : (a b : Bool) → (a || b) ≡ false → b ≡ false
-  rest true b h = cc
-  rest false b h = h
+any_drop (suc n) (x ∷ xs) h = any_drop n xs (or_parts (is_slash x) (list_any is_slash xs) h).1
 
-some_name : (x : List ℕ) → not (is_special x) ≡ true → is_some_text x ≡ true
+some_name : (x : List ℕ) → not (is_special x) ≡ true → is_cons x ≡ true
 some_name [] h = cc
 some_name (y ∷ ys) h = refl
 
@@ -173,7 +132,7 @@ target_in a n h =
     ∙ ap (λ c. parent_of (slice_split is_slash a ++ n ∷ []) ++ drop 4 c ∷ []) (sym (name_of_last (slice_split is_slash a) n))
     ∙ ap target_of (sym (components_last a n h))
 
-split_some : (x : List ℕ) → is_some_text x ≡ true → components x ≡ slice_split is_slash x
+split_some : (x : List ℕ) → is_cons x ≡ true → components x ≡ slice_split is_slash x
 split_some [] h = cc
 split_some (y ∷ ys) h = refl
 
@@ -183,7 +142,7 @@ target_top [] h k = cc
 target_top (x ∷ xs) h k =
     let parts = split_none (x ∷ xs) h in
     let named : is_whiteout_name (x ∷ xs) ≡ true = rw parts at k in
-    let some : is_some_text (drop 4 (x ∷ xs)) ≡ true = some_name (drop 4 (x ∷ xs)) (and_right (has_mark (x ∷ xs)) (not (is_special (drop 4 (x ∷ xs)))) named) in
+    let some : is_cons (drop 4 (x ∷ xs)) ≡ true = some_name (drop 4 (x ∷ xs)) (and_right (has_mark (x ∷ xs)) (not (is_special (drop 4 (x ∷ xs)))) named) in
     split_some (drop 4 (x ∷ xs)) some ∙ split_none (drop 4 (x ∷ xs)) (any_drop 4 (x ∷ xs) h) ∙ ap target_of (sym parts)
 
 target_cons : (p : Path) (c : List ℕ) → is_cons (p ++ c ∷ []) ≡ true
@@ -191,7 +150,7 @@ target_cons [] c = refl
 target_cons (x ∷ xs) c = refl
 
 -- the text of a target is not empty
-pub target_some : (c : List ℕ) (p : Path) → components c ≡ target_of p → is_some_text c ≡ true
+pub target_some : (c : List ℕ) (p : Path) → components c ≡ target_of p → is_cons c ≡ true
 target_some [] p e = absurd (differ ([]) (target_of p) e refl (target_cons (parent_of p) (drop 4 (name_of p)))) where
   differ : (q r : Path) → q ≡ r → is_cons q ≡ false → is_cons r ≡ true → ⊥
   differ q r e h k = cc
@@ -265,34 +224,20 @@ fronts_in (c ∷ cs) t =
     ∙ ap (λ r. r || any_front (has_text cs) [] t) (front_from c [] t)
     ∙ ap (λ r. goes_on c t || r) (fronts_in cs t)
 
-four : (a b g h : Bool) → ((a || h) || (b || g)) ≡ ((a || b) || (h || g))
-four true b g h = refl
-four false true g true = refl
-four false true g false = refl
-four false false g true = refl
-four false false g false = refl
-
 whole_parts : (cs : List (List ℕ)) (t : List ℕ) → list_any (λ c. is_within c t true) cs ≡ (list_any (λ c. goes_on c t) cs || has_text cs t)
 whole_parts [] t = refl
 whole_parts (c ∷ cs) t =
     ap (λ r. is_within c t true || r) (whole_parts cs t)
-    ∙ ap (λ r. r || (list_any (λ c. goes_on c t) cs || has_text cs t)) (within_text c t true ∙ ap (λ r. goes_on c t || r) (same_swap t c))
-    ∙ four (goes_on c t) (list_any (λ c. goes_on c t) cs) (has_text cs t) (same c t)
-
-looked_by : (g b h a : Bool) → ((g || b) || (h || a)) ≡ ((g || h) || (b || a))
-looked_by true b h a = refl
-looked_by false true true a = refl
-looked_by false true false a = refl
-looked_by false false true a = refl
-looked_by false false false a = refl
+    ∙ ap (λ r. r || (list_any (λ c. goes_on c t) cs || has_text cs t)) (within_text c t true ∙ ap (λ r. goes_on c t || r) (nat_list_eq_equiv.symm t c))
+    ∙ or_swap_inner (goes_on c t) (same c t) (list_any (λ c. goes_on c t) cs) (has_text cs t)
 
 -- the look-up of a text and its fronts tells what is hidden
 pub looked_up : (w b : List (List ℕ)) (a : Bool) (t : List ℕ)
-    → (any_front (λ f. has_text w f || has_text b f) [] t || (has_text w t || (a && is_some_text t))) ≡ hides_text w b a t
+    → (any_front (λ f. has_text w f || has_text b f) [] t || (has_text w t || (a && is_cons t))) ≡ hides_text w b a t
 looked_up w b a t =
-    ap (λ r. r || (has_text w t || (a && is_some_text t))) (front_or (has_text w) (has_text b) [] t ∙ ap (λ r. r || any_front (has_text b) [] t) (fronts_in w t) ∙ ap (λ r. list_any (λ c. goes_on c t) w || r) (fronts_in b t))
-    ∙ looked_by (list_any (λ c. goes_on c t) w) (list_any (λ c. goes_on c t) b) (has_text w t) (a && is_some_text t)
-    ∙ ap (λ r. r || (list_any (λ c. goes_on c t) b || (a && is_some_text t))) (sym (whole_parts w t))
+    ap (λ r. r || (has_text w t || (a && is_cons t))) (front_or (has_text w) (has_text b) [] t ∙ ap (λ r. r || any_front (has_text b) [] t) (fronts_in w t) ∙ ap (λ r. list_any (λ c. goes_on c t) w || r) (fronts_in b t))
+    ∙ or_swap_inner (list_any (λ c. goes_on c t) w) (list_any (λ c. goes_on c t) b) (has_text w t) (a && is_cons t)
+    ∙ ap (λ r. r || (list_any (λ c. goes_on c t) b || (a && is_cons t))) (sym (whole_parts w t))
 
 -- Sorted lists.
 
@@ -367,29 +312,10 @@ any_moved p key xs ys h = any_map p key ys ∙ sym (list_any-IsPermutation (λ x
 pub told_moved : {X Y : Type 0} (f : X → List ℕ) (g : Y → List ℕ) (w v : List X) (b d : List Y) (a : Bool) (t : List ℕ)
     → IsPermutation w v → IsPermutation b d → hides_text (map f v) (map g d) a t ≡ hides_text (map f w) (map g b) a t
 told_moved f g w v b d a t h k =
-    ap (λ r. r || (list_any (λ c. goes_on c t) (map g d) || (a && is_some_text t))) (any_moved (λ c. is_within c t true) f w v h)
-    ∙ ap (λ r. list_any (λ c. is_within c t true) (map f w) || (r || (a && is_some_text t))) (any_moved (λ c. goes_on c t) g b d k)
-
--- a front that ends before a slash was found
-pub front_found : (test : List ℕ → Bool) (t : List ℕ) (i : ℕ) → i < length t → get_or t i 0 ≡ 47 → test (take i t) ≡ true → any_front test (take i t) (drop i t) ≡ true
-front_found test t i h k e = rw (drop-cons t i 0, k, e) refl
-
-pub drop_all : {X : Type 0} (t : List X) (i : ℕ) → length t ≤ i → drop i t ≡ []
-drop_all t i h = grind (arith, common_steps)
-
--- no front is left
-pub front_end : (test : List ℕ → Bool) (b t : List ℕ) (i : ℕ) → length t ≤ i → any_front test b (drop i t) ≡ false
-front_end test b t i h = rw (drop_all t i h) refl
+    ap (λ r. r || (list_any (λ c. goes_on c t) (map g d) || (a && is_cons t))) (any_moved (λ c. is_within c t true) f w v h)
+    ∙ ap (λ r. list_any (λ c. is_within c t true) (map f w) || (r || (a && is_cons t))) (any_moved (λ c. goes_on c t) g b d k)
 
 -- the same, by the answers of three look-ups
 pub looked_so : (w b : List (List ℕ)) (a : Bool) (t : List ℕ) (f h s : Bool)
-    → f ≡ any_front (λ f. has_text w f || has_text b f) [] t → h ≡ has_text w t → s ≡ is_some_text t → (f || (h || (a && s))) ≡ hides_text w b a t
+    → f ≡ any_front (λ f. has_text w f || has_text b f) [] t → h ≡ has_text w t → s ≡ is_cons t → (f || (h || (a && s))) ≡ hides_text w b a t
 looked_so w b a t f h s e k n = rw (e, k, n) (looked_up w b a t)
-
-pub and_true : (a : Bool) → a ≡ (a && true)
-and_true true = refl
-and_true false = refl
-
-pub and_false : (a : Bool) → false ≡ (a && false)
-and_false true = refl
-and_false false = refl

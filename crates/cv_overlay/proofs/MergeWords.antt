@@ -1,24 +1,25 @@
 -- Lists of entries that rise by their paths: what stands at a path of a list that was filtered or merged, and that a
 -- good tree rises.
 use Rattle.std.specs.Prelude.{◌≡◌, ℕ, ◌+◌, Bool, true, false, ◌&&◌, not, if◌then◌else◌, List, [], ◌∷◌, ◌++◌, length, filter, map, nat_lt, Option, Some, None, refl}
-use Rattle.std.specs.Cmp.Lexicographic.{slice_cmp, lists_ties, texts_ties}
 use Rattle.std.specs.List.{AllByRecursion, list_all}
-use Rattle.std.specs.Ordering.{nat_cmp}
 use Rattle.std.specs.declared.cmp.Ordering.{Ordering}
 use Rattle.std.specs.declared.cmp.Ordering.TheVariants.{Less, Equal, Greater}
-use Rattle.std.proofs.Common.{ap, sym, ◌∙◌}
+use Rattle.std.proofs.Common.{ap, sym, ◌∙◌, append_assoc}
 use Rattle.std.proofs.lemmas.Cmp.{tied_itself}
+use Rattle.std.specs.Option.{option_or}
+use Rattle.std.proofs.lemmas.Bool.{and_from}
 use Rattle.cv_base.specs.Path.{Path, path_cmp, same_path}
 use Rattle.cv_base.specs.declared.tree.Node.{Node}
 use Rattle.cv_base.specs.declared.tree.TreeEntry.{TreeEntry}
-use Rattle.cv_overlay.specs.Fault.{comes_before, fault_at, first_fault, has_parent, is_sorted_after, max_entries, or_fault, tree_fault}
-use Rattle.cv_overlay.specs.Lay.{hides, is_plain, lay, node_at, or_node, plain_at}
+use Rattle.cv_overlay.specs.Fault.{comes_before, fault_at, first_fault, has_parent, is_sorted_after, max_entries, tree_fault}
+use Rattle.cv_overlay.specs.Lay.{hides, is_plain, lay, node_at, plain_at}
 use Rattle.cv_overlay.specs.Mark.{Outline, mark, outline}
 use Rattle.cv_overlay.specs.Merge.{AreRising, first_of_two, merged}
 use Rattle.cv_overlay.specs.declared.fault.TreeFault.{TreeFault}
 use Rattle.cv_overlay.specs.declared.fault.TreeFault.TheVariants.{Unsorted, NoParent, TooMany}
-use Rattle.cv_base.proofs.Bools.{and_left, and_right, and_both}
+use Rattle.cv_base.proofs.Bools.{and_left, and_right}
 use Rattle.cv_base.proofs.Same.{path_is, path_total, tied_path}
+use Rattle.cv_base.proofs.InOrder.{after_lower, turned}
 use Rattle.cv_overlay.proofs.ParentWords.{less_is}
 
 abbrev pub ComesAfter : Path → TreeEntry → Type 0
@@ -80,49 +81,34 @@ nothing_before p (x ∷ xs) h = by_test (same_path x.path p) refl (nothing_befor
   by_test true e rest = absurd (less_equal (sym h.0 ∙ ap (path_cmp p) (path_is x.path p e) ∙ tied_itself path_total p))
   by_test false e rest = rest
 
-all_after : (p q : Path) (xs : List TreeEntry) → path_cmp p q ≡ Less → AllByRecursion (ComesAfter q) xs → AllByRecursion (ComesAfter p) xs
-all_after p q [] h k = tt
-all_after p q (x ∷ xs) h k = (path_total.trans p q x.path h k.0, all_after p q xs h k.1)
-
-all_tied : (p q : Path) (xs : List TreeEntry) → path_cmp p q ≡ Equal → AllByRecursion (ComesAfter q) xs → AllByRecursion (ComesAfter p) xs
-all_tied p q [] h k = tt
-all_tied p q (x ∷ xs) h k = (path_total.congr p q x.path h ∙ k.0, all_tied p q xs h k.1)
-
-turned : (p q : Path) → path_cmp p q ≡ Greater → path_cmp q p ≡ Less
-turned p q h = path_total.antisymm q p ∙ rw h refl
-
-or_none : (n : Option Node) → n ≡ or_node n None
+or_none : (n : Option Node) → n ≡ option_or n None
 or_none None = refl
 or_none (Some x) = refl
 
-upper_first : (s : Bool) (x : Node) (u l : Option Node) → (s ≡ true → u ≡ None) → (if s then Some x else or_node u l) ≡ or_node u (if s then Some x else l)
+upper_first : (s : Bool) (x : Node) (u l : Option Node) → (s ≡ true → u ≡ None) → (if s then Some x else option_or u l) ≡ option_or u (if s then Some x else l)
 upper_first true x u l h = rw (h refl) refl
 upper_first false x u l h = refl
 
-same_place : (s : Bool) (y : Node) (u l m : Option Node) → (if s then Some y else or_node u l) ≡ or_node (if s then Some y else u) (if s then m else l)
-same_place true y u l m = refl
-same_place false y u l m = refl
-
-upper_next : (s : Bool) (y : Node) (u l : Option Node) → (if s then Some y else or_node u l) ≡ or_node (if s then Some y else u) l
+upper_next : (s : Bool) (y : Node) (u l : Option Node) → (if s then Some y else option_or u l) ≡ option_or (if s then Some y else u) l
 upper_next true y u l = refl
 upper_next false y u l = refl
 
 -- the node at a path of two merged lists is the upper one, and else the lower one
-pub node_merged : (xs ys : List TreeEntry) → AreRising xs → AreRising ys → (p : Path) → node_at (merged xs ys) p ≡ or_node (node_at ys p) (node_at xs p)
+pub node_merged : (xs ys : List TreeEntry) → AreRising xs → AreRising ys → (p : Path) → node_at (merged xs ys) p ≡ option_or (node_at ys p) (node_at xs p)
 node_merged [] ys h k p = or_none (node_at ys p)
 node_merged (x ∷ xs) [] h k p = refl
 node_merged (x ∷ xs) (y ∷ ys) h k p =
     by_order (path_cmp x.path y.path) refl (node_merged xs (y ∷ ys) h.1 k p) (node_merged (x ∷ xs) ys h k.1 p) where
       by_order : (o : Ordering) → path_cmp x.path y.path ≡ o
-          → node_at (merged xs (y ∷ ys)) p ≡ or_node (node_at (y ∷ ys) p) (node_at xs p)
-          → node_at (merged (x ∷ xs) ys) p ≡ or_node (node_at ys p) (node_at (x ∷ xs) p)
-          → node_at (first_of_two o x y (merged xs (y ∷ ys)) (merged xs (y ∷ ys)) (merged (x ∷ xs) ys)) p ≡ or_node (node_at (y ∷ ys) p) (node_at (x ∷ xs) p)
+          → node_at (merged xs (y ∷ ys)) p ≡ option_or (node_at (y ∷ ys) p) (node_at xs p)
+          → node_at (merged (x ∷ xs) ys) p ≡ option_or (node_at ys p) (node_at (x ∷ xs) p)
+          → node_at (first_of_two o x y (merged xs (y ∷ ys)) (merged xs (y ∷ ys)) (merged (x ∷ xs) ys)) p ≡ option_or (node_at (y ∷ ys) p) (node_at (x ∷ xs) p)
       by_order Less e low high =
           ap (λ n. if same_path x.path p then Some x.node else n) low
           ∙ upper_first (same_path x.path p) x.node (node_at (y ∷ ys) p) (node_at xs p)
-          (λ s. ap (node_at (y ∷ ys)) (sym (path_is x.path p s)) ∙ nothing_before x.path (y ∷ ys) (e, all_after x.path y.path ys e k.0))
+          (λ s. ap (node_at (y ∷ ys)) (sym (path_is x.path p s)) ∙ nothing_before x.path (y ∷ ys) (e, after_lower path_total (λ (e : TreeEntry). e.path) x.path y.path ys e k.0))
       by_order Equal e low high = low ∙ in_place (same_path y.path p) (node_at ys p) (node_at xs p) (ap (λ q. same_path q p) (tied_path x.path y.path e)) where
-        in_place : (s : Bool) (u l : Option Node) → same_path x.path p ≡ s → or_node (if s then Some y.node else u) l ≡ or_node (if s then Some y.node else u) (if same_path x.path p then Some x.node else l)
+        in_place : (s : Bool) (u l : Option Node) → same_path x.path p ≡ s → option_or (if s then Some y.node else u) l ≡ option_or (if s then Some y.node else u) (if same_path x.path p then Some x.node else l)
         in_place true u l e = refl
         in_place false u l e = rw e refl
       by_order Greater e low high =
@@ -147,15 +133,15 @@ rising_merged (x ∷ xs) (y ∷ ys) h k =
     by_order (path_cmp x.path y.path) refl (rising_merged xs (y ∷ ys) h.1 k) (rising_merged (x ∷ xs) ys h k.1) where
       by_order : (o : Ordering) → path_cmp x.path y.path ≡ o → AreRising (merged xs (y ∷ ys)) → AreRising (merged (x ∷ xs) ys)
           → AreRising (first_of_two o x y (merged xs (y ∷ ys)) (merged xs (y ∷ ys)) (merged (x ∷ xs) ys))
-      by_order Less e low high = (all_merged x.path xs (y ∷ ys) h.0 (e, all_after x.path y.path ys e k.0), low)
+      by_order Less e low high = (all_merged x.path xs (y ∷ ys) h.0 (e, after_lower path_total (λ (e : TreeEntry). e.path) x.path y.path ys e k.0), low)
       by_order Equal e low high = low
       by_order Greater e low high =
-          let before : path_cmp y.path x.path ≡ Less = turned x.path y.path e in
-          (all_merged y.path (x ∷ xs) ys (before, all_after y.path x.path xs before h.0) k.0, high)
+          let before : path_cmp y.path x.path ≡ Less = turned path_total x.path y.path e in
+          (all_merged y.path (x ∷ xs) ys (before, after_lower path_total (λ (e : TreeEntry). e.path) y.path x.path xs before h.0) k.0, high)
 
 -- A good tree rises.
 
-no_fault : (a b : Option TreeFault) → or_fault a b ≡ None → (a ≡ None) × (b ≡ None)
+no_fault : (a b : Option TreeFault) → option_or a b ≡ None → (a ≡ None) × (b ≡ None)
 no_fault None b h = (refl, h)
 no_fault (Some f) b h = cc
 
@@ -168,12 +154,12 @@ sorted_all i bs [] h = refl
 sorted_all i bs (e ∷ es) h =
     let parts = no_fault (fault_at i bs (outline e)) (first_fault (i + 1) (outline e ∷ bs) (map outline es)) h in
     let first : is_sorted_after bs (outline e) ≡ true = sorted_by (is_sorted_after bs (outline e)) (has_parent bs (outline e)) _ (Unsorted i) (NoParent i) parts.0 in
-    and_both (is_sorted_after bs (outline e)) (list_all (λ e. is_sorted_after bs (outline e)) es) first (weaker es (sorted_all (i + 1) (outline e ∷ bs) es parts.1)) where
+    and_from (is_sorted_after bs (outline e)) (list_all (λ e. is_sorted_after bs (outline e)) es) first (weaker es (sorted_all (i + 1) (outline e ∷ bs) es parts.1)) where
       weaker : (xs : List TreeEntry) → list_all (λ x. is_sorted_after (outline e ∷ bs) (outline x)) xs ≡ true → list_all (λ x. is_sorted_after bs (outline x)) xs ≡ true
       weaker [] h = refl
       weaker (x ∷ xs) h =
           let whole = and_left (is_sorted_after (outline e ∷ bs) (outline x)) (list_all (λ x. is_sorted_after (outline e ∷ bs) (outline x)) xs) h in
-          and_both (is_sorted_after bs (outline x)) (list_all (λ x. is_sorted_after bs (outline x)) xs)
+          and_from (is_sorted_after bs (outline x)) (list_all (λ x. is_sorted_after bs (outline x)) xs)
           (and_right (comes_before e.path x.path) (is_sorted_after bs (outline x)) whole)
           (weaker xs (and_right (is_sorted_after (outline e ∷ bs) (outline x)) (list_all (λ x. is_sorted_after (outline e ∷ bs) (outline x)) xs) h))
 
@@ -205,21 +191,17 @@ pub laid : (old tree : List TreeEntry) → AreRising old → AreRising tree → 
     → node_at (merged (filter (λ e. not (hides tree e.path)) old) (filter (λ e. is_plain (mark e)) tree)) p ≡ lay (node_at old) tree p
 laid old tree h k p =
     node_merged (filter (λ e. not (hides tree e.path)) old) (filter (λ e. is_plain (mark e)) tree) (rising_kept (λ e. not (hides tree e.path)) old h) (rising_kept (λ e. is_plain (mark e)) tree k) p
-    ∙ ap (λ n. or_node n (node_at (filter (λ e. not (hides tree e.path)) old) p)) (node_plain tree p)
-    ∙ ap (or_node (plain_at tree p)) (node_kept (hides tree) old p)
+    ∙ ap (λ n. option_or n (node_at (filter (λ e. not (hides tree e.path)) old) p)) (node_plain tree p)
+    ∙ ap (option_or (plain_at tree p)) (node_kept (hides tree) old p)
 
 pub laid_rises : (old tree : List TreeEntry) → AreRising old → AreRising tree
     → AreRising (merged (filter (λ e. not (hides tree e.path)) old) (filter (λ e. is_plain (mark e)) tree))
 laid_rises old tree h k =
     rising_merged (filter (λ e. not (hides tree e.path)) old) (filter (λ e. is_plain (mark e)) tree) (rising_kept (λ e. not (hides tree e.path)) old h) (rising_kept (λ e. is_plain (mark e)) tree k)
 
-append_one : (xs : List TreeEntry) (e : TreeEntry) (ys : List TreeEntry) → (xs ++ e ∷ []) ++ ys ≡ xs ++ e ∷ ys
-append_one [] e ys = refl
-append_one (x ∷ xs) e ys = ap (λ l. x ∷ l) (append_one xs e ys)
-
 -- one more item was kept
 pub kept_step : (q : TreeEntry → Bool) (kept more left rest : List TreeEntry) (e : TreeEntry) (all : List TreeEntry)
     → left ≡ e ∷ rest → more ≡ kept ++ e ∷ [] → q e ≡ true → kept ++ filter q left ≡ all → more ++ filter q rest ≡ all
 kept_step q kept more left rest e all l m h k =
-    ap (λ xs. xs ++ filter q rest) m ∙ append_one kept e (filter q rest)
+    ap (λ xs. xs ++ filter q rest) m ∙ append_assoc kept (e ∷ []) (filter q rest)
     ∙ ap (λ xs. kept ++ xs) (sym (rw h refl)) ∙ ap (λ xs. kept ++ filter q xs) (sym l) ∙ k

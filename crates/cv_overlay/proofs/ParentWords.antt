@@ -1,8 +1,7 @@
 -- Why one look at the entry before is enough: where all entries before are in order and have their parents, the
 -- parent of the next one stands before it as a directory exactly where it is the last of them, or is above that one.
 use Rattle.std.specs.Prelude.{◌≡◌, ℕ, ◌+◌, Bool, true, false, ◌&&◌, ◌||◌, not, List, [], ◌∷◌, if◌then◌else◌, Option, Some, None, refl}
-use Rattle.std.specs.Cmp.Lexicographic.{slice_cmp, lists_total, nat_list_cmp_total}
-use Rattle.std.specs.Cmp.{IsTotalOrder}
+use Rattle.std.specs.Cmp.Lexicographic.{slice_cmp, nat_list_cmp_total}
 use Rattle.std.specs.List.{list_all, list_any}
 use Rattle.std.specs.Ordering.{nat_cmp, ordering_then, ordering_reverse}
 use Rattle.std.specs.declared.cmp.Ordering.{Ordering}
@@ -12,14 +11,16 @@ use Rattle.std.proofs.lemmas.List.{length-map}
 use Rattle.std.proofs.lemmas.Bool.Decides.{nat_tests}
 use Rattle.std.proofs.lemmas.Map.Lookups.{exact_bytes}
 use Rattle.std.proofs.lemmas.Cmp.{tied_itself}
+use Rattle.std.specs.Option.{option_or}
+use Rattle.std.proofs.lemmas.Bool.{or_left, or_right, and_from}
 use Rattle.cv_base.specs.Path.{Path, is_above, path_cmp, same_path}
-use Rattle.cv_base.specs.Texts.{same}
-use Rattle.cv_overlay.specs.Fault.{is_less, comes_before, is_sorted_after, has_parent, needs_parent, fault, first_fault, or_fault}
+use Rattle.cv_base.specs.Texts.{same, is_cons}
+use Rattle.cv_overlay.specs.Fault.{is_less, comes_before, is_sorted_after, has_parent, needs_parent, fault, first_fault}
 use Rattle.cv_overlay.specs.Mark.{Outline, at_or_above, parent_of, is_bad}
 use Rattle.cv_overlay.specs.Step.{follows, stands_by_parent, fault_from}
 use Rattle.cv_overlay.specs.declared.fault.TreeFault.{TreeFault}
 use Rattle.cv_overlay.specs.declared.fault.TreeFault.TheVariants.{Unsorted, NoParent, BadMark}
-use Rattle.cv_base.proofs.Bools.{both_ways, and_left, and_right, and_both, or_left, or_right, or_cases}
+use Rattle.cv_base.proofs.Bools.{both_ways, and_left, and_right, or_cases}
 use Rattle.cv_base.proofs.Same.{same_is, same_self, path_is, path_self, path_total}
 
 -- The order of paths.
@@ -76,13 +77,9 @@ between (x ∷ xs) (y ∷ ys) (z ∷ zs) a h k =
     let rest = between xs ys zs (and_right (same x z) (is_above xs zs) a)
     (then_less (slice_cmp nat_cmp x y) (path_cmp xs ys) h tied)
     (then_less (slice_cmp nat_cmp y x) (path_cmp ys zs) k_at tied_back) in
-    and_both (same x y) (is_above xs ys) first rest
+    and_from (same x y) (is_above xs ys) first rest
 
 -- Parents.
-
-abbrev pub is_below_top : Path → Bool
-is_below_top [] = false
-is_below_top (c ∷ cs) = true
 
 -- what is above a path is its parent or above that
 above_parent : (q p : Path) → is_above q p ≡ true → at_or_above q (parent_of p) ≡ true
@@ -101,14 +98,14 @@ above_parent (x ∷ xs) (c ∷ d ∷ ds) h =
       step false b c h k = cc
 
 -- a path with one above it that is not the top needs a parent
-above_needs : (q p : Path) → is_below_top q ≡ true → is_above q p ≡ true → needs_parent p ≡ true
+above_needs : (q p : Path) → is_cons q ≡ true → is_above q p ≡ true → needs_parent p ≡ true
 above_needs [] p h k = cc
 above_needs (x ∷ xs) [] h k = cc
 above_needs (x ∷ []) (c ∷ []) h k = cc (and_right (same x c) false k)
 above_needs (x ∷ y ∷ ys) (c ∷ []) h k = cc (and_right (same x c) false k)
 above_needs (x ∷ xs) (c ∷ d ∷ ds) h k = refl
 
-parent_below_top : (p : Path) → needs_parent p ≡ true → is_below_top (parent_of p) ≡ true
+parent_below_top : (p : Path) → needs_parent p ≡ true → is_cons (parent_of p) ≡ true
 parent_below_top [] h = cc
 parent_below_top (c ∷ []) h = cc
 parent_below_top (c ∷ d ∷ ds) h = refl
@@ -116,8 +113,8 @@ parent_below_top (c ∷ d ∷ ds) h = refl
 parent_above : (p : Path) → needs_parent p ≡ true → is_above (parent_of p) p ≡ true
 parent_above [] h = cc
 parent_above (c ∷ []) h = cc
-parent_above (c ∷ d ∷ []) h = and_both (same c c) true (same_self c) refl
-parent_above (c ∷ d ∷ e ∷ es) h = and_both (same c c) (is_above (parent_of (d ∷ e ∷ es)) (d ∷ e ∷ es)) (same_self c) (parent_above (d ∷ e ∷ es) refl)
+parent_above (c ∷ d ∷ []) h = and_from (same c c) true (same_self c) refl
+parent_above (c ∷ d ∷ e ∷ es) h = and_from (same c c) (is_above (parent_of (d ∷ e ∷ es)) (d ∷ e ∷ es)) (same_self c) (parent_above (d ∷ e ∷ es) refl)
 
 -- The entries before.
 
@@ -146,7 +143,7 @@ given_parent true d h k = h
 given_parent false d h k = cc
 
 -- all directories above an entry are there
-pub closed : (bs : List Outline) → AreSettled bs → (q p : Path) → has_path bs p ≡ true → is_below_top q ≡ true → is_above q p ≡ true → has_dir bs q ≡ true
+pub closed : (bs : List Outline) → AreSettled bs → (q p : Path) → has_path bs p ≡ true → is_cons q ≡ true → is_above q p ≡ true → has_dir bs q ≡ true
 closed [] s q p h n a = cc
 closed (b ∷ bs) s q p h n a =
     or_cases (same_path b.path p) (has_path bs p) (has_dir (b ∷ bs) q ≡ true) h
@@ -162,7 +159,7 @@ closed (b ∷ bs) s q p h n a =
 all_before : (bs : List Outline) (p q : Path) → list_all (λ b. comes_before b.path p) bs ≡ true → comes_before p q ≡ true → list_all (λ b. comes_before b.path q) bs ≡ true
 all_before [] p q h k = refl
 all_before (b ∷ bs) p q h k =
-    and_both (comes_before b.path q) (list_all (λ b. comes_before b.path q) bs)
+    and_from (comes_before b.path q) (list_all (λ b. comes_before b.path q) bs)
     (before_trans b.path p q (and_left (comes_before b.path p) (list_all (λ b. comes_before b.path p) bs) h) k)
     (all_before bs p q (and_right (comes_before b.path p) (list_all (λ b. comes_before b.path p) bs) h) k)
 
@@ -183,11 +180,11 @@ follows_all : (bs : List Outline) → AreSettled bs → (e : Outline) → follow
 follows_all [] s e = refl
 follows_all (b ∷ bs) s e =
     both_ways (comes_before b.path e.path) (is_sorted_after (b ∷ bs) e)
-    (λ h. and_both (comes_before b.path e.path) (is_sorted_after bs e) h (all_before bs b.path e.path s.0 h))
+    (λ h. and_from (comes_before b.path e.path) (is_sorted_after bs e) h (all_before bs b.path e.path s.0 h))
     (λ h. and_left (comes_before b.path e.path) (is_sorted_after bs e) h)
 
 -- the parent `q` of an entry at `p` that comes after all before it: the heart of the matter
-near_parent : (b : Outline) (bs : List Outline) (q p : Path) → AreSettled (b ∷ bs) → comes_before b.path p ≡ true → is_below_top q ≡ true → is_above q p ≡ true
+near_parent : (b : Outline) (bs : List Outline) (q p : Path) → AreSettled (b ∷ bs) → comes_before b.path p ≡ true → is_cons q ≡ true → is_above q p ≡ true
     → (is_above q b.path || (b.is_dir && same_path b.path q)) ≡ has_dir (b ∷ bs) q
 near_parent b bs q p s h n a =
     both_ways (is_above q b.path || (b.is_dir && same_path b.path q)) (has_dir (b ∷ bs) q)
@@ -213,10 +210,10 @@ parents_all (b ∷ bs) s e h =
 
 abbrev told : ℕ → Outline → Bool → Bool → Option TreeFault → Option TreeFault
 told i e sorted parent rest =
-    or_fault (if not sorted then Some (Unsorted i) else (if not parent then Some (NoParent i) else (if is_bad e.path e.is_dir then Some (BadMark i) else None))) rest
+    option_or (if not sorted then Some (Unsorted i) else (if not parent then Some (NoParent i) else (if is_bad e.path e.is_dir then Some (BadMark i) else None))) rest
 
 told_alike : (i : ℕ) (e : Outline) (s t p q : Bool) (r u : Option TreeFault) → s ≡ t → (t ≡ true → p ≡ q) → (t ≡ true → q ≡ true → r ≡ u) → told i e s p r ≡ told i e t q u
-told_alike i e true true true true r u h k m = ap (or_fault (if is_bad e.path e.is_dir then Some (BadMark i) else None)) (m refl refl)
+told_alike i e true true true true r u h k m = ap (option_or (if is_bad e.path e.is_dir then Some (BadMark i) else None)) (m refl refl)
 told_alike i e true true true false r u h k m = cc (k refl)
 told_alike i e true true false true r u h k m = cc (k refl)
 told_alike i e true true false false r u h k m = refl

@@ -1,25 +1,18 @@
 -- Paths as lists of components: their last components.
-use Rattle.std.specs.Prelude.{◌≡◌, ℕ, Bool, true, false, ◌&&◌, ◌||◌, ◌==◌, not, List, [], ◌∷◌, ◌++◌, codes, drop, if◌then◌else◌, refl}
+use Rattle.std.specs.Prelude.{◌≡◌, ℕ, Bool, true, false, ◌&&◌, ◌||◌, not, List, [], ◌∷◌, ◌++◌, codes, drop, if◌then◌else◌, refl}
 use Rattle.std.specs.List.{list_any}
-use Rattle.std.proofs.Common.{ap, ◌∙◌, arith}
-use Rattle.std.proofs.lemmas.Bool.{eqb-true}
-use Rattle.std.proofs.lemmas.Bool.Decides.{nat_tests}
-use Rattle.cv_base.specs.Path.{Path, is_special, same_path}
-use Rattle.cv_base.specs.Texts.{same}
+use Rattle.std.proofs.Common.{ap, ◌∙◌, sym}
+use Rattle.std.proofs.Math.Bool.{or_assoc, or-false}
+use Rattle.cv_base.specs.Path.{Path, is_special}
 use Rattle.cv_overlay.specs.Fault.{needs_parent}
 use Rattle.cv_overlay.specs.Mark.{parent_of, name_of, has_mark, is_opaque_name, is_reserved_name, is_whiteout_name, mark_of}
 use Rattle.cv_overlay.specs.Text.{mark_by}
 use Rattle.cv_overlay.specs.declared.mark.Mark.{Mark}
 use Rattle.cv_overlay.specs.declared.mark.Mark.TheVariants.{Reserved, Opaque, Whiteout, Bad, Plain}
-use Rattle.cv_base.proofs.Bools.{and_left, and_right, and_both}
 use Rattle.cv_base.proofs.Same.{same_is}
+use Rattle.cv_base.specs.Texts.{is_cons}
 
 -- The last component.
-
--- a path has a component
-abbrev pub is_cons : Path → Bool
-is_cons [] = false
-is_cons (c ∷ cs) = true
 
 pub parent_of_last : (p : Path) (c : List ℕ) → parent_of (p ++ c ∷ []) ≡ p
 parent_of_last [] c = refl
@@ -36,21 +29,13 @@ needs_parent_last [] c = refl
 needs_parent_last (x ∷ []) c = refl
 needs_parent_last (x ∷ y ∷ ys) c = refl
 
-or_assoc : (a b c : Bool) → (a || (b || c)) ≡ ((a || b) || c)
-or_assoc true b c = refl
-or_assoc false b c = refl
-
-or_last : (b : Bool) → (b || false) ≡ b
-or_last true = refl
-or_last false = refl
-
 -- a component is reserved where one before the last is, or the last one
 any_reserved : (p : Path) → list_any is_reserved_name p ≡ (list_any is_reserved_name (parent_of p) || is_reserved_name (name_of p))
 any_reserved [] = refl
-any_reserved (c ∷ []) = or_last (is_reserved_name c)
+any_reserved (c ∷ []) = or-false (is_reserved_name c)
 any_reserved (c ∷ d ∷ ds) =
     ap (λ b. is_reserved_name c || b) (any_reserved (d ∷ ds))
-    ∙ or_assoc (is_reserved_name c) (list_any is_reserved_name (parent_of (d ∷ ds))) (is_reserved_name (name_of (d ∷ ds)))
+    ∙ sym (or_assoc (is_reserved_name c) (list_any is_reserved_name (parent_of (d ∷ ds))) (is_reserved_name (name_of (d ∷ ds))))
 
 -- the name of an opaque mark is reserved
 opaque_reserved : (c : List ℕ) → is_opaque_name c ≡ true → is_reserved_name c ≡ true

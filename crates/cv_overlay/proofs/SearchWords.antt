@@ -12,7 +12,7 @@ use Rattle.std.proofs.lemmas.List.Sorted.{searchable_from_sorted}
 use Rattle.cv_base.specs.Path.{Path, path_cmp, same_path}
 use Rattle.cv_base.specs.declared.tree.Node.{Node}
 use Rattle.cv_base.specs.declared.tree.TreeEntry.{TreeEntry}
-use Rattle.cv_base.proofs.Same.{path_is, path_self, path_total}
+use Rattle.cv_base.proofs.Same.{path_is, path_self, path_total, tied_path}
 use Rattle.cv_overlay.specs.Lay.{node_at}
 use Rattle.cv_overlay.specs.Merge.{AreRising}
 use Rattle.cv_overlay.proofs.MergeWords.{ComesAfter, nothing_before}
@@ -40,9 +40,6 @@ next_up (x ∷ xs) h (suc k) d l = next_up xs h.1 k d (omega (arith, l))
 next_after : (xs : List TreeEntry) → AreRising xs → (k : ℕ) (d : TreeEntry) → k + 1 < length xs → is_lt (path_cmp (get_or xs (k + 1) d).path (get_or xs k d).path) ≡ false
 next_after xs h k d l = rw (add-one k) (next_up xs h k d (omega (arith, l)))
 
-tied_is : (p q : Path) → path_cmp p q ≡ Equal → p ≡ q
-tied_is p q h = path_is p q (lists_ties (slice_cmp nat_cmp) texts_ties p q ∙ rw h refl)
-
 -- what stands at the path of an entry of a list that rises
 at_index : (xs : List TreeEntry) → AreRising xs → (k : ℕ) (d : TreeEntry) (p : Path) → k < length xs → (get_or xs k d).path ≡ p → node_at xs p ≡ Some (get_or xs k d).node
 at_index [] h k d p l e = absurd (omega (arith, l))
@@ -68,7 +65,7 @@ apart p q Greater e h = lists_ties (slice_cmp nat_cmp) texts_ties p q ∙ rw e r
 -- what a binary search for a path tells
 pub searched : (xs : List TreeEntry) → AreRising xs → (p : Path) (r : Result ℕ ℕ) → IsSearchInRange r (length xs) → IsBinarySearchResult (λ (e : TreeEntry). path_cmp e.path p) xs r
     → MatchResult r (λ i. (d : TreeEntry) → node_at xs p ≡ Some (get_or xs i d).node) (λ _. node_at xs p ≡ None)
-searched xs h p (Ok i) bound found = λ d. at_index xs h i d p bound (tied_is (get_or xs i d).path p (found d))
+searched xs h p (Ok i) bound found = λ d. at_index xs h i d p bound (tied_path (get_or xs i d).path p (found d))
 searched xs h p (Err i) bound found =
     let sorted : IsSortedBy (λ (a b : TreeEntry). is_lt (path_cmp a.path b.path)) xs = λ k d low l. next_after xs h k d l in
     let point = found (searchable_from_sorted path_total (λ (e : TreeEntry). e.path) xs p sorted) in

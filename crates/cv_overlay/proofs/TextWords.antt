@@ -1,33 +1,22 @@
 -- Paths told by their texts: the last component, and what lies within a directory.
 use Rattle.std.specs.Prelude.{◌≡◌, ℕ, Bool, true, false, ◌&&◌, ◌||◌, ◌==◌, cond, List, [], ◌∷◌, ◌++◌, refl}
 use Rattle.std.specs.List.{list_any, onto_first, slice_split}
-use Rattle.std.proofs.Common.{ap, sym, ◌∙◌, arith}
-use Rattle.std.proofs.lemmas.Bool.Decides.{nat_tests}
+use Rattle.std.proofs.Common.{ap, sym, ◌∙◌}
 use Rattle.std.proofs.lemmas.List.Splits.{join_with_byte-slice_split}
 use Rattle.std.specs.List.{join_with_byte}
+use Rattle.std.proofs.lemmas.Cmp.{nat_eq_equiv}
 use Rattle.cv_base.specs.Path.{Path, components, is_above, is_slash, same_path}
 use Rattle.cv_base.specs.PathText.{goes_on}
-use Rattle.cv_base.specs.Texts.{same}
-use Rattle.cv_base.proofs.PathLemmas.{above_components}
+use Rattle.cv_base.specs.Texts.{same, is_cons}
+use Rattle.cv_base.proofs.PathLemmas.{above_components, none_above, split_cons}
 use Rattle.cv_overlay.specs.Fault.{needs_parent}
 use Rattle.cv_overlay.specs.Mark.{parent_of, name_of, is_reserved_name, mark_of}
-use Rattle.cv_overlay.specs.Cover.{is_some_text}
 use Rattle.cv_overlay.specs.Text.{is_within, mark_by}
 use Rattle.cv_base.proofs.Bools.{both_ways}
 use Rattle.cv_base.proofs.Same.{same_is, same_self, path_is, path_self}
-use Rattle.cv_overlay.proofs.PathWords.{is_cons, needs_parent_last, parent_of_last, name_of_last, mark_told}
+use Rattle.cv_overlay.proofs.PathWords.{needs_parent_last, parent_of_last, name_of_last, mark_told}
 
 -- Cuts.
-
-cons_by : (x : ℕ) (s : Path) (b : Bool) → is_cons (cond b ([] ∷ s) (onto_first x s)) ≡ true
-cons_by x s true = refl
-cons_by x [] false = refl
-cons_by x (h ∷ r) false = refl
-
--- a split has a first part
-pub split_cons : (t : List ℕ) → is_cons (slice_split is_slash t) ≡ true
-split_cons [] = refl
-split_cons (x ∷ xs) = cons_by x (slice_split is_slash xs) (is_slash x)
 
 -- a text without a slash is one component
 pub split_none : (t : List ℕ) → list_any is_slash t ≡ false → slice_split is_slash t ≡ t ∷ []
@@ -59,17 +48,10 @@ pub components_last : (a b : List ℕ) → list_any is_slash b ≡ false → com
 components_last [] b h = split_last [] b h
 components_last (x ∷ xs) b h = split_last (x ∷ xs) b h
 
-pub no_parent_needed : (t : List ℕ) → list_any is_slash t ≡ false → needs_parent (components t) ≡ false
-no_parent_needed [] h = refl
-no_parent_needed (x ∷ xs) h = rw (split_none (x ∷ xs) h) refl
-
 pub parent_needed : (a b : List ℕ) → list_any is_slash b ≡ false → needs_parent (components (a ++ 47 ∷ b)) ≡ true
 parent_needed a b h = rw (components_last a b h) (needs_parent_last (slice_split is_slash a) b ∙ split_cons a)
 
 -- Being within a directory.
-
-swapped : (x y : ℕ) → (x == y) ≡ (y == x)
-swapped x y = grind (arith, nat_tests)
 
 within_step : (e g d s : Bool) → (e && (g || (d && s))) ≡ ((e && g) || (d && (e && s)))
 within_step true g d s = refl
@@ -92,7 +74,7 @@ within_text (x ∷ xs) [] dir = other false dir
 within_text (x ∷ xs) (y ∷ ys) dir =
     ap (λ b. (x == y) && b) (within_text xs ys dir)
     ∙ within_step (x == y) (goes_on xs ys) dir (same ys xs)
-    ∙ ap (λ b. ((x == y) && goes_on xs ys) || (dir && (b && same ys xs))) (swapped x y)
+    ∙ ap (λ b. ((x == y) && goes_on xs ys) || (dir && (b && same ys xs))) (nat_eq_equiv.symm x y)
 
 -- two texts are one where their parts are
 same_split : (a b : List ℕ) → same_path (slice_split is_slash b) (slice_split is_slash a) ≡ same b a
@@ -112,13 +94,13 @@ above_at_end y (d ∷ ds) true h = refl
 above_at_end y [] false h = refl
 above_at_end y (d ∷ ds) false h = refl
 
-pub above_split : (a b : List ℕ) → is_some_text b ≡ true → is_above (slice_split is_slash a) (components b) ≡ goes_on a b
+pub above_split : (a b : List ℕ) → is_cons b ≡ true → is_above (slice_split is_slash a) (components b) ≡ goes_on a b
 above_split a [] h = cc
 above_split [] (y ∷ ys) h = above_at_end y (slice_split is_slash ys) (is_slash y) (split_cons ys)
 above_split (x ∷ xs) (y ∷ ys) h = sym (above_components (x ∷ xs) (y ∷ ys))
 
 -- a path of some text is a directory's own, or lies within it
-pub within_is : (a b : List ℕ) (dir : Bool) → is_some_text b ≡ true
+pub within_is : (a b : List ℕ) (dir : Bool) → is_cons b ≡ true
     → is_within a b dir ≡ (is_above (slice_split is_slash a) (components b) || (dir && same_path (components b) (slice_split is_slash a)))
 within_is a [] dir h = cc
 within_is a (y ∷ ys) dir h =
@@ -127,13 +109,9 @@ within_is a (y ∷ ys) dir h =
     ∙ ap (λ b. is_above (slice_split is_slash a) (components (y ∷ ys)) || (dir && b)) (sym (same_split a (y ∷ ys)))
 
 -- what the code finds: a path of no text lies within no directory, and is none
-pub stands_in : (a n b : List ℕ) (dir : Bool) → list_any is_slash n ≡ false → is_some_text b ≡ true
+pub stands_in : (a n b : List ℕ) (dir : Bool) → list_any is_slash n ≡ false → is_cons b ≡ true
     → is_within a b dir ≡ (is_above (parent_of (components (a ++ 47 ∷ n))) (components b) || (dir && same_path (components b) (parent_of (components (a ++ 47 ∷ n)))))
 stands_in a n b dir h k = rw (components_last a n h, parent_of_last (slice_split is_slash a) n) (within_is a b dir k)
-
-above_none : (p : Path) → is_above p [] ≡ false
-above_none [] = refl
-above_none (x ∷ xs) = refl
 
 none_same : (p : Path) → is_cons p ≡ true → same_path [] p ≡ false
 none_same [] h = cc
@@ -143,9 +121,9 @@ none_by : (dir : Bool) → false ≡ (false || (dir && false))
 none_by true = refl
 none_by false = refl
 
-pub stands_in_none : (a n b : List ℕ) (dir : Bool) → list_any is_slash n ≡ false → is_some_text b ≡ false
+pub stands_in_none : (a n b : List ℕ) (dir : Bool) → list_any is_slash n ≡ false → is_cons b ≡ false
     → false ≡ (is_above (parent_of (components (a ++ 47 ∷ n))) (components b) || (dir && same_path (components b) (parent_of (components (a ++ 47 ∷ n)))))
-stands_in_none a n [] dir h k = rw (components_last a n h, parent_of_last (slice_split is_slash a) n, above_none (slice_split is_slash a), none_same (slice_split is_slash a) (split_cons a)) (none_by dir)
+stands_in_none a n [] dir h k = rw (components_last a n h, parent_of_last (slice_split is_slash a) n, none_above (slice_split is_slash a), none_same (slice_split is_slash a) (split_cons a)) (none_by dir)
 stands_in_none a n (y ∷ ys) dir h k = cc
 
 -- Marks.

@@ -4,23 +4,14 @@ use Rattle.std.specs.Prelude.{ℕ, Bool, true, false, ◌&&◌, ◌||◌, List, 
 use Rattle.std.specs.List.{list_any}
 use Rattle.cv_base.specs.Path.{is_slash}
 use Rattle.cv_base.specs.PathText.{goes_on}
-use Rattle.cv_base.specs.Texts.{same}
+use Rattle.cv_base.specs.Texts.{is_cons}
 use Rattle.cv_overlay.specs.Text.{is_within}
-
--- a text is not empty
-abbrev pub is_some_text : List ℕ → Bool
-is_some_text [] = false
-is_some_text (y ∷ ys) = true
 
 -- a path is hidden, given by its text: it is one of the first texts or below one, it is below one of the second texts,
 -- or all below the top is hidden
 abbrev pub hides_text : List (List ℕ) → List (List ℕ) → Bool → List ℕ → Bool
 hides_text whole below all t =
-    list_any (λ c. is_within c t true) whole || (list_any (λ c. goes_on c t) below || (all && is_some_text t))
-
--- a list has a text
-abbrev pub has_text : List (List ℕ) → List ℕ → Bool
-has_text cs t = list_any (λ c. same c t) cs
+    list_any (λ c. is_within c t true) whole || (list_any (λ c. goes_on c t) below || (all && is_cons t))
 
 -- some front of a text passes a test: it begins with what was read before, and ends before a slash of what is left
 abbrev pub any_front : (List ℕ → Bool) → List ℕ → List ℕ → Bool

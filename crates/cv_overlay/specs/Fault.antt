@@ -5,6 +5,7 @@ use Rattle.std.specs.Prelude.{ℕ, ◌+◌, Bool, true, false, ◌&&◌, ◌||�
 use Rattle.std.specs.List.{list_all, list_any}
 use Rattle.std.specs.declared.cmp.Ordering.{Ordering}
 use Rattle.std.specs.declared.cmp.Ordering.TheVariants.{Less, Equal, Greater}
+use Rattle.std.specs.Option.{option_or}
 use Rattle.cv_base.specs.Path.{Path, path_cmp, same_path}
 use Rattle.cv_base.specs.declared.tree.ListEntry.{ListEntry}
 use Rattle.cv_base.specs.declared.tree.TreeEntry.{TreeEntry}
@@ -47,15 +48,10 @@ fault_at i before e =
     else (if not (has_parent before e) then Some (NoParent i)
     else (if is_bad e.path e.is_dir then Some (BadMark i) else None))
 
--- a fault, or else another one
-abbrev pub or_fault : Option TreeFault → Option TreeFault → Option TreeFault
-or_fault None later = later
-or_fault (Some fault) later = Some fault
-
 -- the first fault of entries that are numbered on from here, with all entries before them, the last one first
 abbrev pub first_fault : ℕ → List Outline → List Outline → Option TreeFault
 first_fault i before [] = None
-first_fault i before (e ∷ es) = or_fault (fault_at i before e) (first_fault (i + 1) (e ∷ before) es)
+first_fault i before (e ∷ es) = option_or (fault_at i before e) (first_fault (i + 1) (e ∷ before) es)
 
 -- the fault that is told of a list of entries, and none where it is good
 abbrev pub fault : List Outline → Option TreeFault

@@ -3,6 +3,7 @@
 -- cvwatch's own: the marks of a layer are applied before its plain entries, wherever they stand among them.
 use Rattle.std.specs.Prelude.{Bool, true, false, ◌&&◌, not, if◌then◌else◌, List, [], ◌∷◌, Option, Some, None}
 use Rattle.std.specs.List.{list_any}
+use Rattle.std.specs.Option.{option_or}
 use Rattle.cv_base.specs.Path.{Path, is_above, same_path}
 use Rattle.cv_base.specs.declared.tree.Node.{Node}
 use Rattle.cv_base.specs.declared.tree.TreeEntry.{TreeEntry}
@@ -41,14 +42,9 @@ hides_by Bad e p = false
 abbrev pub hides : List TreeEntry → Path → Bool
 hides tree p = list_any (λ e. hides_by (mark e) e p) tree
 
--- a node, or else another one
-abbrev pub or_node : Option Node → Option Node → Option Node
-or_node None other = other
-or_node (Some n) other = Some n
-
 -- the root that a tree makes of a root, at a path
 abbrev pub lay : (Path → Option Node) → List TreeEntry → Path → Option Node
-lay root tree p = or_node (plain_at tree p) (if hides tree p then None else root p)
+lay root tree p = option_or (plain_at tree p) (if hides tree p then None else root p)
 
 -- the root that trees make of a root, the lowest first
 abbrev pub root_from : (Path → Option Node) → List (List TreeEntry) → Path → Option Node

@@ -4,7 +4,6 @@
 -- such entries are passed over with all below them; a directory is no mark; a name that begins `.wh.` and is neither
 -- reserved nor a whiteout is a bad mark; a component `.wh.NAME` that is not the last one makes nothing.
 use Rattle.std.specs.Prelude.{ℕ, Bool, true, false, ◌&&◌, ◌||◌, ◌==◌, not, if◌then◌else◌, List, [], ◌∷◌, ◌++◌, drop, codes}
-use Rattle.std.specs.Cmp.Lexicographic.{pointwise}
 use Rattle.std.specs.List.{list_any, starts_with}
 use Rattle.cv_base.specs.Path.{Path, is_above, is_special, same_path}
 use Rattle.cv_base.specs.Texts.{same}

@@ -1,8 +1,9 @@
 -- The first fault of a tree, found by one look at the entry before each. It is shown in `proofs/` that this is the
 -- fault of `Fault.antt`, which looks at all entries before.
 use Rattle.std.specs.Prelude.{ℕ, ◌+◌, Bool, true, ◌&&◌, ◌||◌, not, if◌then◌else◌, List, [], ◌∷◌, Option, Some, None}
+use Rattle.std.specs.Option.{option_or}
 use Rattle.cv_base.specs.Path.{is_above, same_path}
-use Rattle.cv_overlay.specs.Fault.{comes_before, needs_parent, or_fault}
+use Rattle.cv_overlay.specs.Fault.{comes_before, needs_parent}
 use Rattle.cv_overlay.specs.Mark.{Outline, parent_of, is_bad}
 use Rattle.cv_overlay.specs.declared.fault.TreeFault.{TreeFault}
 use Rattle.cv_overlay.specs.declared.fault.TreeFault.TheVariants.{Unsorted, NoParent, BadMark}
@@ -28,4 +29,4 @@ fault_after i before e =
 -- the first fault of entries that are numbered on from here, with the entry before them
 abbrev pub fault_from : ℕ → Option Outline → List Outline → Option TreeFault
 fault_from i before [] = None
-fault_from i before (e ∷ es) = or_fault (fault_after i before e) (fault_from (i + 1) (Some e) es)
+fault_from i before (e ∷ es) = option_or (fault_after i before e) (fault_from (i + 1) (Some e) es)

@@ -4,7 +4,8 @@ ghost use Rattle.std.specs.List.{list_any};
 ghost use Rattle.std.specs.List.Sorted.{IsSortedBy};
 ghost use Rattle.std.specs.Ordering.{is_lt, nat_cmp};
 ghost use Rattle.cv_base.specs.Path.{components, is_above};
-ghost use Rattle.cv_overlay.specs.Cover.{any_front, has_text, hides_text, is_some_text};
+ghost use Rattle.cv_base.specs.Texts.{has_text};
+ghost use Rattle.cv_overlay.specs.Cover.{any_front, hides_text};
 ghost use Rattle.cv_overlay.specs.Lay.{hides, hides_by};
 ghost use Rattle.cv_overlay.specs.Mark.{at_or_above, is_whiteout_name, mark, name_of, parent_of, target_of};
 
@@ -17,7 +18,7 @@ use std::alloc::Global;
 /// What a tree hides of the layers below it, by the texts of paths. The lists are in the order of bytes once the
 /// whole tree was read.
 #[derive(Drop)]
-pub struct Covers<'a> {
+pub(crate) struct Covers<'a> {
     /// The targets of whiteouts, which are hidden with all below them.
     whole: Vec<Vec<u8>>,
     /// The directories of opaque marks and the plain entries that are no directories: all below them is hidden.
@@ -28,7 +29,7 @@ pub struct Covers<'a> {
 
 impl<'a> Covers<'a> {
     /// What a tree hides.
-    pub fn of(alloc: Global, entries: &'a [TreeEntry]) -> Result<Covers<'a>, NoMemory>
+    pub(crate) fn of(alloc: Global, entries: &'a [TreeEntry]) -> Result<Covers<'a>, NoMemory>
         ensures told { IfOk result (λ c. (t : List ℕ) → hides_text (map (λ w. w.items) c.whole.items) (map (λ b. b.now) c.below.items) c.all t ≡ hides entries.now (components t)) }
         ensures whole { IfOk result (λ c. IsSortedBy (λ x y. is_lt (slice_cmp nat_cmp x.items y.items)) c.whole.items) }
         ensures below { IfOk result (λ c. IsSortedBy (λ x y. is_lt (slice_cmp nat_cmp x.now y.now)) c.below.items) }
@@ -47,7 +48,7 @@ impl<'a> Covers<'a> {
     }
 
     /// Whether a path is hidden, given by its text: that text and each front of it that ends before a slash is looked up.
-    pub fn hides(&self, text: &[u8]) -> bool
+    pub(crate) fn hides(&self, text: &[u8]) -> bool
         requires whole { IsSortedBy (λ x y. is_lt (slice_cmp nat_cmp x.items y.items)) self.now.whole.items }
         requires below { IsSortedBy (λ x y. is_lt (slice_cmp nat_cmp x.now y.now)) self.now.below.items }
         ensures { result ≡ hides_text (map (λ w. w.items) self.now.whole.items) (map (λ b. b.now) self.now.below.items) self.now.all text.now }

@@ -5,7 +5,7 @@ ghost use Rattle.cv_overlay.specs.Mark.{has_mark, is_opaque_name, is_reserved_na
 ghost use Rattle.cv_overlay.specs.Text.{mark_by};
 
 use crate::cut::cut;
-use cv_base::RelPath;
+use cv_base::{RelPath, is_special};
 
 /// What an entry of a layer stands for.
 #[derive(Clone, Copy, Debug, PartialEq, Eq)]
@@ -90,11 +90,4 @@ fn is_whiteout_name(name: &[u8]) -> bool
         Some(target) => !is_special(target),
         None => false,
     }
-}
-
-/// Whether a text is no component of a path.
-fn is_special(text: &[u8]) -> bool
-    ensures { result ≡ is_special text.now }
-{
-    text == b"".as_slice() || text == b".".as_slice() || text == b"..".as_slice()
 }

@@ -3,16 +3,18 @@ use Rattle.std.proofs.Common.{◌≡◌, Bool, true, false, List, [], ◌∷◌,
 use Rattle.std.specs.Prelude.{⊤, MatchBool, Option, Some, None, Result, Ok, Err}
 use Rattle.std.specs.List.{cons_option, filter_map}
 use Rattle.cv_base.specs.Lines.{as_read}
+use Rattle.cv_base.specs.Results.{◌>>=◌, onto}
 use Rattle.cv_base.specs.declared.fault.FileBad.{FileBad}
 use Rattle.cv_base.specs.declared.fault.ReadBad.{ReadBad}
 use Rattle.cv_base.specs.declared.fault.ReadBad.TheVariants.{Bad}
 use Rattle.cv_base.specs.declared.package.Package.{Package}
 use Rattle.cv_base.specs.declared.tree.TreeEntry.{TreeEntry}
+use Rattle.cv_base.proofs.Results.{onto_joined}
 use Rattle.cv_apkdb.specs.declared.package.ApkPackage.{ApkPackage}
 use Rattle.cv_dpkg.specs.declared.package.DebPackage.{DebPackage}
 use Rattle.cv_osrel.specs.declared.name.OsName.{OsName}
 use Rattle.cv_packages.specs.Files.{PackageFile, has_etc, package_file, package_files}
-use Rattle.cv_packages.specs.Packages.{◌>>=◌, is_packages_memory, named_by, or_name, packages, read_file, read_files, system}
+use Rattle.cv_packages.specs.Packages.{is_packages_memory, named_by, or_name, packages, read_file, read_files, system}
 use Rattle.cv_packages.specs.Walk.{named_in, read_entries, read_entry, read_found, system_of}
 use Rattle.cv_packages.specs.declared.error.PackagesError.{PackagesError}
 
@@ -44,18 +46,11 @@ whole_root es =
     sym (files_walk (system_of (has_etc es) es) (has_etc es) es)
     ∙ ap (λ (os : Option OsName). read_files os (package_files es)) (sym (system_walk (has_etc es) es))
 
--- packages that were read, in front of those that are left
-abbrev pub onto : List Package → Result (List Package) PackagesError → Result (List Package) PackagesError
-onto front read = read >>= λ (qs : List Package). Ok (front ++ qs)
-
-onto_by : (front ps : List Package) (r : Result (List Package) PackagesError) → onto (front ++ ps) r ≡ onto front (r >>= λ (qs : List Package). Ok (ps ++ qs))
-onto_by front ps (Ok qs) = ap Ok (append_assoc front ps qs)
-onto_by front ps (Err e) = refl
-
+-- packages that were read stand in front of those that are left
 pub entries_more : (front ps : List Package) (os : Option OsName) (etc : Bool) (e : TreeEntry) (es : List TreeEntry) → read_entry os etc e ≡ Ok ps
     → onto (front ++ ps) (read_entries os etc es) ≡ onto front (read_entries os etc (e ∷ es))
 entries_more front ps os etc e es h =
-    onto_by front ps (read_entries os etc es)
+    onto_joined front ps (read_entries os etc es)
     ∙ ap (λ (r : Result (List Package) PackagesError). onto front (r >>= λ (xs : List Package). read_entries os etc es >>= λ (qs : List Package). Ok (xs ++ qs))) (sym h)
 
 bad_by : (front : List Package) (os : Option OsName) (etc : Bool) (e : TreeEntry) (es : List TreeEntry) (whole : Result (List Package) PackagesError) (bad : PackagesError) (memory : Bool)

@@ -6,6 +6,7 @@
 use Rattle.std.specs.Prelude.{ℕ, Bool, true, false, nat_lt, if◌then◌else◌, List, [], ◌∷◌, ◌++◌, map, length, Option, Some, None, Result, Ok, Err}
 use Rattle.std.specs.Option.{option_map, option_to_list}
 use Rattle.cv_base.specs.Path.{Path}
+use Rattle.cv_base.specs.Results.{◌>>=◌}
 use Rattle.cv_base.specs.declared.fault.FileBad.{FileBad}
 use Rattle.cv_base.specs.declared.package.Package.{Package}
 use Rattle.cv_base.specs.declared.package.PackageKind.{PackageKind}
@@ -28,12 +29,6 @@ use Rattle.cv_osrel.specs.declared.name.OsName.{OsName}
 use Rattle.cv_packages.specs.Files.{PackageFile, is_etc, is_usr, package_files}
 use Rattle.cv_packages.specs.declared.error.PackagesError.{PackagesError}
 use Rattle.cv_packages.specs.declared.error.PackagesError.TheVariants as error
-
--- what is read, and then what follows from it; the first refusal is the answer
-infixl 10 ◌>>=◌
-abbrev pub ◌>>=◌ : {A B : Type 0} → Result A PackagesError → (A → Result B PackagesError) → Result B PackagesError
-(Ok x) >>= f = f x
-(Err e) >>= f = Err e
 
 -- the bytes of a file, where they were read
 abbrev pub bytes_in : Content → Option (List ℕ)

@@ -1,10 +1,11 @@
 -- The packages of a root as the code goes: entry by entry, where the definition goes over the package files.
 use Rattle.std.specs.Prelude.{Bool, List, [], ◌∷◌, ◌++◌, Option, Some, None, Result, Ok}
+use Rattle.cv_base.specs.Results.{◌>>=◌}
 use Rattle.cv_base.specs.declared.package.Package.{Package}
 use Rattle.cv_base.specs.declared.tree.TreeEntry.{TreeEntry}
 use Rattle.cv_osrel.specs.declared.name.OsName.{OsName}
 use Rattle.cv_packages.specs.Files.{PackageFile, package_file}
-use Rattle.cv_packages.specs.Packages.{◌>>=◌, named_by, or_name, read_file}
+use Rattle.cv_packages.specs.Packages.{named_by, or_name, read_file}
 use Rattle.cv_packages.specs.declared.error.PackagesError.{PackagesError}
 
 abbrev pub named_in : Option PackageFile → Option OsName

@@ -1,15 +1,13 @@
 -- A manifest has at most 128 layers.
 use Rattle.std.proofs.Common.{◌≡◌, ◌≤◌, ℕ, ◌+◌, Bool, true, false, List, [], ◌∷◌, length, refl, ap, sym, ◌∙◌, arith}
 use Rattle.std.proofs.lemmas.Bool.Decides.{nat_tests}
-use Rattle.std.specs.Prelude.{◌==◌, nat_lt, cond, Result, Ok, Err, Option, codes}
+use Rattle.std.specs.Prelude.{◌==◌, nat_lt, cond, Result, Ok, Err, Option}
 use Rattle.serde_json.specs.Data.{Data, Items, no_items, item}
-use Rattle.serde_json.specs.Find.{get}
-use Rattle.cv_base.specs.declared.manifest.Manifest.{Manifest}
-use Rattle.cv_osv.specs.Json.{◌>>=◌}
-use Rattle.cv_request.specs.Manifest.{checked_layers, count, digest_or, layer_of, layers_from, layers_in, list_or, manifest_of, object_or}
+use Rattle.cv_base.specs.Results.{◌>>=◌}
+use Rattle.cv_request.specs.Manifest.{checked_layers, count, layer_of, layers_from, layers_in, list_or}
 use Rattle.cv_request.specs.Line.{refusing}
 use Rattle.cv_request.specs.declared.error.RequestWhat.{RequestWhat}
-use Rattle.cv_request.specs.declared.error.RequestWhat.TheVariants.{BadManifest, BadHash, BadLayers, NoLayers, TooManyLayers}
+use Rattle.cv_request.specs.declared.error.RequestWhat.TheVariants.{BadLayers, NoLayers, TooManyLayers}
 
 -- both steps of what was read were read
 bind_ok : {A B : Type 0} (r : Result A RequestWhat) (f : A → Result B RequestWhat) (y : B) → (r >>= f) ≡ Ok y → (x : A) × (r ≡ Ok x) × (f x ≡ Ok y)
@@ -37,17 +35,7 @@ layers_few found layers h =
     let listed = bind_ok (list_or BadLayers found) checked_layers layers h in
     checked_by listed.0 layers (count listed.0 == 0) (nat_lt 128 (count listed.0)) refl listed.2
 
-pub manifest_few : (d : Data) (m : Manifest) → manifest_of d ≡ Ok m → length m.layers ≤ 128
-unfolding manifest_of
-manifest_few d m h =
-    let shape = bind_ok (object_or BadManifest d) _ m h in
-    let hash = bind_ok (digest_or BadHash (get (codes "hash") d)) _ m shape.2 in
-    let layers = bind_ok (layers_in (get (codes "layers") d)) _ m hash.2 in
-    let k : record { hash = hash.0; layers = layers.0 } ≡ m = cc (layers.2) in
-    let few = layers_few (get (codes "layers") d) layers.0 layers.1 in
-    rw (← k) few
-
--- the same, of the layers that a call reads
+-- layers that a call reads
 pub told_few : (found : Option Data) (layers : List (List ℕ)) → refusing (layers_in found) ≡ Ok layers → length layers ≤ 128
 told_few found layers h = by_read (layers_in found) refl h
   where

@@ -1,12 +1,13 @@
 -- The layers of a manifest, one after the other.
-use Rattle.std.proofs.Common.{◌≡◌, ℕ, ◌+◌, Bool, true, false, List, [], ◌∷◌, ◌++◌, length, refl, ap, sym, ◌∙◌, arith, append_assoc}
+use Rattle.std.proofs.Common.{◌≡◌, ℕ, Bool, true, false, List, [], ◌∷◌, length, refl, ap, arith}
 use Rattle.std.specs.Prelude.{⊤, MatchBool, Result, Ok, Err, codes}
-use Rattle.serde_json.specs.Data.{Data, Items, item}
+use Rattle.serde_json.specs.Data.{Data}
 use Rattle.serde_json.specs.Find.{get}
 use Rattle.serde_json.specs.View.{items_view}
 use Rattle.serde_json.specs.declared.value.Value.{Value}
-use Rattle.cv_osv.specs.Json.{◌>>=◌}
-use Rattle.cv_request.specs.Manifest.{count, digest_or, layer_of, layers_from, layers_in, manifest_of, object_or}
+use Rattle.cv_base.specs.Results.{◌>>=◌}
+use Rattle.cv_osv.specs.Json.{object_or}
+use Rattle.cv_request.specs.Manifest.{count, digest_or, layers_in, manifest_of}
 use Rattle.cv_request.specs.Line.{is_request_memory, refusing}
 use Rattle.cv_request.specs.declared.error.RequestError.{RequestError}
 use Rattle.cv_request.specs.declared.error.RequestError.TheVariants.{BadRequest}
@@ -17,21 +18,6 @@ use Rattle.cv_request.specs.declared.error.RequestWhat.{RequestWhat}
 pub count_items : (items : List Value) → count (items_view items) ≡ length items
 count_items [] = refl
 count_items (v ∷ vs) = rw (count_items vs) (omega arith)
-
--- layers that were read, in front of those that are left
-abbrev pub onto : List (List ℕ) → Result (List (List ℕ)) RequestWhat → Result (List (List ℕ)) RequestWhat
-onto front read = read >>= λ xs. Ok (front ++ xs)
-
-onto_by : (front : List (List ℕ)) (x : List ℕ) (r : Result (List (List ℕ)) RequestWhat) → onto (front ++ x ∷ []) r ≡ onto front (r >>= λ xs. Ok (x ∷ xs))
-onto_by front x (Ok xs) = ap Ok (append_assoc front (x ∷ []) xs)
-onto_by front x (Err what) = refl
-
-pub layers_more : (front : List (List ℕ)) (n : ℕ) (d : Data) (ds : Items) (x : List ℕ) → layer_of n d ≡ Ok x
-    → onto (front ++ x ∷ []) (layers_from (n + 1) ds) ≡ onto front (layers_from n (item d ds))
-layers_more front n d ds x h = onto_by front x (layers_from (n + 1) ds) ∙ ap (onto front) (ap (λ r. r >>= λ y. layers_from (n + 1) ds >>= λ xs. Ok (y ∷ xs)) (sym h))
-
-pub layers_bad : (front : List (List ℕ)) (n : ℕ) (d : Data) (ds : Items) (w : RequestWhat) → layer_of n d ≡ Err w → onto front (layers_from n (item d ds)) ≡ Err w
-layers_bad front n d ds w h = ap (λ r. onto front (r >>= λ y. layers_from (n + 1) ds >>= λ xs. Ok (y ∷ xs))) h
 
 fails_by : {A B : Type 0} (r : Result A RequestWhat) (f : A → Result B RequestWhat) (e : RequestError) (memory : Bool)
     → MatchBool memory ⊤ (refusing r ≡ Err e) → MatchBool memory ⊤ (refusing (r >>= f) ≡ Err e)

@@ -1,18 +1,15 @@
 -- What a JSON value is as the manifest of an image (after the manifests of Clair v4): its digest and those of its
 -- layers, or what is wrong with it. The order of what is wrong is cvwatch's own, and so is the limit of 128 layers.
-use Rattle.std.specs.Prelude.{ℕ, ◌+◌, ◌==◌, nat_lt, if◌then◌else◌, List, [], ◌∷◌, codes, Option, is_some, option_and_then, Result, Ok, Err}
+use Rattle.std.specs.Prelude.{ℕ, ◌+◌, ◌==◌, nat_lt, if◌then◌else◌, List, [], ◌∷◌, codes, Option, option_and_then, Result, Ok, Err}
 use Rattle.std.specs.Option.{ok_or}
 use Rattle.serde_json.specs.Data.{Data, Items, no_items, item}
-use Rattle.serde_json.specs.Find.{get, as_array, as_object, as_str}
+use Rattle.serde_json.specs.Find.{get, as_array, as_str}
 use Rattle.cv_base.specs.Digest.{digest_of}
+use Rattle.cv_base.specs.Results.{◌>>=◌}
 use Rattle.cv_base.specs.declared.manifest.Manifest.{Manifest}
-use Rattle.cv_osv.specs.Json.{◌>>=◌}
+use Rattle.cv_osv.specs.Json.{object_or}
 use Rattle.cv_request.specs.declared.error.RequestWhat.{RequestWhat}
 use Rattle.cv_request.specs.declared.error.RequestWhat.TheVariants.{BadManifest, BadHash, BadLayers, NoLayers, TooManyLayers, BadLayer}
-
--- the value has to be an object
-abbrev pub object_or : RequestWhat → Data → Result (Unit {0}) RequestWhat
-object_or bad d = if is_some (as_object d) then Ok tt else Err bad
 
 -- the text of a digest
 abbrev pub digest_or : RequestWhat → Option Data → Result (List ℕ) RequestWhat

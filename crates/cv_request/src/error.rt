@@ -1,4 +1,4 @@
-use cv_osv::RecordWhat;
+use cv_osv::{OsvError, RecordWhat};
 use cv_seq::NoMemory;
 use std::alloc::AllocFailed;
 use thiserror::Error;
@@ -64,6 +64,24 @@ impl From<RequestWhat> for RequestError {
 
     fn from(what: RequestWhat) -> RequestError {
         RequestError::BadRequest(what)
+    }
+}
+
+/// The refusal of records, as that of a line.
+impl From<OsvError> for RequestError {
+    ghost use Rattle.std.specs.Prelude.{◌≡◌};
+    ghost use Rattle.cv_request.specs.Line.{requested};
+
+    ghost from_gives = { λ refusal e. e ≡ requested refusal };
+
+    fn from(refusal: OsvError) -> RequestError {
+        match refusal {
+            OsvError::NotList => RequestError::BadRequest(RequestWhat::BadAdvisories),
+            OsvError::TooMany => RequestError::TooManyAdvisories,
+            OsvError::BadAdvisory { index, what } => RequestError::BadAdvisory { index, what },
+            OsvError::DuplicateId { first, second } => RequestError::DuplicateId { first, second },
+            OsvError::NoMemory => RequestError::NoMemory,
+        }
     }
 }
 

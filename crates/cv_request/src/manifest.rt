@@ -2,8 +2,9 @@ ghost use Rattle.std.specs.Prelude.{◌≡◌, ◌<◌, ◌≤◌, ◌^◌, fals
 ghost use Rattle.std.specs.Option.{option_map};
 ghost use Rattle.serde_json.specs.View.{view, items_view};
 ghost use Rattle.cv_base.specs.Answer.{Gives};
+ghost use Rattle.cv_osv.specs.Json.{object_or};
 ghost use Rattle.cv_request.specs.Line.{is_request_memory, refusing};
-ghost use Rattle.cv_request.specs.Manifest.{checked_layers, digest_or, layer_of, layers_from, layers_in, list_or, manifest_of, object_or};
+ghost use Rattle.cv_request.specs.Manifest.{checked_layers, digest_or, layer_of, layers_from, layers_in, list_or, manifest_of};
 
 use crate::error::{RequestError, RequestWhat};
 use cv_base::{Digest, Manifest, Seq};

@@ -4,7 +4,7 @@ use Rattle.std.specs.Prelude.{◌≡◌, Bool, true, false, ◌&&◌, ◌||◌, 
 use Rattle.std.specs.Cmp.Lexicographic.{slice_cmp, lists_ties, texts_ties}
 use Rattle.std.specs.List.{AllByRecursion, cons_option, flat_map, list_any}
 use Rattle.std.specs.List.Sorted.{IsStrictlySortedBy}
-use Rattle.std.specs.Option.{option_map}
+use Rattle.std.specs.Option.{option_map, option_or}
 use Rattle.std.specs.Ordering.{is_eq, match_ordering, nat_cmp, ordering_reverse}
 use Rattle.std.specs.declared.cmp.Ordering.{Ordering}
 use Rattle.std.specs.declared.cmp.Ordering.TheVariants.{Less, Equal, Greater}
@@ -16,7 +16,7 @@ use Rattle.cv_base.specs.declared.tree.Node.{Node}
 use Rattle.cv_base.specs.declared.tree.TreeEntry.{TreeEntry}
 use Rattle.cv_base.proofs.InOrder.{after_lower, any_order, order_rises}
 use Rattle.cv_base.proofs.Same.{path_is, path_self, path_total, tied_path}
-use Rattle.cv_overlay.specs.Lay.{hides, is_plain, lay, node_at, or_node, plain_at, root_from, root_of}
+use Rattle.cv_overlay.specs.Lay.{hides, is_plain, lay, node_at, plain_at, root_from, root_of}
 use Rattle.cv_overlay.specs.Mark.{mark}
 use Rattle.cv_overlay.specs.Merge.{AreRising}
 use Rattle.cv_overlay.proofs.MergeWords.{ComesAfter, nothing_before}
@@ -98,7 +98,7 @@ none_laid root [] p h none = none
 none_laid root (tree ∷ trees) p h none =
     let parts = neither (is_among (map path_in tree) p) (is_among (all_paths trees) p) (sym (list_any-append (λ q. same_path q p) (map path_in tree) (all_paths trees)) ∙ h) in
     none_laid (lay root tree) trees p parts.1
-    (ap (λ (found : Option Node). or_node found (if hides tree p then None else root p)) (plain_none tree p parts.0) ∙ none_either (hides tree p) (root p) none)
+    (ap (λ (found : Option Node). option_or found (if hides tree p then None else root p)) (plain_none tree p parts.0) ∙ none_either (hides tree p) (root p) none)
 
 only_among : (trees : List (List TreeEntry)) (p : Path) → (if is_among (all_paths trees) p then root_of trees p else None) ≡ root_of trees p
 only_among trees p = by_test (is_among (all_paths trees) p) refl where

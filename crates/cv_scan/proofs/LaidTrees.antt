@@ -2,10 +2,11 @@
 use Rattle.std.specs.Prelude.{◌≡◌, ℕ, ◌+◌, ◌<◌, ◌≤◌, List, [], ◌∷◌, ◌++◌, drop, get_or, length, map, Option, None, Result, Ok, Err, if◌then◌else◌, refl}
 use Rattle.std.proofs.Common.{ap, sym, ◌∙◌, append_assoc}
 use Rattle.std.proofs.lemmas.List.{drop_all, drop_more}
+use Rattle.std.specs.Option.{option_or}
 use Rattle.cv_base.specs.Path.{Path}
 use Rattle.cv_base.specs.declared.tree.Node.{Node}
 use Rattle.cv_base.specs.declared.tree.TreeEntry.{TreeEntry}
-use Rattle.cv_overlay.specs.Lay.{hides, lay, node_at, or_node, plain_at, root_from, root_of}
+use Rattle.cv_overlay.specs.Lay.{hides, lay, node_at, plain_at, root_from, root_of}
 use Rattle.cv_overlay.specs.Fault.{tree_fault}
 use Rattle.cv_overlay.specs.declared.fault.ImageFault.{ImageFault}
 use Rattle.cv_scan.specs.Scan.{bad_tree_from, or_bad, with_tree}
@@ -15,7 +16,7 @@ abbrev pub AreSame : (Path → Option Node) → (Path → Option Node) → Type 
 AreSame one two = (p : Path) → one p ≡ two p
 
 lay_same : (one two : Path → Option Node) (tree : List TreeEntry) → AreSame one two → AreSame (lay one tree) (lay two tree)
-lay_same one two tree h p = ap (λ found. or_node (plain_at tree p) (if hides tree p then None else found)) (h p)
+lay_same one two tree h p = ap (λ found. option_or (plain_at tree p) (if hides tree p then None else found)) (h p)
 
 pub from_same : (one two : Path → Option Node) (trees : List (List TreeEntry)) → AreSame one two → AreSame (root_from one trees) (root_from two trees)
 from_same one two [] h = h

@@ -2,14 +2,14 @@
 -- its scan.
 use Rattle.std.specs.Prelude.{◌≡◌, ℕ, ◌+◌, Bool, true, false, ◌&&◌, ◌||◌, not, if◌then◌else◌, List, [], ◌∷◌, ◌++◌, map, Option, Some, None, Result, Ok, Err, refl}
 use Rattle.std.specs.List.{cons_option, flat_map}
-use Rattle.std.specs.Option.{option_map}
+use Rattle.std.specs.Option.{option_map, option_or}
 use Rattle.std.proofs.Common.{ap, ◌∙◌}
 use Rattle.cv_base.specs.Path.{Path, is_above, same_path}
 use Rattle.cv_base.specs.declared.advisory.Advisory.{Advisory}
 use Rattle.cv_base.specs.declared.tree.Node.{Node}
 use Rattle.cv_base.specs.declared.tree.TreeEntry.{TreeEntry}
 use Rattle.cv_base.proofs.Same.{path_is}
-use Rattle.cv_overlay.specs.Lay.{hides, hides_by, is_plain, lay, or_node, plain_at, root_from, root_of}
+use Rattle.cv_overlay.specs.Lay.{hides, hides_by, is_plain, lay, plain_at, root_from, root_of}
 use Rattle.cv_overlay.specs.Mark.{mark, mark_of}
 use Rattle.cv_overlay.specs.declared.fault.ImageFault.{ImageFault}
 use Rattle.cv_overlay.specs.declared.mark.Mark.{Mark}
@@ -58,7 +58,7 @@ hides_loaded (e ∷ es) p = λ i. hides_entry e p i || hides_loaded es p i
 -- Laid.
 
 or_loaded : (p : Path) (found : Option Node) (b : Bool) (one two : Option Node) → one ≡ option_map (load_node p) two
-    → or_node (option_map (load_node p) found) (if b then None else one) ≡ option_map (load_node p) (or_node found (if b then None else two))
+    → option_or (option_map (load_node p) found) (if b then None else one) ≡ option_map (load_node p) (option_or found (if b then None else two))
 or_loaded p (Some n) b one two h = refl
 or_loaded p None true one two h = refl
 or_loaded p None false one two h = h
@@ -68,7 +68,7 @@ AreLoaded one two = (p : Path) → one p ≡ option_map (load_node p) (two p)
 
 lay_loaded : (one two : Path → Option Node) (tree : List TreeEntry) → AreLoaded one two → AreLoaded (lay one (map load_entry tree)) (lay two tree)
 lay_loaded one two tree h p =
-    (λ i. or_node (plain_loaded tree p i) (if hides_loaded tree p i then None else one p))
+    (λ i. option_or (plain_loaded tree p i) (if hides_loaded tree p i then None else one p))
     ∙ or_loaded p (plain_at tree p) (hides tree p) (one p) (two p) (h p)
 
 from_loaded : (one two : Path → Option Node) (trees : List (List TreeEntry)) → AreLoaded one two → AreLoaded (root_from one (map (map load_entry) trees)) (root_from two trees)

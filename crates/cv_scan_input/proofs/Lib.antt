@@ -1,3 +1,4 @@
 mod Examples
 pub mod Going
 pub mod Lines
+pub mod Passed

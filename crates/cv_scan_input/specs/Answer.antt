@@ -43,7 +43,7 @@ is_input_fault (Err LineTooLong) = false
 is_input_fault (Err InputTooLong) = false
 is_input_fault (Err NoMemory) = false
 
--- what an error says of what is asked: a failing source and want of memory say nothing of it
+-- what an error says of what is asked: want of memory says nothing of it, and what a failing source says is `Unrefused`
 abbrev pub IsRefusedBy : Asked → InputError → Type 0
 IsRefusedBy asked NoManifest = asked ≡ NoLine
 IsRefusedBy asked (Refused line error) = asked ≡ RefusedAt line error

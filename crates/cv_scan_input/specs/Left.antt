@@ -1,34 +1,19 @@
 -- An input read line by line, as the code goes. It is shown in `proofs/` that this is `asked_by` of `Asked.antt`.
-use Rattle.std.specs.Prelude.{◌≡◌, ℕ, nat_le, if◌then◌else◌, List, [], ◌∷◌, ◌++◌, length, map, Option, Some, Result, Ok, Err, IfSome, IsSomeAnd}
+use Rattle.std.specs.Prelude.{◌≡◌, ℕ, nat_le, if◌then◌else◌, List, [], ◌∷◌, ◌++◌, length, Option, Result, Ok, Err, IfSome, IsSomeAnd}
+use Rattle.cv_base.specs.Results.{◌>>=◌}
 use Rattle.cv_base.specs.declared.advisory.Advisory.{Advisory}
 use Rattle.cv_base.specs.declared.manifest.Manifest.{Manifest}
 use Rattle.cv_io.specs.Lines.{Reading}
-use Rattle.cv_osv.specs.Json.{◌>>=◌}
 use Rattle.cv_osv.specs.Record.{advisory_of}
-use Rattle.cv_osv.specs.Told.{one_more}
-use Rattle.cv_osv.specs.declared.error.OsvError.{OsvError}
-use Rattle.cv_osv.specs.declared.error.OsvError.TheVariants as osv
-use Rattle.cv_request.specs.Line.{json_or}
+use Rattle.cv_osv.specs.Records.{one_more, reads_of}
+use Rattle.cv_request.specs.Line.{json_or, requesting}
 use Rattle.cv_request.specs.declared.error.RequestError.{RequestError}
-use Rattle.cv_request.specs.declared.error.RequestError.TheVariants.{BadRequest, BadAdvisory, DuplicateId, TooManyAdvisories, NoMemory}
-use Rattle.cv_request.specs.declared.error.RequestWhat.TheVariants.{BadAdvisories}
+use Rattle.cv_request.specs.declared.error.RequestError.TheVariants.{TooManyAdvisories}
 use Rattle.cv_scan_input.specs.Answer.{IsRefusedBy}
-use Rattle.cv_scan_input.specs.Asked.{Asked, Scan, RecordRead, at_stop, asked_by, first_or, record_lines, records_in, refused_behind}
+use Rattle.cv_scan_input.specs.Asked.{Asked, Scan, asked_by, at_stop, first_or, line_records, record_lines, refused_behind}
 use Rattle.cv_scan_input.specs.declared.error.InputError.{InputError}
 use Rattle.cv_scan_input.specs.declared.error.InputError.TheVariants.{Refused}
 use Rattle.serde_json.specs.Data.{Data}
-
--- a refusal of records, as that of a line
-abbrev pub requested : OsvError → RequestError
-requested osv.NotList = BadRequest BadAdvisories
-requested osv.TooMany = TooManyAdvisories
-requested (osv.BadAdvisory index what) = BadAdvisory index what
-requested (osv.DuplicateId first second) = DuplicateId first second
-requested osv.NoMemory = NoMemory
-
-abbrev pub requesting : {A : Type 0} → Result A OsvError → Result A RequestError
-requesting (Ok x) = Ok x
-requesting (Err error) = Err (requested error)
 
 -- a value read as a record behind the records
 abbrev pub record_behind : List Advisory → Data → Result (List Advisory) RequestError
@@ -48,15 +33,11 @@ abbrev pub line_behind : ℕ → List Advisory → List ℕ → Result (List Adv
 line_behind number records [] = Ok records
 line_behind number records (byte ∷ bytes) = refused_at number (text_behind records (byte ∷ bytes))
 
--- records, as they were read
-abbrev pub reads_of : List Advisory → List RecordRead
-reads_of records = map (λ here. Some (Ok here)) records
-
 -- what the rest of an input asks, whose lines are numbered on from here, behind the manifest and the records
 abbrev pub asked_left : Manifest → List Advisory → ℕ → Reading → Asked
 asked_left manifest records number rest =
     first_or (refused_behind (reads_of records) (record_lines number rest.lines))
-    (at_stop rest.stop (Scan manifest (records ++ records_in (record_lines number rest.lines))))
+    (at_stop rest.stop (Scan manifest (records ++ line_records (record_lines number rest.lines))))
 
 -- what the whole asks is what the rest asks behind the manifest, or its refusal
 abbrev pub Begins : Option Reading → Option Reading → Result Manifest InputError → Type 0

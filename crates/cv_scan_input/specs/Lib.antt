@@ -1,3 +1,5 @@
 pub mod Answer
 pub mod Asked
 pub mod Left
+pub mod Passed
+pub mod Unrefused

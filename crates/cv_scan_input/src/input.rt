@@ -1,11 +1,13 @@
 ghost use Rattle.std.specs.Prelude.{◌≡◌, ◌≤◌, ◌^◌, [], true, false, length, IfErr, IfOk, IfSome, IsErrOf, OnOk};
 ghost use Rattle.std.specs.Io.KnownBytes.{IsAtEnd};
 ghost use Rattle.cv_seq.specs.Cause.{CausedBy};
-ghost use Rattle.cv_io.specs.Reader.{reading, room_of};
+ghost use Rattle.cv_io.specs.Reader.{reading, room_of, ungiven};
 ghost use Rattle.cv_osv.specs.Records.{HasDistinctIds};
 ghost use Rattle.cv_scan_input.specs.Answer.{IsAsked, is_input_fault, refuses_memory};
 ghost use Rattle.cv_scan_input.specs.Asked.{asked_by, input_of};
 ghost use Rattle.cv_scan_input.specs.Left.{Begins, asked_left};
+ghost use Rattle.cv_scan_input.specs.Passed.{Begun, UnrefusedBehind};
+ghost use Rattle.cv_scan_input.specs.Unrefused.{Unrefused};
 ghost use Rattle.cv_scan_input.specs.declared.error.InputError.TheVariants as error;
 
 use crate::error::InputError;
@@ -30,8 +32,10 @@ pub struct ScanInput {
 
 /// Reads the input of a scan to its end, or up to the first line that is refused. Of the records one at a time stands
 /// in memory as JSON.
+#[tactic(auto, using(crate::proofs::Passed::begun_then, crate::proofs::Passed::begun_new))]
 pub fn read_scan_input<S: Source>(alloc: Global, input: &mut S) -> Result<ScanInput, InputError>
     ensures told { IfSome (S.left input.old) (λ bytes. IsAsked (asked_by (input_of bytes)) result) }
+    ensures unrefused { IsErrOf result error.ReadFault → Unrefused (S.left input.old) (S.left input.new) }
     ensures ended { OnOk result (IsAtEnd (S.left input.new)) }
     ensures empty { IsErrOf result error.NoManifest → IsAtEnd (S.left input.new) }
     ensures named { IfErr result (λ refused. refuses_memory refused ≡ false) }
@@ -46,7 +50,7 @@ pub fn read_scan_input<S: Source>(alloc: Global, input: &mut S) -> Result<ScanIn
 }
 
 /// Reads line 1.
-#[tactic(auto, using(crate::proofs::Going::begins_more, crate::proofs::Going::begins_refused, crate::proofs::Going::begins_end, crate::proofs::Going::begins_stopped))]
+#[tactic(auto, using(crate::proofs::Going::begins_more, crate::proofs::Going::begins_refused, crate::proofs::Going::begins_end, crate::proofs::Going::begins_stopped, crate::proofs::Passed::begun_line, crate::proofs::Passed::begun_failed))]
 fn read_first<S: Source>(
     alloc: Global,
     reader: &mut LineReader,
@@ -54,8 +58,14 @@ fn read_first<S: Source>(
 ) -> Result<Manifest, InputError>
     requires going { reader.old.spent ≡ false }
     requires seen { reader.old.ended ≡ true → IsAtEnd (S.left input.old) }
+    requires limit { reader.old.max_line ≡ 67108864 }
+    requires room { room_of reader.old ≤ 2 ^ 36 }
     ensures told { Begins (reading reader.old (S.left input.old)) (reading reader.new (S.left input.new)) result }
+    ensures begun { IfOk result (λ manifest. reader.new.ended ≡ false →
+        Begun manifest reader.old reader.new (S.left input.old) (S.left input.new)) }
+    ensures unrefused { IsErrOf result error.ReadFault → Unrefused (ungiven reader.old (S.left input.old)) (S.left input.new) }
     ensures going { OnOk result (reader.new.spent ≡ false) }
+    ensures limit { OnOk result (reader.new.max_line ≡ 67108864) }
     ensures seen { reader.new.ended ≡ true → IsAtEnd (S.left input.new) }
     ensures empty { IsErrOf result error.NoManifest → IsAtEnd (S.left input.new) }
     ensures named { IfErr result (λ refused. refuses_memory refused ≡ false) }
@@ -70,7 +80,7 @@ fn read_first<S: Source>(
 }
 
 /// Reads the lines behind line 1, to the end.
-#[tactic(auto, using(crate::proofs::Going::going_first, crate::proofs::Going::going_more, crate::proofs::Going::going_refused, crate::proofs::Going::going_end, crate::proofs::Going::going_stopped))]
+#[tactic(auto, using(crate::proofs::Going::going_first, crate::proofs::Going::going_more, crate::proofs::Going::going_refused, crate::proofs::Going::going_end, crate::proofs::Going::going_stopped, crate::proofs::Passed::passed_first, crate::proofs::Passed::passed_more, crate::proofs::Passed::passed_failed))]
 fn read_rest<S: Source>(
     alloc: Global,
     mut reader: LineReader,
@@ -79,9 +89,12 @@ fn read_rest<S: Source>(
 ) -> Result<ScanInput, InputError>
     requires going { reader.spent ≡ false }
     requires seen { reader.ended ≡ true → IsAtEnd (S.left input.old) }
+    requires limit { reader.max_line ≡ 67108864 }
     requires room { room_of reader ≤ 2 ^ 36 }
     requires few { length manifest.layers ≤ 128 }
     ensures told { IfSome (reading reader (S.left input.old)) (λ rest. IsAsked (asked_left manifest [] 2 rest) result) }
+    ensures before { IsErrOf result error.ReadFault → reader.ended ≡ false }
+    ensures unrefused { IsErrOf result error.ReadFault → UnrefusedBehind manifest reader (S.left input.old) (S.left input.new) }
     ensures ended { OnOk result (IsAtEnd (S.left input.new)) }
     ensures begun { IsErrOf result error.NoManifest → ⊥ }
     ensures named { IfErr result (λ refused. refuses_memory refused ≡ false) }

@@ -3,14 +3,14 @@ ghost use Rattle.cv_base.specs.Answer.{Gives};
 ghost use Rattle.cv_request.specs.Line.{is_request_memory};
 ghost use Rattle.cv_scan_input.specs.Answer.{is_input_memory, refuses_memory};
 ghost use Rattle.cv_scan_input.specs.Asked.{manifest_or};
-ghost use Rattle.cv_scan_input.specs.Left.{line_behind, record_behind, refused_at, requested, text_behind};
+ghost use Rattle.cv_scan_input.specs.Left.{line_behind, record_behind, refused_at, text_behind};
 ghost use Rattle.cv_scan_input.specs.declared.error.InputError.TheVariants as input;
 ghost use Rattle.serde_json.specs.View.{view};
 
 use crate::error::InputError;
 use cv_base::Manifest;
-use cv_osv::{OsvError, RecordList};
-use cv_request::{RequestError, RequestWhat, read_json, read_manifest};
+use cv_osv::RecordList;
+use cv_request::{RequestError, read_json, read_manifest};
 use serde_json::Value;
 use std::alloc::Global;
 
@@ -76,18 +76,5 @@ fn record_value(
     if records.is_full() {
         return Err(RequestError::TooManyAdvisories);
     }
-    records.read(alloc, value).map_err(requested)
-}
-
-/// The refusal of records, as that of a line.
-fn requested(error: OsvError) -> RequestError
-    ensures { result ≡ requested error }
-{
-    match error {
-        OsvError::NotList => RequestError::BadRequest(RequestWhat::BadAdvisories),
-        OsvError::TooMany => RequestError::TooManyAdvisories,
-        OsvError::BadAdvisory { index, what } => RequestError::BadAdvisory { index, what },
-        OsvError::DuplicateId { first, second } => RequestError::DuplicateId { first, second },
-        OsvError::NoMemory => RequestError::NoMemory,
-    }
+    Ok(records.read(alloc, value)?)
 }

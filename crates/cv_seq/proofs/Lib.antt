@@ -1,3 +1,2 @@
-pub mod Causes
 mod Examples
 pub mod Utf8

@@ -79,27 +79,34 @@ fn a_malformed_record_is_refused(rt: HostRuntime) -> Result<(), Fail> {
 }
 
 #[test]
+fn a_malformed_package_is_refused(rt: HostRuntime) -> Result<(), Fail> {
+    let entries = [
+        "{\"package\":7}",
+        "{\"package\":[]}",
+        "{\"package\":{\"name\":\"x\"}}",
+        "{\"package\":{\"ecosystem\":\"npm\"}}",
+        "{\"package\":{\"ecosystem\":\"npm\",\"name\":null}}",
+        "{}, {\"package\":{\"ecosystem\":7,\"name\":\"x\"}}",
+        "{}, {\"package\":7}",
+        "{\"package\":7,\"ranges\":7,\"versions\":7}",
+    ];
+    for text in entries {
+        assert_eq!(rt;
+            fault_in_entries(rt.alloc(), text)?,
+            Some(RecordWhat::BadPackage),
+            "{text}"
+        );
+    }
+    Ok(())
+}
+
+#[test]
 fn a_malformed_entry_is_refused(rt: HostRuntime) -> Result<(), Fail> {
     let table = [
         ("null", RecordWhat::BadEntry),
         ("{}, []", RecordWhat::BadEntry),
-        ("{\"package\":7}", RecordWhat::BadPackage),
-        ("{\"package\":[]}", RecordWhat::BadPackage),
-        ("{\"package\":{\"name\":\"x\"}}", RecordWhat::BadPackage),
-        (
-            "{\"package\":{\"ecosystem\":\"npm\"}}",
-            RecordWhat::BadPackage,
-        ),
-        (
-            "{\"package\":{\"ecosystem\":\"npm\",\"name\":null}}",
-            RecordWhat::BadPackage,
-        ),
-        (
-            "{}, {\"package\":{\"ecosystem\":7,\"name\":\"x\"}}",
-            RecordWhat::BadPackage,
-        ),
+        ("7, {\"versions\":7}", RecordWhat::BadEntry),
         ("{\"ranges\":{}}", RecordWhat::BadRange),
-        ("{}, {\"package\":7}", RecordWhat::BadPackage),
         ("{}, {\"ranges\":\"all\"}", RecordWhat::BadRange),
         (
             "{}, {\"ranges\":[{\"type\":\"GIT\"}, 7]}",
@@ -109,6 +116,7 @@ fn a_malformed_entry_is_refused(rt: HostRuntime) -> Result<(), Fail> {
             "{}, {\"ranges\":[{\"type\":\"GIT\",\"events\":[{}, 7]}]}",
             RecordWhat::BadEvent,
         ),
+        ("{\"ranges\":7,\"versions\":7}", RecordWhat::BadRange),
         ("{\"versions\":{}}", RecordWhat::BadVersions),
         ("{\"versions\":[7]}", RecordWhat::BadVersions),
         ("{\"versions\":[\"1\",null]}", RecordWhat::BadVersions),
@@ -116,13 +124,7 @@ fn a_malformed_entry_is_refused(rt: HostRuntime) -> Result<(), Fail> {
             "{\"versions\":[\"1\"]}, {\"versions\":[\"1\",\"2\",{}]}",
             RecordWhat::BadVersions,
         ),
-        (
-            "{\"package\":7,\"ranges\":7,\"versions\":7}",
-            RecordWhat::BadPackage,
-        ),
-        ("{\"ranges\":7,\"versions\":7}", RecordWhat::BadRange),
         ("{\"versions\":7}, 7", RecordWhat::BadVersions),
-        ("7, {\"versions\":7}", RecordWhat::BadEntry),
     ];
     for (entries, want) in table {
         assert_eq!(rt;

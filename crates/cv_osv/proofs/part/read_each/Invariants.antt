@@ -1,7 +1,8 @@
 -- What has been read, and then what is left, is the whole.
 use Rattle.std.specs.Prelude.{◌≡◌, length}
+use Rattle.cv_base.specs.Results.{onto}
 use Rattle.cv_osv.proofs.part.read_each.Given as goal
-use Rattle.cv_osv.specs.Json.{each, onto}
+use Rattle.cv_osv.specs.Json.{each}
 use Rattle.serde_json.specs.View.{items_view}
 
 abbrev pub invariant-loop-left : goal.invariant-loop-left

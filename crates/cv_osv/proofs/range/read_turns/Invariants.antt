@@ -1,7 +1,8 @@
 -- What has been read, and then what is left, is the whole.
 use Rattle.std.specs.Prelude.{◌≡◌, length}
+use Rattle.cv_base.specs.Results.{onto}
 use Rattle.cv_osv.proofs.range.read_turns.Given as goal
-use Rattle.cv_osv.specs.Json.{each_joined, onto}
+use Rattle.cv_osv.specs.Json.{each_joined}
 use Rattle.cv_osv.specs.Record.{turns_of}
 use Rattle.serde_json.specs.View.{items_view}
 

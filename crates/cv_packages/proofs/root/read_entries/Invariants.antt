@@ -1,6 +1,6 @@
 use Rattle.std.proofs.Common.{◌≡◌, drop}
 use Rattle.std.specs.Option.{option_map}
-use Rattle.cv_packages.proofs.Walks.{onto}
+use Rattle.cv_base.specs.Results.{onto}
 use Rattle.cv_packages.specs.Walk.{read_entries}
 use Rattle.cv_packages.proofs.root.read_entries.Given as goal
 

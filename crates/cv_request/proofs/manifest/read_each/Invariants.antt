@@ -1,6 +1,6 @@
 use Rattle.std.proofs.Common.{◌≡◌, drop}
 use Rattle.serde_json.specs.View.{items_view}
-use Rattle.cv_request.proofs.Layers.{onto}
+use Rattle.cv_base.specs.Results.{onto}
 use Rattle.cv_request.specs.Manifest.{layers_from}
 use Rattle.cv_request.proofs.manifest.read_each.Given as goal
 

@@ -2,6 +2,7 @@
 use Rattle.std.specs.Prelude.{◌≡◌, ◌+◌, ◌^◌, ◌≤◌, true, false}
 use Rattle.std.specs.Io.KnownBytes.{IsAtEnd}
 use Rattle.cv_io.specs.Reader.{reading, room_of}
+use Rattle.cv_scan_input.specs.Passed.{Passed}
 use Rattle.cv_scan_input.proofs.Going.{Going}
 use Rattle.cv_scan_input.proofs.input.read_rest.Given as goal
 
@@ -9,6 +10,9 @@ abbrev pub invariant-loop-records : goal.invariant-loop-records
 invariant-loop-records g l = record {
   going : l.reader.spent ≡ false;
   told : Going l.fn.manifest (reading l.fn.reader (g.S.Source.left l.fn.input)) (reading l.reader (g.S.Source.left l.input)) l.records (l.number + 1);
+  before : l.reader.ended ≡ false → l.fn.reader.ended ≡ false;
+  passed : l.reader.ended ≡ false → Passed l.fn.manifest l.fn.reader l.reader l.records (l.number + 1) (g.S.Source.left l.fn.input) (g.S.Source.left l.input);
+  limit : l.reader.max_line ≡ 67108864;
   seen : l.reader.ended ≡ true → IsAtEnd (g.S.Source.left l.input);
   room : l.number + room_of l.reader ≤ 2 ^ 36 + 1;
   later : g.S.Source.faults l.fn.input ≤ g.S.Source.faults l.input;

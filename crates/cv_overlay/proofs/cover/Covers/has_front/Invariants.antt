@@ -1,5 +1,6 @@
 use Rattle.std.proofs.Common.{◌≡◌, [], ◌||◌, take, drop, map}
-use Rattle.cv_overlay.specs.Cover.{any_front, has_text}
+use Rattle.cv_base.specs.Texts.{has_text}
+use Rattle.cv_overlay.specs.Cover.{any_front}
 use Rattle.cv_overlay.proofs.cover.Covers.has_front.Given as goal
 
 -- what is left of the fronts tells of them all

@@ -1,6 +1,7 @@
 use Rattle.std.proofs.Common.{ℕ, true, false, List, Bor, Vec, Global, map, refl, sym, ap, ◌∙◌}
-use Rattle.cv_overlay.specs.Cover.{has_text, is_some_text}
-use Rattle.cv_overlay.proofs.CoverWords.{and_false, and_true, empty_text, looked_so, some_text}
+use Rattle.std.proofs.Math.Bool.{and-false, and-true}
+use Rattle.cv_base.specs.Texts.{is_cons, has_text}
+use Rattle.cv_overlay.proofs.CoverWords.{empty_text, looked_so, some_text}
 use Rattle.cv_overlay.proofs.cover.Covers.hides.Goals as goal
 
 pub returns-then-has_front : goal.returns-then-has_front
@@ -9,7 +10,7 @@ returns-then-has_front c =
     let whole : List (List ℕ) = map (λ (w : Vec ℕ Global). w.items) covers.whole.items in
     let below : List (List ℕ) = map (λ (b : Bor (List ℕ)). b.now) covers.below.items in
     let t = c.args.text.now in
-    looked_so whole below covers.all t true (has_text whole t) (is_some_text t) (sym c.if-has_front.true ∙ c.has_front.ensures) refl refl
+    looked_so whole below covers.all t true (has_text whole t) (is_cons t) (sym c.if-has_front.true ∙ c.has_front.ensures) refl refl
 
 pub returns-then-has_whole : goal.returns-then-has_whole
 returns-then-has_whole c =
@@ -17,7 +18,7 @@ returns-then-has_whole c =
     let whole : List (List ℕ) = map (λ (w : Vec ℕ Global). w.items) covers.whole.items in
     let below : List (List ℕ) = map (λ (b : Bor (List ℕ)). b.now) covers.below.items in
     let t = c.args.text.now in
-    looked_so whole below covers.all t false true (is_some_text t) (sym c.if-has_front.false ∙ c.has_front.ensures)
+    looked_so whole below covers.all t false true (is_cons t) (sym c.if-has_front.false ∙ c.has_front.ensures)
     (sym c.if-has_whole.true ∙ c.has_whole.ensures ∙ ap (λ (l : List (Vec ℕ Global)). has_text (map (λ (w : Vec ℕ Global). w.items) l) t) c.deref.ensures.value) refl
 
 pub returns-then-is_empty : goal.returns-then-is_empty
@@ -26,7 +27,7 @@ returns-then-is_empty c =
     let whole : List (List ℕ) = map (λ (w : Vec ℕ Global). w.items) covers.whole.items in
     let below : List (List ℕ) = map (λ (b : Bor (List ℕ)). b.now) covers.below.items in
     let t = c.args.text.now in
-    and_false covers.all
+    sym (and-false covers.all)
     ∙ looked_so whole below covers.all t false false false (sym c.if-has_front.false ∙ c.has_front.ensures)
     (sym c.if-has_whole.false ∙ c.has_whole.ensures ∙ ap (λ (l : List (Vec ℕ Global)). has_text (map (λ (w : Vec ℕ Global). w.items) l) t) c.deref.ensures.value)
     (sym (empty_text t c.is_empty.result c.is_empty.ensures c.if-is_empty.true))
@@ -37,7 +38,7 @@ returns c =
     let whole : List (List ℕ) = map (λ (w : Vec ℕ Global). w.items) covers.whole.items in
     let below : List (List ℕ) = map (λ (b : Bor (List ℕ)). b.now) covers.below.items in
     let t = c.args.text.now in
-    and_true covers.all
+    sym (and-true covers.all)
     ∙ looked_so whole below covers.all t false false true (sym c.if-has_front.false ∙ c.has_front.ensures)
     (sym c.if-has_whole.false ∙ c.has_whole.ensures ∙ ap (λ (l : List (Vec ℕ Global)). has_text (map (λ (w : Vec ℕ Global). w.items) l) t) c.deref.ensures.value)
     (sym (some_text t c.is_empty.result c.is_empty.ensures c.if-is_empty.false))

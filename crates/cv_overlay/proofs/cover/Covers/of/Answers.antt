@@ -1,10 +1,12 @@
 use Rattle.std.proofs.Common.{◌≡◌, ℕ, suc, ◌+◌, List, ◌∷◌, ◌||◌, Bor, Vec, Global, drop, map, sym, ap, ◌∙◌, add-one, drop-cons}
+use Rattle.std.proofs.Math.Bool.{or-false}
+use Rattle.std.proofs.lemmas.List.{drop_all}
 use Rattle.cv_base.specs.Path.{components}
 use Rattle.cv_base.specs.declared.tree.TreeEntry.{TreeEntry}
 use Rattle.cv_overlay.specs.Cover.{hides_text}
 use Rattle.cv_overlay.specs.Lay.{hides, hides_by}
 use Rattle.cv_overlay.specs.Mark.{mark}
-use Rattle.cv_overlay.proofs.CoverWords.{drop_all, one_more, or_false, told_moved}
+use Rattle.cv_overlay.proofs.CoverWords.{one_more, told_moved}
 use Rattle.cv_overlay.proofs.cover.Covers.of.Goals as goal
 
 pub loop-entry-preserved : goal.loop-entry-preserved
@@ -25,6 +27,6 @@ returns-clause-told c = λ t.
     let told = hides_text (map (λ (w : Vec ℕ Global). w.items) covers.whole.items) (map (λ (b : Bor (List ℕ)). b.now) covers.below.items) covers.all t in
     told_moved (λ (w : Vec ℕ Global). w.items) (λ (b : Bor (List ℕ)). b.now) covers.whole.items c.sort.new.self.items covers.below.items c.sort-2.new.self.items covers.all t
     c.sort.ensures.permutation c.sort-2.ensures.permutation
-    ∙ or_false told
-    ∙ ap (λ (l : List TreeEntry). told || hides l (components t)) (sym (drop_all c.args.entries.now c.loop-entry.entry-index c.loop-entry-test.false))
+    ∙ sym (or-false told)
+    ∙ ap (λ (l : List TreeEntry). told || hides l (components t)) (sym (drop_all c.loop-entry.entry-index c.args.entries.now c.loop-entry-test.false))
     ∙ c.loop-entry.invariant t

@@ -1,0 +1,40 @@
+-- What is known of an input whose source failed (cvwatch's own): a refused line is told before a failure of the source
+-- behind it. So the bytes that were taken are whole lines, of which none is refused, and then the beginning of a line,
+-- within the limits of an input.
+use Rattle.std.specs.Prelude.{◌≡◌, ℕ, ◌<◌, ◌≤◌, ◌^◌, Bool, true, false, List, [], ◌∷◌, ◌++◌, length, map, Option, IfSome, IsSomeAnd}
+use Rattle.std.specs.List.{AllByRecursion, flat_map}
+use Rattle.cv_io.specs.Lines.{LF, HasNoLineEnd, Finished, text_of}
+use Rattle.cv_scan_input.specs.Asked.{Asked, NoLine, RefusedAt, TooLongLine, TooLongInput, Scan, asked_of}
+
+-- no line ends in the bytes, and a line may have as many
+pub record IsPiece (bytes : List ℕ) : Type 0 where
+  pub whole : HasNoLineEnd bytes
+  pub short : length bytes ≤ 67108864
+
+-- lines that each end at an LF
+abbrev pub ended_lines : List (List ℕ) → List ℕ
+ended_lines pieces = flat_map (λ piece. piece ++ LF ∷ []) pieces
+
+-- what is asked is a refusal
+abbrev pub is_refusal : Asked → Bool
+is_refusal NoLine = false
+is_refusal (RefusedAt number error) = true
+is_refusal TooLongLine = true
+is_refusal TooLongInput = true
+is_refusal (Scan manifest records) = false
+
+-- where the source failed, its bytes are what was taken and what is left
+pub record IsUnrefused (bytes rest : List ℕ) : Type 0 where
+  -- the whole lines, without their LF
+  pub pieces : List (List ℕ)
+  -- the beginning of a line
+  pub begun : List ℕ
+  pub joined : bytes ≡ ended_lines pieces ++ begun ++ rest
+  pub lines : AllByRecursion IsPiece pieces
+  pub last : IsPiece begun
+  pub within : length (ended_lines pieces ++ begun) < 2 ^ 36
+  pub none : is_refusal (asked_of (map text_of pieces) Finished) ≡ false
+
+-- the same where the source tells its bytes
+abbrev pub Unrefused : Option (List ℕ) → Option (List ℕ) → Type 0
+Unrefused before now = IfSome before (λ bytes. IsSomeAnd now (IsUnrefused bytes))
