@@ -64,18 +64,11 @@ pub entries_bad : (front : List Package) (os : Option OsName) (etc : Bool) (e : 
     → onto front (read_entries os etc (e ∷ es)) ≡ whole → MatchBool (is_packages_memory bad) ⊤ (read_entry os etc e ≡ Err bad) → MatchBool (is_packages_memory bad) ⊤ (whole ≡ Err bad)
 entries_bad front os etc e es whole bad h k = bad_by front os etc e es whole bad (is_packages_memory bad) h k
 
-pub read_ok : (r : Result (List DebPackage) FileBad) (x : List DebPackage) → as_read r ≡ Ok x → r ≡ Ok x
+-- what was read of a file, and what was refused
+pub read_ok : {A : Type 0} (r : Result A FileBad) (x : A) → as_read r ≡ Ok x → r ≡ Ok x
 read_ok (Ok y) x h = cc
 read_ok (Err e) x h = cc
 
-pub read_bad : (r : Result (List DebPackage) FileBad) (b : FileBad) → as_read r ≡ Err (Bad b) → r ≡ Err b
+pub read_bad : {A : Type 0} (r : Result A FileBad) (b : FileBad) → as_read r ≡ Err (Bad b) → r ≡ Err b
 read_bad (Ok y) b h = cc
 read_bad (Err e) b h = cc
-
-pub installed_ok : (r : Result (List ApkPackage) FileBad) (x : List ApkPackage) → as_read r ≡ Ok x → r ≡ Ok x
-installed_ok (Ok y) x h = cc
-installed_ok (Err e) x h = cc
-
-pub installed_bad : (r : Result (List ApkPackage) FileBad) (b : FileBad) → as_read r ≡ Err (Bad b) → r ≡ Err b
-installed_bad (Ok y) b h = cc
-installed_bad (Err e) b h = cc
