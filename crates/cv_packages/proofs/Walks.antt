@@ -1,11 +1,10 @@
 -- Going over the entries of a root is going over its package files.
-use Rattle.std.proofs.Common.{◌≡◌, Bool, true, false, List, [], ◌∷◌, ◌++◌, refl, sym, ◌∙◌, ap, append_assoc}
+use Rattle.std.proofs.Common.{◌≡◌, Bool, true, false, List, [], ◌∷◌, ◌++◌, refl, sym, ◌∙◌, ap}
 use Rattle.std.specs.Prelude.{⊤, MatchBool, Option, Some, None, Result, Ok, Err}
 use Rattle.std.specs.List.{cons_option, filter_map}
 use Rattle.std.specs.Option.{option_or}
 use Rattle.cv_base.specs.Results.{◌>>=◌, onto}
 use Rattle.cv_base.specs.declared.fault.FileBad.{FileBad}
-use Rattle.cv_base.specs.declared.fault.ReadBad.{ReadBad}
 use Rattle.cv_base.specs.declared.fault.ReadBad.TheVariants.{Bad}
 use Rattle.cv_base.specs.declared.package.Package.{Package}
 use Rattle.cv_base.specs.declared.tree.TreeEntry.{TreeEntry}
