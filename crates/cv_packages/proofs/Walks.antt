@@ -1,11 +1,11 @@
 -- Going over the entries of a root is going over its package files.
-use Rattle.std.proofs.Common.{◌≡◌, Bool, true, false, List, [], ◌∷◌, ◌++◌, refl, sym, ◌∙◌, ap, append_assoc}
+use Rattle.std.proofs.Common.{◌≡◌, Bool, true, false, List, [], ◌∷◌, ◌++◌, refl, sym, ◌∙◌, ap}
 use Rattle.std.specs.Prelude.{⊤, MatchBool, Option, Some, None, Result, Ok, Err}
 use Rattle.std.specs.List.{cons_option, filter_map}
+use Rattle.std.specs.Option.{option_or}
 use Rattle.cv_base.specs.Lines.{as_read}
 use Rattle.cv_base.specs.Results.{◌>>=◌, onto}
 use Rattle.cv_base.specs.declared.fault.FileBad.{FileBad}
-use Rattle.cv_base.specs.declared.fault.ReadBad.{ReadBad}
 use Rattle.cv_base.specs.declared.fault.ReadBad.TheVariants.{Bad}
 use Rattle.cv_base.specs.declared.package.Package.{Package}
 use Rattle.cv_base.specs.declared.tree.TreeEntry.{TreeEntry}
@@ -14,7 +14,7 @@ use Rattle.cv_apkdb.specs.declared.package.ApkPackage.{ApkPackage}
 use Rattle.cv_dpkg.specs.declared.package.DebPackage.{DebPackage}
 use Rattle.cv_osrel.specs.declared.name.OsName.{OsName}
 use Rattle.cv_packages.specs.Files.{PackageFile, has_etc, package_file, package_files}
-use Rattle.cv_packages.specs.Packages.{is_packages_memory, named_by, or_name, packages, read_file, read_files, system}
+use Rattle.cv_packages.specs.Packages.{is_packages_memory, named_by, packages, read_file, read_files, system}
 use Rattle.cv_packages.specs.Walk.{named_in, read_entries, read_entry, read_found, system_of}
 use Rattle.cv_packages.specs.declared.error.PackagesError.{PackagesError}
 
@@ -31,9 +31,9 @@ files_walk : (os : Option OsName) (etc : Bool) (es : List TreeEntry) → read_fi
 files_walk os etc [] = refl
 files_walk os etc (e ∷ es) = files_by os (package_file etc e) (filter_map (package_file etc) es) (read_entries os etc es) (files_walk os etc es)
 
-system_by : (found : Option PackageFile) (files : List PackageFile) (rest : Option OsName) → system files ≡ rest → system (cons_option found files) ≡ or_name (named_in found) rest
+system_by : (found : Option PackageFile) (files : List PackageFile) (rest : Option OsName) → system files ≡ rest → system (cons_option found files) ≡ option_or (named_in found) rest
 system_by None files rest h = h
-system_by (Some file) files rest h = ap (or_name (named_by file)) h
+system_by (Some file) files rest h = ap (option_or (named_by file)) h
 
 system_walk : (etc : Bool) (es : List TreeEntry) → system (filter_map (package_file etc) es) ≡ system_of etc es
 system_walk etc [] = refl
