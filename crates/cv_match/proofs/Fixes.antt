@@ -4,7 +4,8 @@ use Rattle.std.specs.List.{list_any, position_from}
 use Rattle.std.specs.declared.cmp.Ordering.{Ordering}
 use Rattle.std.specs.Ordering.{is_lt}
 use Rattle.std.specs.Cmp.{IsTotalOrder, tied_itself}
-use Rattle.cv_match.specs.declared.placed.Bound.{Bound}
+use Rattle.std.proofs.Math.Bool.{and-false, or-true}
+use Rattle.std.proofs.lemmas.Bool.{and_from, and_parts}
 use Rattle.cv_match.specs.declared.placed.Bound.TheVariants.{At}
 use Rattle.cv_match.specs.declared.placed.Placed.{Placed}
 use Rattle.cv_match.specs.declared.placed.Placed.TheVariants.{Introduced, Fixed, LastAffected, Limit}
@@ -12,25 +13,6 @@ use Rattle.cv_match.specs.Affects.{is_fix_between, is_least_fix}
 use Rattle.cv_match.specs.Within.{bound_cmp, bound_total, le, lt}
 use Rattle.cv_match.specs.Walk.{least_place, lesser_of}
 use Rattle.cv_match.proofs.Introductions.{any_more, weaker, le_other, lt_to}
-
-and_last : (a b : Bool) → a && b ≡ true → b ≡ true
-and_last true b e = e
-and_last false b e = cc
-
-and_first : (a b : Bool) → a && b ≡ true → a ≡ true
-and_first true b e = refl
-and_first false b e = cc
-
-and_of : (a b : Bool) → a ≡ true → b ≡ true → a && b ≡ true
-and_of a b e f = rw (e, f) refl
-
-and_false : (a : Bool) → a && false ≡ false
-and_false true = refl
-and_false false = refl
-
-or_true : (a : Bool) → a || true ≡ true
-or_true true = refl
-or_true false = refl
 
 -- two tests that agree on a list find the same place
 place_same : {A : Type 0} (p q : A → Bool) → ((x : A) → p x ≡ q x) → (i : ℕ) (xs : List A) → position_from p i xs ≡ position_from q i xs
@@ -52,8 +34,8 @@ module _ {V : Type 0} (R : V → V → Ordering) (o : IsTotalOrder R) (v : V) wh
   -- a fix that is between v and an earlier one is between v and a later one
   between_more : (f g : V) → le R (At f) (At g) ≡ true → (t : Placed V) → is_fix_between R v f t ≡ true → is_fix_between R v g t ≡ true
   between_more f g h (Introduced i) e = e
-  between_more f g h (Fixed x) e = let a = and_first (lt R (At v) (At x)) (lt R (At x) (At f)) e in let b = and_last (lt R (At v) (At x)) (lt R (At x) (At f)) e in
-      and_of (lt R (At v) (At x)) (lt R (At x) (At g)) a (lt_to R o (At x) (At f) (At g) b h)
+  between_more f g h (Fixed x) e = let parts = and_parts (lt R (At v) (At x)) (lt R (At x) (At f)) e in
+      and_from (lt R (At v) (At x)) (lt R (At x) (At g)) parts.0 (lt_to R o (At x) (At f) (At g) parts.1 h)
   between_more f g h (LastAffected l) e = e
   between_more f g h (Limit l) e = e
 
@@ -65,8 +47,8 @@ module _ {V : Type 0} (R : V → V → Ordering) (o : IsTotalOrder R) (v : V) wh
       → a && not ((lt R (At v) (At f) && lt R (At f) (At g)) || list_any (is_fix_between R v g) ts) ≡ a && not (list_any (is_fix_between R v g) ts)
   hidden_by f g ts a h true e =
       let more : list_any (is_fix_between R v g) ts ≡ true = any_more (is_fix_between R v f) (is_fix_between R v g) (between_more f g (weaker (bound_cmp R (At f) (At g)) e)) ts h in
-      rw (more, or_true (lt R (At v) (At f) && lt R (At f) (At g))) refl
-  hidden_by f g ts a h false e = rw (e, and_false (lt R (At v) (At f))) refl
+      rw (more, or-true (lt R (At v) (At f) && lt R (At f) (At g))) refl
+  hidden_by f g ts a h false e = rw (e, and-false (lt R (At v) (At f))) refl
 
   hidden : (f : V) (ts : List (Placed V)) → list_any (is_fix_between R v f) ts ≡ true → (x : Placed V) → is_least_fix R (Fixed f ∷ ts) v x ≡ is_least_fix R ts v x
   hidden f ts h (Introduced i) = refl
@@ -89,10 +71,10 @@ module _ {V : Type 0} (R : V → V → Ordering) (o : IsTotalOrder R) (v : V) wh
   taken : (b : ℕ × V) (f : V) (i : ℕ) (ts : List (Placed V)) → lt R (At v) (At f) ≡ true → (s : Bool) → lt R (At f) (At b.1) ≡ s
       → given (if s then (i, f) else b) (i + 1) ts ≡ given b i (Fixed f ∷ ts)
   taken b f i ts above true e =
-      let some : lt R (At v) (At f) && lt R (At f) (At b.1) ≡ true = and_of (lt R (At v) (At f)) (lt R (At f) (At b.1)) above e in
+      let some : lt R (At v) (At f) && lt R (At f) (At b.1) ≡ true = and_from (lt R (At v) (At f)) (lt R (At f) (At b.1)) above e in
       rw some (settled f ts i above (list_any (is_fix_between R v f) ts) refl)
   taken b f i ts above false e =
-      let none : lt R (At v) (At f) && lt R (At f) (At b.1) ≡ false = rw (e, and_false (lt R (At v) (At f))) refl in
+      let none : lt R (At v) (At f) && lt R (At f) (At b.1) ≡ false = rw (e, and-false (lt R (At v) (At f))) refl in
       rw none (kept (list_any (is_fix_between R v b.1) ts) refl) where
         kept : (s : Bool) → list_any (is_fix_between R v b.1) ts ≡ s
             → (if s then position_from (is_least_fix R ts v) (i + 1) ts else Some b.0)

@@ -5,8 +5,9 @@ use Rattle.std.specs.declared.cmp.Ordering.{Ordering}
 use Rattle.std.specs.declared.cmp.Ordering.TheVariants.{Less, Equal, Greater}
 use Rattle.std.specs.Ordering.{is_le, is_lt, ordering_reverse}
 use Rattle.std.specs.Cmp.{IsTotalOrder, alike_right}
+use Rattle.std.proofs.Math.Bool.{or-false}
 use Rattle.cv_match.specs.declared.placed.Bound.{Bound}
-use Rattle.cv_match.specs.declared.placed.Bound.TheVariants.{Start, At, End}
+use Rattle.cv_match.specs.declared.placed.Bound.TheVariants.{At}
 use Rattle.cv_match.specs.declared.placed.Placed.{Placed}
 use Rattle.cv_match.specs.declared.placed.Placed.TheVariants.{Introduced, Fixed, LastAffected, Limit}
 use Rattle.cv_match.specs.Within.{bound_cmp, bound_total, brings, ends, le, lt}
@@ -46,10 +47,6 @@ weaker Equal p = cc
 weaker Greater p = cc
 
 -- ---- tests
-
-and_both : (a b : Bool) → a && b ≡ true → (a ≡ true) × (b ≡ true)
-and_both true b e = (refl, e)
-and_both false b e = cc
 
 or_more : (a b c d : Bool) → (a ≡ true → c ≡ true) → (b ≡ true → d ≡ true) → a || b ≡ true → c || d ≡ true
 or_more true b c d f g e = rw (f refl) refl
@@ -137,11 +134,7 @@ module _ {V : Type 0} (R : V → V → Ordering) (o : IsTotalOrder R) where
   latest all v best [] = refl
   latest all v best (t ∷ ts) = one_event all v best t (list_any (brings R all v) ts) ∙ latest all v (later_start R v best t) ts
 
-  or_false : (a : Bool) → a || false ≡ a
-  or_false true = refl
-  or_false false = refl
-
 -- the events have the version within where the latest introduction up to it lasts
 pub brings_last : {V : Type 0} (R : V → V → Ordering) (o : IsTotalOrder R) (all : List (Placed V)) (v : V)
     → list_any (brings R all v) all ≡ lasts R all v (last_start R v None all)
-brings_last R o all v = sym (or_false R o (list_any (brings R all v) all)) ∙ latest R o all v None all
+brings_last R o all v = sym (or-false (list_any (brings R all v) all)) ∙ latest R o all v None all

@@ -4,3 +4,4 @@ pub mod Introductions
 pub mod Mapped
 pub mod Meaning
 pub mod EventsRead
+pub mod Told

@@ -3,8 +3,10 @@ use Rattle.std.proofs.Common.{◌≡◌, ℕ, ◌+◌, suc, Bool, true, false, �
 use Rattle.std.specs.List.{flat_map, list_any, position_from, slice_get}
 use Rattle.std.specs.declared.cmp.Ordering.{Ordering}
 use Rattle.std.specs.Option.{option_and_then, option_or}
+use Rattle.std.proofs.Math.Bool.{and-false, or-false, or-true}
+use Rattle.std.proofs.lemmas.Bool.{and_parts}
 use Rattle.std.proofs.lemmas.List.Folds.{find-append}
-use Rattle.cv_base.specs.Texts.{same}
+use Rattle.std.proofs.lemmas.Option.{same_Some}
 use Rattle.cv_base.specs.declared.«package».Package.{Package}
 use Rattle.cv_base.specs.declared.«package».PackageName.{PackageName}
 use Rattle.cv_base.specs.declared.«package».PackageKind.{PackageKind}
@@ -13,8 +15,6 @@ use Rattle.cv_base.specs.declared.advisory.Affected.{Affected}
 use Rattle.cv_base.specs.declared.advisory.Range.{Range}
 use Rattle.cv_base.specs.declared.advisory.Turn.{Turn}
 use Rattle.cv_base.specs.declared.advisory.Turn.TheVariants as turn
-use Rattle.cv_match.specs.declared.answer.FixedAt.{FixedAt}
-use Rattle.cv_match.specs.declared.answer.Hit.{Hit}
 use Rattle.cv_match.specs.declared.answer.Hit.TheVariants.{No, Yes}
 use Rattle.cv_match.specs.declared.entry.ReadyEntry.{ReadyEntry}
 use Rattle.cv_match.specs.declared.key.PackageKey.{PackageKey}
@@ -26,6 +26,7 @@ use Rattle.cv_match.specs.Hit.{entry_holds, entry_lists, fixed_at, fixed_in, hit
 use Rattle.cv_match.specs.Order.{is_version_of, version_cmp_of, version_in}
 use Rattle.cv_match.specs.Ready.{events_of, ready_entry}
 use Rattle.cv_match.specs.Within.{holds, is_range_of, placed, within}
+use Rattle.cv_base.proofs.Bools.{or_swap_inner}
 use Rattle.cv_match.proofs.Mapped.{any_map, get_map, place_map}
 
 -- ---- the first item that passes, and its place
@@ -42,9 +43,6 @@ pub record Place {A : Type 0} (q : A → Bool) (xs : List A) (from n : ℕ) : Ty
   pub is : n ≡ from + place
   pub located : Located q xs place item
 
-some_is : {A : Type 0} (x y : A) → Some x ≡ Some y → x ≡ y
-some_is x y e = cc
-
 place_here : (i n : ℕ) → i ≡ n → n ≡ i + 0
 place_here i n e = omega arith
 
@@ -59,7 +57,7 @@ locate {A} q (x ∷ xs) i n = by_test (q x) refl (locate q xs (i + 1) n) where
   by_test true e later h = record {
     place = 0;
     item = x;
-    is = place_here i n (some_is i n h);
+    is = place_here i n (same_Some i n h);
     located = record { at = refl; passes = e; first = rw e refl; some = rw e refl };
   }
   by_test false e later h = let p = later h in record {
@@ -88,31 +86,9 @@ found_none q none (x ∷ xs) = rw (none x) (found_none q none xs)
 
 -- ---- tests
 
-or_true : (a : Bool) → a || true ≡ true
-or_true true = refl
-or_true false = refl
-
-or_swap : (a b c d : Bool) → (a || b) || (c || d) ≡ (a || c) || (b || d)
-or_swap true b c d = refl
-or_swap false true true d = refl
-or_swap false true false d = refl
-or_swap false false c d = refl
-
 and_or : (m l w : Bool) → m && (l || w) ≡ (m && l) || (m && w)
 and_or true l w = refl
 and_or false l w = refl
-
-and_first : (a b : Bool) → a && b ≡ true → a ≡ true
-and_first true b e = refl
-and_first false b e = cc
-
-and_last : (a b : Bool) → a && b ≡ true → b ≡ true
-and_last true b e = e
-and_last false b e = cc
-
-and_false : (a : Bool) → a && false ≡ false
-and_false true = refl
-and_false false = refl
 
 -- ---- ranges
 
@@ -130,7 +106,7 @@ range_is kind v e r = rw e (by_range (is_range_of kind r)) where
 events_are : (kind : PackageKind) (v : List ℕ) (r : Range) → within kind r v ≡ true → events_of kind r ≡ Some (map placed r.turns)
 unfolding within
 events_are kind v r e =
-    rw (and_last (is_version_of kind v) (is_range_of kind r) (and_first (is_version_of kind v && is_range_of kind r) (holds (version_cmp_of kind) (map placed r.turns) v) e)) refl
+    rw (and_parts (is_version_of kind v) (is_range_of kind r) (and_parts (is_version_of kind v && is_range_of kind r) (holds (version_cmp_of kind) (map placed r.turns) v) e).0).1 refl
 
 no_version : (kind : PackageKind) (v : List ℕ) → is_version_of kind v ≡ false → (r : Range) → within kind r v ≡ false
 unfolding within
@@ -171,7 +147,7 @@ affected_is : (p : Package) (xs : List Affected) → list_any (is_affected_by p)
 affected_is p [] = refl
 affected_is p (x ∷ xs) =
     rw (affected_is p xs, and_or (matches p x.«package») (lists p x) (list_any (has_within p) x.ranges))
-    (or_swap (matches p x.«package» && lists p x) (matches p x.«package» && list_any (has_within p) x.ranges) (list_any (entry_has_listed p) xs) (list_any (entry_has p) xs))
+    (or_swap_inner (matches p x.«package» && lists p x) (matches p x.«package» && list_any (has_within p) x.ranges) (list_any (entry_has_listed p) xs) (list_any (entry_has p) xs))
 
 -- ---- the first range that has the version within
 
@@ -228,7 +204,7 @@ fix_placed (turn.Limit text) = refl
 -- the text of the event at a place is that of the turn there
 turn_text : (found : Option Turn) (x : Placed (List ℕ)) → option_map placed found ≡ Some x → option_and_then fix_of found ≡ fix_text x
 turn_text None x = λ h. cc
-turn_text (Some t) x = λ h. fix_placed t ∙ ap fix_text (some_is (placed t) x h)
+turn_text (Some t) x = λ h. fix_placed t ∙ ap fix_text (same_Some (placed t) x h)
 
 -- what the place in a range tells
 abbrev RangeTells : Package → Range → Option ℕ → Type 0
@@ -273,7 +249,7 @@ entry_tells a p e n x h q f = rw (ranges_place p e x.ranges) (by_place (position
       → TellsFixed a p (option_and_then (λ range. fixed_in (version_cmp_of p.kind) (matched_version p) n (map (events_of p.kind) x.ranges) range) place)
   by_place None g =
       let none : list_any (has_within p) x.ranges ≡ false = (absent (has_within p) x.ranges 0 g).none in
-      let some : list_any (has_within p) x.ranges ≡ true = and_last (matches p x.«package») (list_any (has_within p) x.ranges) q in
+      let some : list_any (has_within p) x.ranges ≡ true = (and_parts (matches p x.«package») (list_any (has_within p) x.ranges) q).1 in
       cc
   by_place (Some j) g =
       let here = locate (has_within p) x.ranges 0 j g in
@@ -295,10 +271,6 @@ affects_is : (a : Advisory) (p : Package) → a.withdrawn ≡ false
 unfolding affects
 affects_is a p e = rw e (affected_is p a.affected)
 
-or_false : (a : Bool) → a || false ≡ a
-or_false true = refl
-or_false false = refl
-
 any_none : {A : Type 0} (q : A → Bool) → ((x : A) → q x ≡ false) → (xs : List A) → list_any q xs ≡ false
 any_none q none [] = refl
 any_none q none (x ∷ xs) = rw (none x) (any_none q none xs)
@@ -308,7 +280,7 @@ listed_answer : (a : Advisory) (p : Package) → a.withdrawn ≡ false → list_
     → Answers a p (hit_listed (key_of p) (map (ready_entry p.kind) a.affected))
 listed_answer a p kept none no_fix =
     rw (listed_is p a.affected) (by_listed (list_any (entry_has_listed p) a.affected)
-    (affects_is a p kept ∙ (ap (λ b. list_any (entry_has_listed p) a.affected || b) none ∙ or_false (list_any (entry_has_listed p) a.affected)))) where
+    (affects_is a p kept ∙ (ap (λ b. list_any (entry_has_listed p) a.affected || b) none ∙ or-false (list_any (entry_has_listed p) a.affected)))) where
       by_listed : (s : Bool) → affects a p ≡ s → Answers a p (if s then Yes None else No)
       by_listed true h = (h, no_fix)
       by_listed false h = h
@@ -322,7 +294,7 @@ unfolding fixed
 no_fix_absent a p e = rw (first_is p a.affected, e) refl
 
 none_within : (p : Package) → ((r : Range) → has_within p r ≡ false) → (x : Affected) → entry_has p x ≡ false
-none_within p none x = rw (any_none (has_within p) none x.ranges) (and_false (matches p x.«package»))
+none_within p none x = rw (any_none (has_within p) none x.ranges) (and-false (matches p x.«package»))
 
 -- where the version is one of the order
 version_answer : (a : Advisory) (p : Package) → a.withdrawn ≡ false → is_version_of p.kind (matched_version p) ≡ true
@@ -336,7 +308,7 @@ version_answer a p kept e = rw (entry_place_is p e a.affected) (by_place (positi
       let here = locate (entry_has p) a.affected 0 n g in
       let at : n ≡ here.place = omega (arith, here.is) in
       let got : slice_get a.affected n ≡ Some here.item = ap (λ m. slice_get a.affected m) at ∙ here.located.at in (
-        affects_is a p kept ∙ (ap (λ b. list_any (entry_has_listed p) a.affected || b) here.located.some ∙ or_true (list_any (entry_has_listed p) a.affected)),
+        affects_is a p kept ∙ (ap (λ b. list_any (entry_has_listed p) a.affected || b) here.located.some ∙ or-true (list_any (entry_has_listed p) a.affected)),
         rw (get_map (ready_entry p.kind) a.affected n, got) (entry_tells a p e n here.item got here.located.passes here.located.first),
       )
 

@@ -26,6 +26,7 @@ abbrev pub cut_at : List ℕ → Option ℕ → List ℕ
 cut_at ecosystem None = ecosystem
 cut_at ecosystem (Some place) = take place ecosystem
 
+-- an ecosystem up to its first colon (OSV schema 1.6)
 abbrev pub family : List ℕ → List ℕ
 family ecosystem = cut_at ecosystem (position is_colon ecosystem)
 

@@ -1,8 +1,8 @@
 -- The findings of an image (cvwatch's own): all pairs of a package and a record that affects it.
-use Rattle.std.specs.Prelude.{ℕ, List, [], ◌∷◌, if◌then◌else◌}
+use Rattle.std.specs.Prelude.{ℕ, Bool, List, [], ◌∷◌, if◌then◌else◌}
 use Rattle.std.specs.List.{flat_map}
 use Rattle.std.specs.declared.cmp.Ordering.{Ordering}
-use Rattle.std.specs.Ordering.{nat_cmp, on, then_cmp}
+use Rattle.std.specs.Ordering.{is_eq, nat_cmp, on, then_cmp}
 use Rattle.std.specs.Cmp.{IsTotalOrder, on_total, then_total, nat_cmp_total}
 use Rattle.std.specs.Cmp.Lexicographic.{slice_cmp, lists_total, nat_list_cmp_total}
 use Rattle.cv_base.specs.InOrder.{in_order}
@@ -46,12 +46,21 @@ found p feed a =
 abbrev pub found_in : List (List ℕ × List Advisory) → Package → List Finding
 found_in feeds p = flat_map (λ (feed : List ℕ × List Advisory). flat_map (found p feed.0) feed.1) feeds
 
+-- those of all pairs, package by package
+abbrev pub pair_findings : List Package → List (List ℕ × List Advisory) → List Finding
+pair_findings packages feeds = flat_map (found_in feeds) packages
+
+-- a finding has the package, the feed and the id of the advisory of another one
+abbrev pub is_of_pair : Finding → Finding → Bool
+is_of_pair one other = is_eq (finding_cmp other one)
+
 -- the findings of an image: takes its packages, and the feeds, each by its name with its records; gives one finding for each
 -- pair of a package and a record that affects it, in the order of package, feed and id of the advisory. Packages that are
 -- equal in every field are one, and so are records of one feed that have one id: the last one stays
 unfoldable pub findings : List Package → List (List ℕ × List Advisory) → List Finding
-findings packages feeds = in_order finding_cmp (flat_map (found_in feeds) packages)
+findings packages feeds = in_order finding_cmp (pair_findings packages feeds)
 
+-- packages are in a total order
 pub package_total : IsTotalOrder package_cmp
 package_total = then_total (on_total (λ (p : Package). kind_rank p.kind) nat_cmp_total)
     (then_total (on_total (λ (p : Package). p.path) (lists_total nat_list_cmp_total))
@@ -61,6 +70,7 @@ package_total = then_total (on_total (λ (p : Package). kind_rank p.kind) nat_cm
     (then_total (on_total (λ (p : Package). p.source_version) nat_list_cmp_total)
     (then_total (on_total (λ (p : Package). p.arch) nat_list_cmp_total) (on_total (λ (p : Package). p.ecosystem) nat_list_cmp_total)))))))
 
+-- findings are in a total order
 pub finding_total : IsTotalOrder finding_cmp
 finding_total = then_total (on_total (λ (f : Finding). f.«package») package_total)
     (then_total (on_total (λ (f : Finding). f.feed) nat_list_cmp_total) (on_total (λ (f : Finding). f.advisory) nat_list_cmp_total))

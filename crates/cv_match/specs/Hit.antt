@@ -21,6 +21,7 @@ use Rattle.cv_match.specs.Within.{holds}
 abbrev pub key_of : Package → PackageKey
 key_of p = record { ecosystem = p.ecosystem; name = key_name p; version = matched_version p }
 
+-- a record's name is that of the package asked about
 abbrev pub key_matches : PackageKey → Option PackageName → Bool
 key_matches key None = false
 key_matches key (Some name) = same name.name key.name && matches_ecosystem name.ecosystem key.ecosystem

@@ -15,21 +15,25 @@ pub record Prepared : Type 0 where
   pub kind : PackageKind
   pub advisory : Advisory
 
+-- the kind of packages that entries are prepared for
 abbrev pub entries_kind : ReadyEntries → PackageKind
 entries_kind (entries.Deb es) = kind.Deb
 entries_kind (entries.Apk es) = kind.Apk
 entries_kind (entries.Npm es) = kind.Npm
 
+-- prepared entries, by the texts of their versions
 abbrev pub entries_text : ReadyEntries → List (ReadyEntry (List ℕ))
 entries_text (entries.Deb es) = map (entry_text (λ v. v.source)) es
 entries_text (entries.Apk es) = map (entry_text (λ v. v.source)) es
 entries_text (entries.Npm es) = map (entry_text (λ v. v)) es
 
+-- the kind of packages that a version is prepared for
 abbrev pub version_kind : ReadyVersion → PackageKind
 version_kind (version.Deb v) = kind.Deb
 version_kind (version.Apk v) = kind.Apk
 version_kind (version.Npm v) = kind.Npm
 
+-- the text of a prepared version
 abbrev pub version_text : ReadyVersion → Option (List ℕ)
 version_text (version.Deb v) = option_map (λ w. w.source) v
 version_text (version.Apk v) = option_map (λ w. w.source) v

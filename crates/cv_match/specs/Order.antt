@@ -42,13 +42,16 @@ version_cmp_of Deb = deb.version_cmp
 version_cmp_of Apk = apk.version_cmp
 version_cmp_of Npm = semantic_cmp
 
+-- precedence is a total order (SemVer 2.0.0, section 11)
 pub precedence_total : IsTotalOrder precedence
 precedence_total = then_total (on_total (λ (p : Parts). p.0) nat_cmp_total) (then_total (on_total (λ (p : Parts). p.1) nat_cmp_total)
     (then_total (on_total (λ (p : Parts). p.2) nat_cmp_total) (on_total (λ (p : Parts). p.3) pre_total)))
 
+-- and so is that of texts by it
 pub semantic_total : IsTotalOrder semantic_cmp
 semantic_total = on_total (λ text. result_ok (version_parts text)) (options_total precedence_total)
 
+-- versions of each kind are in a total order
 pub version_total_of : (kind : PackageKind) → IsTotalOrder (version_cmp_of kind)
 version_total_of Deb = deb.version_total
 version_total_of Apk = apk.version_total

@@ -11,21 +11,24 @@ use Rattle.cv_match.specs.declared.placed.Placed.{Placed}
 use Rattle.cv_match.specs.declared.placed.Placed.TheVariants.{Introduced, Fixed, LastAffected, Limit}
 use Rattle.cv_match.specs.Within.{is_bound_of, is_range_of, is_readable, placed}
 
--- versions by their texts
+-- a bound by the text of its version
 abbrev pub bound_text : {V : Type 0} → (V → List ℕ) → Bound V → Bound (List ℕ)
 bound_text text Start = Start
 bound_text text (At version) = At (text version)
 bound_text text End = End
 
+-- an event by the text of its version
 abbrev pub event_text : {V : Type 0} → (V → List ℕ) → Placed V → Placed (List ℕ)
 event_text text (Introduced i) = Introduced (bound_text text i)
 event_text text (Fixed f) = Fixed (text f)
 event_text text (LastAffected l) = LastAffected (text l)
 event_text text (Limit l) = Limit (bound_text text l)
 
+-- a range by the texts of its versions
 abbrev pub range_text : {V : Type 0} → (V → List ℕ) → Option (List (Placed V)) → Option (List (Placed (List ℕ)))
 range_text text range = option_map (map (event_text text)) range
 
+-- an entry by the texts of its versions
 abbrev pub entry_text : {V : Type 0} → (V → List ℕ) → ReadyEntry V → ReadyEntry (List ℕ)
 entry_text text entry = record { «package» = entry.«package»; ranges = map (range_text text) entry.ranges; versions = entry.versions }
 
@@ -37,11 +40,12 @@ read_bound kind bound = if is_bound_of kind bound then Some bound else None
 abbrev pub read_event : PackageKind → Turn → Option (Placed (List ℕ))
 read_event kind turn = if is_readable kind (placed turn) then Some (placed turn) else None
 
--- the events of a range, where each can be read
+-- one event before others, where both can be read
 abbrev pub cons_read : Option (Placed (List ℕ)) → Option (List (Placed (List ℕ))) → Option (List (Placed (List ℕ)))
 cons_read None events = None
 cons_read (Some event) events = option_map (λ rest. event ∷ rest) events
 
+-- all events, where each can be read
 abbrev pub read_events : PackageKind → List Turn → Option (List (Placed (List ℕ)))
 read_events kind [] = Some []
 read_events kind (turn ∷ turns) = cons_read (read_event kind turn) (read_events kind turns)

@@ -3,7 +3,7 @@ use Rattle.std.specs.Prelude.{ℕ, ◌+◌, Bool, false, not, if◌then◌else�
 use Rattle.std.specs.List.{list_any}
 use Rattle.std.specs.declared.cmp.Ordering.{Ordering}
 use Rattle.cv_match.specs.declared.placed.Bound.{Bound}
-use Rattle.cv_match.specs.declared.placed.Bound.TheVariants.{Start, At, End}
+use Rattle.cv_match.specs.declared.placed.Bound.TheVariants.{At}
 use Rattle.cv_match.specs.declared.placed.Placed.{Placed}
 use Rattle.cv_match.specs.declared.placed.Placed.TheVariants.{Introduced, Fixed, LastAffected, Limit}
 use Rattle.cv_match.specs.declared.within.Fix.{Fix}

@@ -28,6 +28,7 @@ bound_rank Start = 0
 bound_rank (At version) = 1
 bound_rank End = 2
 
+-- the version of a bound, if it has one
 abbrev pub bound_version : {V : Type 0} → Bound V → Option V
 bound_version Start = None
 bound_version (At version) = Some version
@@ -37,12 +38,15 @@ bound_version End = None
 abbrev pub bound_cmp : {V : Type 0} → (V → V → Ordering) → Bound V → Bound V → Ordering
 bound_cmp R = then_cmp (on bound_rank nat_cmp) (on bound_version (option_cmp R))
 
+-- at most, by that order
 abbrev pub le : {V : Type 0} → (V → V → Ordering) → Bound V → Bound V → Bool
 le R x y = is_le (bound_cmp R x y)
 
+-- before, by that order
 abbrev pub lt : {V : Type 0} → (V → V → Ordering) → Bound V → Bound V → Bool
 lt R x y = is_lt (bound_cmp R x y)
 
+-- bounds are in a total order
 pub bound_total : {V : Type 0} {R : V → V → Ordering} → IsTotalOrder R → IsTotalOrder (bound_cmp R)
 bound_total {V} o = then_total (on_total (λ (b : Bound V). bound_rank b) nat_cmp_total) (on_total (λ (b : Bound V). bound_version b) (options_total o))
 
@@ -75,6 +79,7 @@ brings R all v (Fixed f) = false
 brings R all v (LastAffected l) = false
 brings R all v (Limit l) = false
 
+-- the event is a limit
 abbrev pub is_limit : {V : Type 0} → Placed V → Bool
 is_limit (Introduced i) = false
 is_limit (Fixed f) = false

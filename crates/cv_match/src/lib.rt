@@ -13,6 +13,7 @@ mod answer;
 mod asking;
 mod entry;
 mod key;
+mod laws;
 mod matching;
 mod placed;
 mod reading;
@@ -25,5 +26,6 @@ mod within;
 
 pub use answer::{FixedAt, Hit};
 pub use asking::{affects, fixed_text};
+pub use laws::findings_laws;
 pub use ready::{ReadyAdvisory, ReadyPackage, prepare, prepare_package};
 pub use semantic::{SemanticVersion, semantic_order_laws};

@@ -253,14 +253,6 @@ fn records_of_each_ecosystem_answer_for_its_packages(rt: HostRuntime) -> Result<
             "3.0.11-1",
         ),
         (
-            PackageKind::Deb,
-            "Debian:12",
-            RangeKind::Ecosystem,
-            "3.0.11-1",
-            "3.0.11-1",
-            "no",
-        ),
-        (
             PackageKind::Apk,
             "Alpine:v3.18",
             RangeKind::Ecosystem,
@@ -281,13 +273,31 @@ fn records_of_each_ecosystem_answer_for_its_packages(rt: HostRuntime) -> Result<
         let told = row(alloc, kind, (ecosystem, ecosystem), range, &events, version)?;
         assert_eq!(rt; told.as_str(), want, "{ecosystem} at {version}");
     }
-    let endless: [(&str, &str); 1] = [("introduced", "0")];
+    Ok(())
+}
+
+#[test]
+fn a_version_at_the_fix_is_not_affected(rt: HostRuntime) -> Result<(), Fail> {
     let told = row(
-        alloc,
+        rt.alloc(),
+        PackageKind::Deb,
+        ("Debian:12", "Debian:12"),
+        RangeKind::Ecosystem,
+        &[("introduced", "0"), ("fixed", "3.0.11-1")],
+        "3.0.11-1",
+    )?;
+    assert_eq!(rt; told.as_str(), "no");
+    Ok(())
+}
+
+#[test]
+fn an_introduction_that_nothing_ends_affects_later_versions(rt: HostRuntime) -> Result<(), Fail> {
+    let told = row(
+        rt.alloc(),
         PackageKind::Npm,
         ("npm", "npm"),
         RangeKind::Semver,
-        &endless,
+        &[("introduced", "0")],
         "1.0.0",
     )?;
     assert_eq!(rt; told.as_str(), "yes");

@@ -2,6 +2,7 @@
 use Rattle.std.proofs.Common.{◌≡◌, Bool, true, false, List, [], ◌∷◌, ◌++◌, refl, sym, ◌∙◌, ap}
 use Rattle.std.specs.Prelude.{⊤, MatchBool, Option, Some, None, Result, Ok, Err}
 use Rattle.std.specs.List.{cons_option, filter_map}
+use Rattle.std.specs.Option.{option_or}
 use Rattle.cv_base.specs.Lines.{as_read}
 use Rattle.cv_base.specs.Results.{◌>>=◌, onto}
 use Rattle.cv_base.specs.declared.fault.FileBad.{FileBad}
@@ -13,7 +14,7 @@ use Rattle.cv_apkdb.specs.declared.package.ApkPackage.{ApkPackage}
 use Rattle.cv_dpkg.specs.declared.package.DebPackage.{DebPackage}
 use Rattle.cv_osrel.specs.declared.name.OsName.{OsName}
 use Rattle.cv_packages.specs.Files.{PackageFile, has_etc, package_file, package_files}
-use Rattle.cv_packages.specs.Packages.{is_packages_memory, named_by, or_name, packages, read_file, read_files, system}
+use Rattle.cv_packages.specs.Packages.{is_packages_memory, named_by, packages, read_file, read_files, system}
 use Rattle.cv_packages.specs.Walk.{named_in, read_entries, read_entry, read_found, system_of}
 use Rattle.cv_packages.specs.declared.error.PackagesError.{PackagesError}
 
@@ -30,9 +31,9 @@ files_walk : (os : Option OsName) (etc : Bool) (es : List TreeEntry) → read_fi
 files_walk os etc [] = refl
 files_walk os etc (e ∷ es) = files_by os (package_file etc e) (filter_map (package_file etc) es) (read_entries os etc es) (files_walk os etc es)
 
-system_by : (found : Option PackageFile) (files : List PackageFile) (rest : Option OsName) → system files ≡ rest → system (cons_option found files) ≡ or_name (named_in found) rest
+system_by : (found : Option PackageFile) (files : List PackageFile) (rest : Option OsName) → system files ≡ rest → system (cons_option found files) ≡ option_or (named_in found) rest
 system_by None files rest h = h
-system_by (Some file) files rest h = ap (or_name (named_by file)) h
+system_by (Some file) files rest h = ap (option_or (named_by file)) h
 
 system_walk : (etc : Bool) (es : List TreeEntry) → system (filter_map (package_file etc) es) ≡ system_of etc es
 system_walk etc [] = refl
@@ -63,18 +64,11 @@ pub entries_bad : (front : List Package) (os : Option OsName) (etc : Bool) (e : 
     → onto front (read_entries os etc (e ∷ es)) ≡ whole → MatchBool (is_packages_memory bad) ⊤ (read_entry os etc e ≡ Err bad) → MatchBool (is_packages_memory bad) ⊤ (whole ≡ Err bad)
 entries_bad front os etc e es whole bad h k = bad_by front os etc e es whole bad (is_packages_memory bad) h k
 
-pub read_ok : (r : Result (List DebPackage) FileBad) (x : List DebPackage) → as_read r ≡ Ok x → r ≡ Ok x
+-- what was read of a file, and what was refused
+pub read_ok : {A : Type 0} (r : Result A FileBad) (x : A) → as_read r ≡ Ok x → r ≡ Ok x
 read_ok (Ok y) x h = cc
 read_ok (Err e) x h = cc
 
-pub read_bad : (r : Result (List DebPackage) FileBad) (b : FileBad) → as_read r ≡ Err (Bad b) → r ≡ Err b
+pub read_bad : {A : Type 0} (r : Result A FileBad) (b : FileBad) → as_read r ≡ Err (Bad b) → r ≡ Err b
 read_bad (Ok y) b h = cc
 read_bad (Err e) b h = cc
-
-pub installed_ok : (r : Result (List ApkPackage) FileBad) (x : List ApkPackage) → as_read r ≡ Ok x → r ≡ Ok x
-installed_ok (Ok y) x h = cc
-installed_ok (Err e) x h = cc
-
-pub installed_bad : (r : Result (List ApkPackage) FileBad) (b : FileBad) → as_read r ≡ Err (Bad b) → r ≡ Err b
-installed_bad (Ok y) b h = cc
-installed_bad (Err e) b h = cc

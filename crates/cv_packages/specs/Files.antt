@@ -35,6 +35,7 @@ file_at path (Some content) (Some place) = Some (record { path = path; place = p
 abbrev pub placed : TreeEntry → Option PackageFile
 placed e = file_at e.path (content_in e.node) (place_of e.path)
 
+-- the place is etc/os-release
 abbrev pub is_etc : Place → Bool
 is_etc Os = true
 is_etc Status = false
@@ -44,6 +45,7 @@ is_etc UsrInstalled = false
 is_etc UsrOs = false
 is_etc Npm = false
 
+-- the place is usr/lib/os-release
 abbrev pub is_usr : Place → Bool
 is_usr UsrOs = true
 is_usr Status = false
@@ -53,6 +55,7 @@ is_usr UsrInstalled = false
 is_usr Os = false
 is_usr Npm = false
 
+-- the file stands at etc/os-release
 abbrev pub is_etc_file : Option PackageFile → Bool
 is_etc_file None = false
 is_etc_file (Some file) = is_etc file.place

@@ -4,7 +4,7 @@
 -- `packages entries` takes the entries of a root in the order of paths. It gives the packages of all its package files,
 -- in the order of the files and as they stand in each, or the refusal as a `PackagesError`.
 use Rattle.std.specs.Prelude.{ℕ, Bool, true, false, nat_lt, if◌then◌else◌, List, [], ◌∷◌, ◌++◌, map, length, Option, Some, None, Result, Ok, Err}
-use Rattle.std.specs.Option.{option_map, option_to_list}
+use Rattle.std.specs.Option.{option_map, option_or, option_to_list}
 use Rattle.cv_base.specs.Path.{Path}
 use Rattle.cv_base.specs.Results.{◌>>=◌}
 use Rattle.cv_base.specs.declared.fault.FileBad.{FileBad}
@@ -39,16 +39,12 @@ bytes_in Unread = None
 abbrev pub named_by : PackageFile → Option OsName
 named_by file = if is_etc file.place then option_map os_of (bytes_in file.content) else (if is_usr file.place then option_map os_of (bytes_in file.content) else None)
 
-abbrev pub or_name : Option OsName → Option OsName → Option OsName
-or_name None other = other
-or_name (Some name) other = Some name
-
 -- the system of a root, by its first os-release
 abbrev pub system : List PackageFile → Option OsName
 system [] = None
-system (file ∷ files) = or_name (named_by file) (system files)
+system (file ∷ files) = option_or (named_by file) (system files)
 
--- the packages of each database, with where they stand and the system that they are of
+-- a package of dpkg's database, with where it stands and the system that it is of
 abbrev pub deb_package : Option OsName → Path → DebPackage → Package
 deb_package os path p = record {
   kind = kind.Deb;
@@ -61,6 +57,7 @@ deb_package os path p = record {
   ecosystem = eco os kind.Deb;
 }
 
+-- the same of an apk package
 abbrev pub apk_package : Option OsName → Path → ApkPackage → Package
 apk_package os path p = record {
   kind = kind.Apk;
@@ -73,6 +70,7 @@ apk_package os path p = record {
   ecosystem = eco os kind.Apk;
 }
 
+-- the same of an npm package
 abbrev pub npm_package : Option OsName → Path → NpmPackage → Package
 npm_package os path p = record {
   kind = kind.Npm;
@@ -85,11 +83,12 @@ npm_package os path p = record {
   ecosystem = eco os kind.Npm;
 }
 
--- what a database told, as packages or as the refusal of the root
+-- what dpkg's database told, as packages or as the refusal of the root
 abbrev pub deb_found : Option OsName → Path → Result (List DebPackage) FileBad → Result (List Package) PackagesError
 deb_found os path (Ok found) = Ok (map (deb_package os path) found)
 deb_found os path (Err bad) = Err (error.BadFile path bad.line bad.what)
 
+-- what apk's database told, as packages or as the refusal of the root
 abbrev pub apk_found : Option OsName → Path → Result (List ApkPackage) FileBad → Result (List Package) PackagesError
 apk_found os path (Ok found) = Ok (map (apk_package os path) found)
 apk_found os path (Err bad) = Err (error.BadFile path bad.line bad.what)
@@ -110,6 +109,7 @@ read_content os path place (Bytes bytes) = if nat_lt 33554432 (length bytes) the
 read_content os path place TooLarge = Err (error.TooLarge path)
 read_content os path place Unread = Err (error.TooLarge path)
 
+-- the packages of a package file
 abbrev pub read_file : Option OsName → PackageFile → Result (List Package) PackagesError
 read_file os file = read_content os file.path file.place file.content
 

@@ -11,4 +11,4 @@ mod package;
 mod root;
 
 pub use error::PackagesError;
-pub use root::read_packages;
+pub use root::{read_packages, refusals_law};

@@ -1,8 +1,9 @@
-ghost use Rattle.std.specs.Prelude.{◌≡◌, IfOk, Err};
+ghost use Rattle.std.specs.Prelude.{◌≡◌, false, List, IfOk, IfErr, Err};
 ghost use Rattle.std.specs.Option.{option_map};
 ghost use Rattle.cv_base.specs.Answer.{Gives};
 ghost use Rattle.cv_packages.specs.Held.{file_of};
 ghost use Rattle.cv_base.specs.declared.tree.Content.TheVariants as content;
+ghost use Rattle.cv_base.specs.declared.tree.TreeEntry.{TreeEntry};
 ghost use Rattle.cv_dpkg.specs.Status.{status};
 ghost use Rattle.cv_apkdb.specs.Installed.{installed};
 ghost use Rattle.cv_packages.specs.declared.error.PackagesError.TheVariants as error;
@@ -30,6 +31,11 @@ pub fn read_packages(alloc: Global, entries: &[TreeEntry]) -> Result<Seq<Package
     let os = find_system(alloc, entries, etc)?;
     read_entries(alloc, os.as_ref(), etc, entries)
 }
+
+/// A root is refused for one of its files: the definition of its packages never tells of want of memory.
+pub fn refusals_law()
+    ensures { (entries : List TreeEntry) → IfErr (packages entries) (λ bad. is_packages_memory bad ≡ false) }
+{}
 
 /// The system of a root.
 fn find_system(alloc: Global, entries: &[TreeEntry], etc: bool) -> Result<Option<OsName>, NoMemory>
@@ -161,7 +167,7 @@ fn read_deb(
     }
 }
 
-#[tactic(auto, using(crate::proofs::Walks::installed_ok, crate::proofs::Walks::installed_bad))]
+#[tactic(auto, using(crate::proofs::Walks::read_ok, crate::proofs::Walks::read_bad))]
 fn read_apk(
     alloc: Global,
     os: Option<&OsName>,

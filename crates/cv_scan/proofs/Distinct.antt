@@ -3,16 +3,16 @@ use Rattle.std.specs.Prelude.{◌≡◌, ℕ, ◌+◌, ◌≤◌, Bool, true, fa
 use Rattle.std.proofs.Common.{◌<◌, zero, suc, get_or, drop, ap, sym, ◌∙◌, append_assoc, append-nil, arith}
 use Rattle.std.proofs.lemmas.List.{drop_more, length-append}
 use Rattle.std.proofs.lemmas.List.Folds.{list_any-append}
-use Rattle.cv_base.specs.Texts.{same}
+use Rattle.cv_base.specs.Texts.{has_text, same}
 use Rattle.cv_base.proofs.Same.{same_is}
-use Rattle.cv_scan.specs.Distinct.{is_seen, with_layer}
+use Rattle.cv_scan.specs.Distinct.{with_layer}
 use Rattle.cv_scan.specs.Layers.{IsOfLayer, IsOfLayers, distinct}
 use Rattle.cv_scan.specs.declared.error.ImageError.{ImageError}
 use Rattle.cv_scan.specs.declared.error.ImageError.TheVariants as error
 
 -- those that are not among these
 abbrev pub unseen : List (List ℕ) → List (List ℕ) → List (List ℕ)
-unseen seen layers = filter (λ layer. not (is_seen seen layer)) layers
+unseen seen layers = filter (λ layer. not (has_text seen layer)) layers
 
 -- what was found, with what is left
 abbrev pub behind : List (List ℕ) → List (List ℕ) → List (List ℕ)
@@ -44,10 +44,10 @@ on true h = refl
 on false h = cc
 
 -- one that stood before adds nothing
-pub behind_seen : (seen : List (List ℕ)) (x : List ℕ) (xs : List (List ℕ)) → is_seen seen x ≡ true → behind seen (x ∷ xs) ≡ behind seen xs
+pub behind_seen : (seen : List (List ℕ)) (x : List ℕ) (xs : List (List ℕ)) → has_text seen x ≡ true → behind seen (x ∷ xs) ≡ behind seen xs
 behind_seen seen x xs h =
     ap (λ b. seen ++ cond (not b) (x ∷ unseen seen (filter (λ y. not (same x y)) (distinct xs))) (unseen seen (filter (λ y. not (same x y)) (distinct xs)))) h
-    ∙ ap (λ ys. seen ++ ys) (filter_twice (λ y. not (is_seen seen y)) (λ y. not (same x y)) (λ y e. on (is_seen seen y) (ap (is_seen seen) (sym (same_is x y (off (same x y) e))) ∙ h)) (distinct xs))
+    ∙ ap (λ ys. seen ++ ys) (filter_twice (λ y. not (has_text seen y)) (λ y. not (same x y)) (λ y e. on (has_text seen y) (ap (has_text seen) (sym (same_is x y (off (same x y) e))) ∙ h)) (distinct xs))
 
 split : (r s b : Bool) → r ≡ (s || (b || false)) → not r ≡ (not b && not s)
 split r true true h = ap not h
@@ -56,11 +56,11 @@ split r false true h = ap not h
 split r false false h = ap not h
 
 -- another one stands behind those that were found
-pub behind_more : (seen : List (List ℕ)) (x : List ℕ) (xs : List (List ℕ)) → is_seen seen x ≡ false → behind (seen ++ x ∷ []) xs ≡ behind seen (x ∷ xs)
+pub behind_more : (seen : List (List ℕ)) (x : List ℕ) (xs : List (List ℕ)) → has_text seen x ≡ false → behind (seen ++ x ∷ []) xs ≡ behind seen (x ∷ xs)
 behind_more seen x xs h =
     append_assoc seen (x ∷ []) (unseen (seen ++ x ∷ []) (distinct xs))
-    ∙ ap (λ ys. seen ++ x ∷ ys) (sym (filter_both (λ y. not (is_seen seen y)) (λ y. not (same x y)) (λ y. not (is_seen (seen ++ x ∷ []) y))
-    (λ y. split (is_seen (seen ++ x ∷ []) y) (is_seen seen y) (same x y) (list_any-append (λ s. same s y) seen (x ∷ []))) (distinct xs)))
+    ∙ ap (λ ys. seen ++ x ∷ ys) (sym (filter_both (λ y. not (has_text seen y)) (λ y. not (same x y)) (λ y. not (has_text (seen ++ x ∷ []) y))
+    (λ y. split (has_text (seen ++ x ∷ []) y) (has_text seen y) (same x y) (list_any-append (λ s. same s y) seen (x ∷ []))) (distinct xs)))
     ∙ ap (λ b. seen ++ cond (not b) (x ∷ unseen seen (filter (λ y. not (same x y)) (distinct xs))) (unseen seen (filter (λ y. not (same x y)) (distinct xs)))) (sym h)
 
 filter_all : {A : Type 0} (ys : List A) → filter (λ y. true) ys ≡ ys
@@ -75,23 +75,23 @@ behind_all seen = append-nil seen
 
 -- one more layer was looked at
 pub behind_next : (seen : List (List ℕ)) (x : List ℕ) (xs : List (List ℕ)) → behind (with_layer seen x) xs ≡ behind seen (x ∷ xs)
-behind_next seen x xs = by_test (is_seen seen x) refl where
-  by_test : (b : Bool) → is_seen seen x ≡ b → behind (cond b seen (seen ++ x ∷ [])) xs ≡ behind seen (x ∷ xs)
+behind_next seen x xs = by_test (has_text seen x) refl where
+  by_test : (b : Bool) → has_text seen x ≡ b → behind (cond b seen (seen ++ x ∷ [])) xs ≡ behind seen (x ∷ xs)
   by_test true h = sym (behind_seen seen x xs h)
   by_test false h = behind_more seen x xs h
 
 pub more_layers : (seen : List (List ℕ)) (x : List ℕ) → length (with_layer seen x) ≤ length seen + 1
-more_layers seen x = by_test (is_seen seen x) where
+more_layers seen x = by_test (has_text seen x) where
   by_test : (b : Bool) → length (cond b seen (seen ++ x ∷ [])) ≤ length seen + 1
   by_test true = omega arith
   by_test false = let e = length-append seen (x ∷ []) in omega (arith, e)
 
 -- Of layers that are loaded one after the other, the one that the desk failed at is the last one listed.
-pub failed_one : (layers : List (List ℕ)) (before now : ℕ) (layer : List ℕ) (e : ImageError) (k : ℕ) → slice_get layers k ≡ Some layer → now ≡ before + k + 1
+pub failed_one : (layers : List (List ℕ)) (before now : ℕ) (layer : List ℕ) (e : ImageError) (k : ℕ) → k < length layers → slice_get layers k ≡ Some layer → now ≡ before + k + 1
     → IsOfLayer layer e → IsOfLayers layers before now e
-failed_one layers before now layer (error.Bad bad) k at h of = of
-failed_one layers before now layer (error.Desk failed) k at h of = (k, h, at ∙ ap Some (sym of))
-failed_one layers before now layer error.NoMemory k at h of = tt
+failed_one layers before now layer (error.Bad bad) k lt at h of = of
+failed_one layers before now layer (error.Desk failed) k lt at h of = (k, h, at ∙ ap Some (sym of))
+failed_one layers before now layer error.NoMemory k lt at h of = omega (arith, lt, h)
 
 -- The steps of the loops.
 

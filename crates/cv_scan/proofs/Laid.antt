@@ -1,20 +1,20 @@
 -- The entries of a root that was laid layer by layer: they rise by their paths and are at each path what the layers make
 -- of it, and there is only one such list.
 use Rattle.std.specs.Prelude.{◌≡◌, Bool, true, false, ◌&&◌, ◌||◌, if◌then◌else◌, List, [], ◌∷◌, map, Option, Some, None, refl}
-use Rattle.std.specs.Cmp.Lexicographic.{slice_cmp, lists_ties, texts_ties}
 use Rattle.std.specs.List.{AllByRecursion, cons_option, flat_map, list_any}
 use Rattle.std.specs.List.Sorted.{IsStrictlySortedBy}
 use Rattle.std.specs.Option.{option_map, option_or}
-use Rattle.std.specs.Ordering.{is_eq, match_ordering, nat_cmp, ordering_reverse}
 use Rattle.std.specs.declared.cmp.Ordering.{Ordering}
 use Rattle.std.specs.declared.cmp.Ordering.TheVariants.{Less, Equal, Greater}
 use Rattle.std.proofs.Common.{ap, sym, ◌∙◌}
+use Rattle.std.proofs.lemmas.Bool.{or_parts}
 use Rattle.std.proofs.lemmas.List.Folds.{list_any-append}
+use Rattle.std.proofs.lemmas.Option.{same_Some}
 use Rattle.cv_base.specs.InOrder.{in_order}
 use Rattle.cv_base.specs.Path.{Path, path_cmp, same_path}
 use Rattle.cv_base.specs.declared.tree.Node.{Node}
 use Rattle.cv_base.specs.declared.tree.TreeEntry.{TreeEntry}
-use Rattle.cv_base.proofs.InOrder.{after_lower, any_order, order_rises}
+use Rattle.cv_base.proofs.InOrder.{after_lower, any_order, order_rises, turned}
 use Rattle.cv_base.proofs.Same.{path_is, path_self, path_total, tied_path}
 use Rattle.cv_overlay.specs.Lay.{hides, is_plain, lay, node_at, plain_at, root_from, root_of}
 use Rattle.cv_overlay.specs.Mark.{mark}
@@ -82,10 +82,6 @@ plain_none (e ∷ es) p h = by_tests (is_plain (mark e)) (same_path e.path p) h 
   by_tests false true h rest = cc
   by_tests false false h rest = rest h
 
-neither : (a b : Bool) → (a || b) ≡ false → (a ≡ false) × (b ≡ false)
-neither true b h = cc
-neither false b h = (refl, h)
-
 none_either : (b : Bool) (found : Option Node) → found ≡ None → (if b then None else found) ≡ None
 none_either true found h = refl
 none_either false found h = h
@@ -96,7 +92,7 @@ all_paths trees = flat_map (λ (tree : List TreeEntry). map path_in tree) trees
 none_laid : (root : Path → Option Node) (trees : List (List TreeEntry)) (p : Path) → is_among (all_paths trees) p ≡ false → root p ≡ None → root_from root trees p ≡ None
 none_laid root [] p h none = none
 none_laid root (tree ∷ trees) p h none =
-    let parts = neither (is_among (map path_in tree) p) (is_among (all_paths trees) p) (sym (list_any-append (λ q. same_path q p) (map path_in tree) (all_paths trees)) ∙ h) in
+    let parts = or_parts (is_among (map path_in tree) p) (is_among (all_paths trees) p) (sym (list_any-append (λ q. same_path q p) (map path_in tree) (all_paths trees)) ∙ h) in
     none_laid (lay root tree) trees p parts.1
     (ap (λ (found : Option Node). option_or found (if hides tree p then None else root p)) (plain_none tree p parts.0) ∙ none_either (hides tree p) (root p) none)
 
@@ -124,9 +120,6 @@ root_rises trees = entries_rise (root_of trees) (paths_of trees) (order_rises pa
 some_none : (n : Node) → Some n ≡ None → ⊥
 some_none n h = cc
 
-some_is : (m n : Node) → Some m ≡ Some n → m ≡ n
-some_is m n h = cc
-
 own_node : (x : TreeEntry) (xs : List TreeEntry) → node_at (x ∷ xs) x.path ≡ Some x.node
 own_node x xs = ap (λ (b : Bool). if b then Some x.node else node_at xs x.path) (path_self x.path)
 
@@ -140,7 +133,7 @@ one_entry x y place node = λ i. record { path = place i; node = node i }
 
 same_first : (x y : TreeEntry) (xs ys : List TreeEntry) → x.path ≡ y.path → ((p : Path) → node_at (x ∷ xs) p ≡ node_at (y ∷ ys) p) → x ≡ y
 same_first x y xs ys place same =
-    one_entry x y place (some_is x.node y.node (sym (own_node x xs) ∙ same x.path ∙ ap (node_at (y ∷ ys)) place ∙ own_node y ys))
+    one_entry x y place (same_Some x.node y.node (sym (own_node x xs) ∙ same x.path ∙ ap (node_at (y ∷ ys)) place ∙ own_node y ys))
 
 same_rest : (x y : TreeEntry) (xs ys : List TreeEntry) → x.path ≡ y.path → AllByRecursion (ComesAfter x.path) xs → AllByRecursion (ComesAfter y.path) ys
     → ((p : Path) → node_at (x ∷ xs) p ≡ node_at (y ∷ ys) p) → (p : Path) → node_at xs p ≡ node_at ys p
@@ -163,7 +156,7 @@ same_entries (x ∷ xs) (y ∷ ys) h k same = by_order (path_cmp x.path y.path) 
   by_order Equal e rest =
       let place = tied_path x.path y.path e in
       λ i. same_first x y xs ys place same i ∷ rest (same_rest x y xs ys place h.0 k.0 same) i
-  by_order Greater e rest = absurd (missing y x ys xs (turned x.path y.path e) h (λ p. sym (same p)))
+  by_order Greater e rest = absurd (missing y x ys xs (turned path_total x.path y.path e) h (λ p. sym (same p)))
 
 -- entries that rise, and are at each path what layers make of it, are those of the root of the image
 pub laid_entries : (trees : List (List TreeEntry)) (es : List TreeEntry) → AreRising es → ((p : Path) → node_at es p ≡ root_of trees p) → es ≡ root_entries trees

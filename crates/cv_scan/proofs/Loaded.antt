@@ -5,8 +5,10 @@ use Rattle.std.specs.List.{cons_option, filter_map, list_any}
 use Rattle.std.specs.Option.{option_map}
 use Rattle.std.specs.Result.{is_ok, result_err}
 use Rattle.std.proofs.Common.{ap, ◌∙◌}
+use Rattle.std.proofs.lemmas.Bool.{or_parts}
 use Rattle.cv_base.specs.Path.{Path}
 use Rattle.cv_base.specs.Place.{place_of}
+use Rattle.cv_base.specs.Results.{◌>>=◌}
 use Rattle.cv_base.specs.declared.fault.FileBad.{FileBad}
 use Rattle.cv_base.specs.declared.package.Package.{Package}
 use Rattle.cv_base.specs.declared.places.Place.{Place}
@@ -27,7 +29,7 @@ use Rattle.cv_osrel.specs.declared.name.OsName.{OsName}
 use Rattle.cv_overlay.specs.Fault.{fault, tree_fault}
 use Rattle.cv_overlay.specs.Mark.{is_dir_node, outline}
 use Rattle.cv_packages.specs.Files.{PackageFile, content_in, counted, file_at, has_etc, is_etc_file, is_usr, package_file, package_files, placed}
-use Rattle.cv_packages.specs.Packages.{◌>>=◌, apk_found, deb_found, packages, read_content, read_file, read_files, read_place, system}
+use Rattle.cv_packages.specs.Packages.{apk_found, deb_found, packages, read_content, read_file, read_files, read_place, system}
 use Rattle.cv_packages.specs.declared.error.PackagesError.{PackagesError}
 use Rattle.cv_packages.specs.declared.error.PackagesError.TheVariants as error
 
@@ -226,19 +228,12 @@ content_small (Bytes bytes) h = ap (λ b. if b then TooLarge else Bytes bytes) h
 content_small TooLarge h = refl
 content_small Unread h = refl
 
-or_left : (a b : Bool) → (a || b) ≡ false → a ≡ false
-or_left true b h = h
-or_left false b h = refl
-
-or_right : (a b : Bool) → (a || b) ≡ false → b ≡ false
-or_right true b h = cc
-or_right false b h = h
-
 files_small : (files : List PackageFile) → list_any is_large_file files ≡ false → map limited_file files ≡ files
 files_small [] h = refl
 files_small (file ∷ files) h =
-    let content = content_small file.content (or_left (is_large_file file) (list_any is_large_file files) h) in
-    let others = files_small files (or_right (is_large_file file) (list_any is_large_file files) h) in
+    let parts = or_parts (is_large_file file) (list_any is_large_file files) h in
+    let content = content_small file.content parts.0 in
+    let others = files_small files parts.1 in
     λ i. record { path = file.path; place = file.place; content = content i } ∷ others i
 
 files_alike : (files : List PackageFile) → read_files (system (map limited_file files)) (map limited_file files) ≡ read_files (system files) files

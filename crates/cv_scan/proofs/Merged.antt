@@ -11,10 +11,6 @@ use Rattle.cv_scan.specs.Index.{merged, numbers_from}
 abbrev AreAbove : ℕ → List ℕ → Type 0
 AreAbove n ns = AllByRecursion (λ i. n < i) ns
 
-above_less : (m n : ℕ) (ns : List ℕ) → m < n → AreAbove n ns → AreAbove m ns
-above_less m n [] lt b = tt
-above_less m n (i ∷ ns) lt b = (omega (arith, lt, b.0), above_less m n ns lt b.1)
-
 numbers_above : (test : Advisory → Bool) (m n : ℕ) (records : List Advisory) → m < n → AreAbove m (numbers_from test n records)
 numbers_above test m n [] lt = tt
 numbers_above test m n (a ∷ rest) lt = by_test (test a) (numbers_above test m (n + 1) rest (omega (arith, lt))) where

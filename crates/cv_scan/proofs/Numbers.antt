@@ -1,7 +1,8 @@
 -- What an index has under a name, once all records were added one by one.
 use Rattle.std.specs.Prelude.{◌≡◌, ℕ, ◌+◌, ◌-◌, ◌<◌, Bool, true, false, cond, ◌==◌, ◌||◌, suc, List, [], ◌∷◌, ◌++◌, length, Some, refl}
 use Rattle.std.specs.List.{AllByRecursion, list_any, slice_get}
-use Rattle.std.proofs.Common.{◌∙◌, ap, arith, rules}
+use Rattle.std.proofs.Common.{◌∙◌, ap, append_assoc, arith, rules}
+use Rattle.std.proofs.lemmas.Cmp.{nat_eq_equiv}
 use Rattle.cv_base.specs.declared.advisory.Advisory.{Advisory}
 use Rattle.cv_base.specs.declared.advisory.Affected.{Affected}
 use Rattle.cv_base.specs.declared.«package».PackageName.{PackageName}
@@ -31,12 +32,9 @@ last_of n (i ∷ j ∷ ns) =
     let place : suc (suc (length (ns ++ n ∷ []))) - 1 ≡ suc (suc (length (ns ++ n ∷ [])) - 1) = omega arith in
     ap (slice_get (i ∷ j ∷ (ns ++ n ∷ []))) place ∙ last_of n (j ∷ ns)
 
-equal : (n : ℕ) → (n == n) ≡ true
-equal n = search rules
-
 -- a number that stands last is not put again
 once_again : (n : ℕ) (ns : List ℕ) → once n (ns ++ n ∷ []) ≡ ns ++ n ∷ []
-once_again n ns = ap (once_by n (ns ++ n ∷ [])) (last_of n ns) ∙ ap (λ same. cond same (ns ++ n ∷ []) ((ns ++ n ∷ []) ++ n ∷ [])) (equal n)
+once_again n ns = ap (once_by n (ns ++ n ∷ [])) (last_of n ns) ∙ ap (λ same. cond same (ns ++ n ∷ []) ((ns ++ n ∷ []) ++ n ∷ [])) (nat_eq_equiv.refl n)
 
 last_below : (n : ℕ) (ns all : List ℕ) → AreBelow n ns → once_by n all (slice_get ns (length ns - 1)) ≡ all ++ n ∷ []
 last_below n [] all b = refl
@@ -70,10 +68,6 @@ added_is key n (entry ∷ entries) ns b = by_key (is_key key entry.«package») 
   by_key true more = ap (added key n entries) (once_more n ns b) ∙ added_again key n entries ns
   by_key false more = more
 
-append_one : (ns : List ℕ) (n : ℕ) (rest : List ℕ) → (ns ++ n ∷ []) ++ rest ≡ ns ++ n ∷ rest
-append_one [] n rest = refl
-append_one (i ∷ ns) n rest = ap (λ (more : List ℕ). i ∷ more) (append_one ns n rest)
-
 -- the numbers of the records that are left come behind those that were told
 told_behind : (key : PackageName) (n : ℕ) (records : List Advisory) (ns : List ℕ) → AreBelow n ns → told key n records ns ≡ ns ++ numbers_from (is_named key) n records
 told_behind key n [] ns b = search rules
@@ -84,7 +78,7 @@ told_behind key n (a ∷ rest) ns b =
     by_name : (test : Bool) → told key (n + 1) rest (ns ++ n ∷ []) ≡ (ns ++ n ∷ []) ++ numbers_from (is_named key) (n + 1) rest
         → told key (n + 1) rest ns ≡ ns ++ numbers_from (is_named key) (n + 1) rest
         → told key (n + 1) rest (cond test (ns ++ n ∷ []) ns) ≡ ns ++ cond test (n ∷ numbers_from (is_named key) (n + 1) rest) (numbers_from (is_named key) (n + 1) rest)
-    by_name true with_it without = with_it ∙ append_one ns n (numbers_from (is_named key) (n + 1) rest)
+    by_name true with_it without = with_it ∙ append_assoc ns (n ∷ []) (numbers_from (is_named key) (n + 1) rest)
     by_name false with_it without = without
 
 -- from none they are those of the records that name the package

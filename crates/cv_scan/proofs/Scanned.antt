@@ -1,11 +1,12 @@
 -- An image is scanned as it is stored, whatever loading leaves out.
-use Rattle.std.specs.Prelude.{◌≡◌, ℕ, Bool, true, false, ◌||◌, not, filter, if◌then◌else◌, cond, List, [], ◌∷◌, map, Option, Some, None, unwrap_or, Result, Ok, Err, IfSome, refl}
+use Rattle.std.specs.Prelude.{◌≡◌, ℕ, ◌+◌, ◌≤◌, Bool, true, false, ◌||◌, not, filter, if◌then◌else◌, cond, List, [], ◌∷◌, length, map, Option, Some, None, Result, Ok, Err, IfSome, refl}
 use Rattle.std.specs.List.{AllByRecursion}
 use Rattle.std.specs.Option.{option_map}
 use Rattle.std.specs.Result.{result_unwrap_or}
-use Rattle.std.proofs.Common.{ap, sym, subst, ◌∙◌}
+use Rattle.std.proofs.Common.{ap, arith, sym, subst, ◌∙◌}
+use Rattle.std.proofs.lemmas.Option.{same_Some}
 use Rattle.cv_base.specs.Answer.{Gives}
-use Rattle.cv_base.specs.Texts.{same}
+use Rattle.cv_base.specs.Texts.{has_text, same}
 use Rattle.cv_base.specs.declared.advisory.Advisory.{Advisory}
 use Rattle.cv_base.specs.declared.finding.Finding.{Finding}
 use Rattle.cv_base.specs.declared.tree.TreeEntry.{TreeEntry}
@@ -13,12 +14,11 @@ use Rattle.cv_base.proofs.Same.{same_is, same_self}
 use Rattle.cv_desk.specs.Loaded.{loaded, whole}
 use Rattle.cv_desk.specs.Stored.{Stored}
 use Rattle.cv_overlay.specs.declared.fault.ImageFault.{ImageFault}
-use Rattle.cv_scan.specs.Layers.{AreListed, IsOfLayers, IsScanned, IsTold, distinct, is_image_memory, refusing, stored_layers, tree_in, whole_layers, with_stored}
+use Rattle.cv_scan.specs.Layers.{AreListed, IsOfLayers, IsScanned, IsTold, distinct, is_desk_fault, is_image_memory, refusing, stored_layers, tree_in, whole_layers, with_stored}
 use Rattle.cv_scan.specs.Scan.{Scanned, scan}
 use Rattle.cv_scan.specs.declared.error.ImageError.{ImageError}
 use Rattle.cv_scan.specs.declared.error.ImageError.TheVariants as error
 use Rattle.cv_scan.specs.declared.layers.LoadedLayer.{LoadedLayer}
-use Rattle.cv_scan.specs.Distinct.{is_seen}
 use Rattle.cv_scan.proofs.Loaded.{loaded_is}
 use Rattle.cv_scan.proofs.RootLoaded.{load_layer, scan_loaded}
 
@@ -31,31 +31,31 @@ never : (b : Bool) → b ≡ true → b ≡ false → ⊥
 never true h k = cc
 never false h k = cc
 
-seen_filter : (layer other : List ℕ) (ds : List (List ℕ)) → same layer other ≡ false → is_seen ds other ≡ true → is_seen (filter (λ d. not (same layer d)) ds) other ≡ true
+seen_filter : (layer other : List ℕ) (ds : List (List ℕ)) → same layer other ≡ false → has_text ds other ≡ true → has_text (filter (λ d. not (same layer d)) ds) other ≡ true
 seen_filter layer other [] h k = k
 seen_filter layer other (d ∷ ds) h k = by_tests (same layer d) (same d other) refl refl k (λ l. seen_filter layer other ds h l) where
-  by_tests : (a b : Bool) → same layer d ≡ a → same d other ≡ b → (b || is_seen ds other) ≡ true
-      → (is_seen ds other ≡ true → is_seen (filter (λ d. not (same layer d)) ds) other ≡ true)
-      → is_seen (cond (not a) (d ∷ filter (λ d. not (same layer d)) ds) (filter (λ d. not (same layer d)) ds)) other ≡ true
+  by_tests : (a b : Bool) → same layer d ≡ a → same d other ≡ b → (b || has_text ds other) ≡ true
+      → (has_text ds other ≡ true → has_text (filter (λ d. not (same layer d)) ds) other ≡ true)
+      → has_text (cond (not a) (d ∷ filter (λ d. not (same layer d)) ds) (filter (λ d. not (same layer d)) ds)) other ≡ true
   by_tests true true e f l rest = absurd (never (same layer other) (ap (λ x. same x other) (same_is layer d e) ∙ f) h)
   by_tests true false e f l rest = rest l
-  by_tests false true e f l rest = ap (λ c. c || is_seen (filter (λ d. not (same layer d)) ds) other) f
-  by_tests false false e f l rest = ap (λ c. c || is_seen (filter (λ d. not (same layer d)) ds) other) f ∙ rest l
+  by_tests false true e f l rest = ap (λ c. c || has_text (filter (λ d. not (same layer d)) ds) other) f
+  by_tests false false e f l rest = ap (λ c. c || has_text (filter (λ d. not (same layer d)) ds) other) f ∙ rest l
 
 abbrev AreSeen : List (List ℕ) → List (List ℕ) → Type 0
-AreSeen ds layers = AllByRecursion (λ layer. is_seen ds layer ≡ true) layers
+AreSeen ds layers = AllByRecursion (λ layer. has_text ds layer ≡ true) layers
 
 seen_behind : (layer : List ℕ) (ds : List (List ℕ)) (layers : List (List ℕ)) → AreSeen ds layers → AreSeen (layer ∷ filter (λ d. not (same layer d)) ds) layers
 seen_behind layer ds [] h = tt
 seen_behind layer ds (other ∷ others) h = (by_test (same layer other) refl, seen_behind layer ds others h.1) where
-  by_test : (b : Bool) → same layer other ≡ b → (same layer other || is_seen (filter (λ d. not (same layer d)) ds) other) ≡ true
-  by_test true e = ap (λ c. c || is_seen (filter (λ d. not (same layer d)) ds) other) e
-  by_test false e = ap (λ c. c || is_seen (filter (λ d. not (same layer d)) ds) other) e ∙ seen_filter layer other ds e h.0
+  by_test : (b : Bool) → same layer other ≡ b → (same layer other || has_text (filter (λ d. not (same layer d)) ds) other) ≡ true
+  by_test true e = ap (λ c. c || has_text (filter (λ d. not (same layer d)) ds) other) e
+  by_test false e = ap (λ c. c || has_text (filter (λ d. not (same layer d)) ds) other) e ∙ seen_filter layer other ds e h.0
 
 all_seen : (layers : List (List ℕ)) → AreSeen (distinct layers) layers
 all_seen [] = tt
 all_seen (layer ∷ layers) = (
-  ap (λ c. c || is_seen (filter (λ d. not (same layer d)) (distinct layers)) layer) (same_self layer),
+  ap (λ c. c || has_text (filter (λ d. not (same layer d)) (distinct layers)) layer) (same_self layer),
   seen_behind layer (distinct layers) layers (all_seen layers),
 )
 
@@ -64,19 +64,16 @@ all_seen (layer ∷ layers) = (
 abbrev pub load_stored : Option (List Stored) → Option (List TreeEntry)
 load_stored = option_map (map loaded)
 
-some_is : (a b : Option (List Stored)) → Some a ≡ Some b → a ≡ b
-some_is a b h = ap (λ (o : Option (Option (List Stored))). unwrap_or o None) h
-
 told_some : (told : Option (Option (List Stored))) (stored : Option (List Stored)) (found : Option (List TreeEntry)) → IfSome told (λ s. found ≡ load_stored s) → told ≡ Some stored → found ≡ load_stored stored
 told_some None stored found h k = cc
-told_some (Some s) stored found h k = h ∙ ap load_stored (some_is s stored k)
+told_some (Some s) stored found h k = h ∙ ap load_stored (same_Some s stored k)
 
 found_layer : (trees : List ℕ → Option (Option (List Stored))) (xs : List LoadedLayer) (layer : List ℕ) (stored : Option (List Stored))
-    → AllByRecursion (IsTold trees) xs → is_seen (map layer_in xs) layer ≡ true → trees layer ≡ Some stored → tree_in xs layer ≡ load_stored stored
+    → AllByRecursion (IsTold trees) xs → has_text (map layer_in xs) layer ≡ true → trees layer ≡ Some stored → tree_in xs layer ≡ load_stored stored
 found_layer trees [] layer stored all h k = cc
 found_layer trees (x ∷ xs) layer stored all h k = by_test (same x.layer layer) refl h (λ l. found_layer trees xs layer stored all.1 l k) where
-  by_test : (b : Bool) → same x.layer layer ≡ b → (b || is_seen (map layer_in xs) layer) ≡ true
-      → (is_seen (map layer_in xs) layer ≡ true → tree_in xs layer ≡ load_stored stored)
+  by_test : (b : Bool) → same x.layer layer ≡ b → (b || has_text (map layer_in xs) layer) ≡ true
+      → (has_text (map layer_in xs) layer ≡ true → tree_in xs layer ≡ load_stored stored)
       → (if b then option_map (λ tree. tree.entries) x.tree else tree_in xs layer) ≡ load_stored stored
   by_test true e l rest =
       told_some (trees x.layer) stored (option_map (λ tree. tree.entries) x.tree) all.0 (ap trees (same_is x.layer layer e) ∙ k)
@@ -93,7 +90,7 @@ found_more xs layer layers (Some stored) None h k = tt
 found_more xs layer layers (Some stored) (Some rest) h k = λ i. h i ∷ k i
 
 found_here : (trees : List ℕ → Option (Option (List Stored))) (xs : List LoadedLayer) (layer : List ℕ) (here : Option (Option (List Stored)))
-    → AllByRecursion (IsTold trees) xs → is_seen (map layer_in xs) layer ≡ true → trees layer ≡ here → IfSome here (λ stored. tree_in xs layer ≡ load_stored stored)
+    → AllByRecursion (IsTold trees) xs → has_text (map layer_in xs) layer ≡ true → trees layer ≡ here → IfSome here (λ stored. tree_in xs layer ≡ load_stored stored)
 found_here trees xs layer None all h k = tt
 found_here trees xs layer (Some stored) all h k = found_layer trees xs layer stored all h k
 
@@ -169,4 +166,16 @@ failed_told (Some stored) layers before now e feeds h = failed_scanned layers be
 pub failed_listed : (layers : List (List ℕ)) (before now : ℕ) (e : ImageError) → IsOfLayers (distinct layers) before now e → AreListed layers before now (Err e)
 failed_listed layers before now (error.Bad bad) h = absurd h
 failed_listed layers before now (error.Desk layer) h = h
-failed_listed layers before now error.NoMemory h = tt
+failed_listed layers before now error.NoMemory h = h
+
+-- What was loaded was listed, whatever is told of it then.
+
+at_most_is : (n m : ℕ) → n ≡ m → n ≤ m
+at_most_is n m h = omega (arith, h)
+
+pub listed_then : (layers : List (List ℕ)) (before now : ℕ) (answer : Result (List Finding) ImageError) → is_desk_fault answer ≡ false
+    → now ≡ before + length (distinct layers) → AreListed layers before now answer
+listed_then layers before now (Ok found) h k = k
+listed_then layers before now (Err (error.Bad bad)) h k = k
+listed_then layers before now (Err (error.Desk layer)) h k = cc
+listed_then layers before now (Err error.NoMemory) h k = at_most_is now (before + length (distinct layers)) k

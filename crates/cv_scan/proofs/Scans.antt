@@ -9,11 +9,8 @@ use Rattle.cv_base.specs.declared.tree.TreeEntry.{TreeEntry}
 use Rattle.cv_overlay.specs.Lay.{node_at, root_of}
 use Rattle.cv_overlay.specs.Merge.{AreRising}
 use Rattle.cv_overlay.specs.declared.fault.ImageFault.{ImageFault}
-use Rattle.cv_packages.specs.Packages.{is_packages_memory}
-use Rattle.cv_packages.specs.declared.error.PackagesError.{PackagesError}
-use Rattle.cv_packages.specs.declared.error.PackagesError.TheVariants as refused
-use Rattle.cv_scan.specs.Layers.{IsBadTree, image_error, is_image_memory, refusing}
-use Rattle.cv_scan.specs.Scan.{Scanned, as_scanned, bad_tree_from, found_in, scan, scan_good, scan_layers, scan_of, trees_from, with_tree}
+use Rattle.cv_scan.specs.Layers.{is_image_memory, refusing}
+use Rattle.cv_scan.specs.Scan.{Scanned, as_scanned, bad_tree_from, root_findings, scan, scan_good, scan_layers, scan_of, trees_from, with_tree}
 use Rattle.cv_scan.specs.declared.error.ImageError.{ImageError}
 use Rattle.cv_scan.specs.declared.error.ImageError.TheVariants as error
 use Rattle.cv_scan.proofs.Laid.{laid_entries}
@@ -83,23 +80,7 @@ trees_few f g layers trees h few =
 
 pub trees_good : (trees : List (List TreeEntry)) (root entries : List TreeEntry) (feeds : Feeds) (answer : Result (List Finding) ImageError)
     → bad_tree_from 0 trees ≡ None → entries ≡ root → AreRising root → ((p : Path) → node_at root p ≡ root_of trees p)
-    → Answers answer (as_scanned (found_in entries feeds)) → Answers answer (scan_of trees feeds)
+    → Answers answer (as_scanned (root_findings entries feeds)) → Answers answer (scan_of trees feeds)
 trees_good trees root entries feeds answer good same rises laid h =
     subst (λ bad. Answers answer (scan_good bad trees feeds)) (sym good)
-    (subst (λ es. Answers answer (as_scanned (found_in es feeds))) (same ∙ laid_entries trees root rises laid) h)
-
-pub trees_bad : (trees : List (List TreeEntry)) (feeds : Feeds) (e : ImageError) → IsBadTree (bad_tree_from 0 trees) e → MatchBool (is_image_memory e) ⊤ (refusing (scan_of trees feeds) ≡ Err e)
-trees_bad trees feeds (error.Bad bad) h = ap (λ told. refusing (scan_good told trees feeds)) h
-trees_bad trees feeds (error.Desk layer) h = absurd h
-trees_bad trees feeds error.NoMemory h = tt
-
--- From the findings of the root to the answer.
-
-pub found_ok : (found : Result (List Finding) PackagesError) (out : List Finding) → found ≡ Ok out → refusing (as_scanned found) ≡ Ok out
-found_ok found out h = ap (λ f. refusing (as_scanned f)) h
-
-pub found_bad : (found : Result (List Finding) PackagesError) (e : PackagesError) → MatchBool (is_packages_memory e) ⊤ (found ≡ Err e)
-    → MatchBool (is_image_memory (image_error e)) ⊤ (refusing (as_scanned found) ≡ Err (image_error e))
-found_bad found (refused.BadFile path line what) h = ap (λ f. refusing (as_scanned f)) h
-found_bad found (refused.TooLarge path) h = ap (λ f. refusing (as_scanned f)) h
-found_bad found refused.NoMemory h = tt
+    (subst (λ es. Answers answer (as_scanned (root_findings es feeds))) (same ∙ laid_entries trees root rises laid) h)

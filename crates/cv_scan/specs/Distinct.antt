@@ -1,12 +1,7 @@
--- The distinct layers as the code finds them, from the front.
-use Rattle.std.specs.Prelude.{ℕ, Bool, cond, List, [], ◌∷◌, ◌++◌}
-use Rattle.std.specs.List.{list_any}
-use Rattle.cv_base.specs.Texts.{same}
-
--- a layer is one of these
-abbrev pub is_seen : List (List ℕ) → List ℕ → Bool
-is_seen seen layer = list_any (λ s. same s layer) seen
+-- The distinct layers as the code finds them, from the front (cvwatch's own).
+use Rattle.std.specs.Prelude.{ℕ, cond, List, [], ◌∷◌, ◌++◌}
+use Rattle.cv_base.specs.Texts.{has_text}
 
 -- a layer behind those that were seen, unless it is one of them
 abbrev pub with_layer : List (List ℕ) → List ℕ → List (List ℕ)
-with_layer seen layer = cond (is_seen seen layer) seen (seen ++ layer ∷ [])
+with_layer seen layer = cond (has_text seen layer) seen (seen ++ layer ∷ [])

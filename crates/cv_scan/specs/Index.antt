@@ -1,6 +1,6 @@
--- Words for the clauses of private functions: the records of a feed by the packages that they name, so that those that
+-- Words for the clauses of private functions (cvwatch's own): the records of a feed by the packages that they name, so that those that
 -- cannot affect a package are passed over. It is shown in `proofs/` that no finding is lost so.
-use Rattle.std.specs.Prelude.{◌≡◌, ℕ, ◌+◌, ◌-◌, Bool, false, ◌==◌, if◌then◌else◌, List, [], ◌∷◌, ◌++◌, length, Option, Some, None}
+use Rattle.std.specs.Prelude.{◌≡◌, ℕ, ◌+◌, ◌-◌, Bool, false, ◌||◌, ◌==◌, if◌then◌else◌, List, [], ◌∷◌, ◌++◌, length, Option, Some, None}
 use Rattle.std.specs.BTreeMap.{BTreeMap, get}
 use Rattle.std.specs.Cmp.Lexicographic.{slice_cmp}
 use Rattle.std.specs.List.{flat_map, list_any, slice_get}
@@ -49,6 +49,7 @@ abbrev pub once_by : ℕ → List ℕ → Option ℕ → List ℕ
 once_by number numbers None = numbers ++ number ∷ []
 once_by number numbers (Some last) = if last == number then numbers else numbers ++ number ∷ []
 
+-- a number behind others, once
 abbrev pub once : ℕ → List ℕ → List ℕ
 once number numbers = once_by number numbers (slice_get numbers (length numbers - 1))
 
@@ -67,8 +68,13 @@ told key number (a ∷ rest) numbers = told key (number + 1) rest (added key num
 abbrev pub whole_key : Package → PackageName
 whole_key p = record { ecosystem = p.ecosystem; name = key_name p }
 
+-- the name with the family of the ecosystem alone
 abbrev pub family_key : Package → PackageName
 family_key p = record { ecosystem = family p.ecosystem; name = key_name p }
+
+-- a record names the package, by one of these
+abbrev pub is_about : Package → Advisory → Bool
+is_about p a = is_named (whole_key p) a || is_named (family_key p) a
 
 -- the numbers of two rising lists in rising order, each once
 abbrev pub merged : List ℕ → List ℕ → List ℕ

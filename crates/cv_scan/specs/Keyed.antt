@@ -9,5 +9,6 @@ use Rattle.cv_scan.specs.declared.order.KeyedFinding.{KeyedFinding}
 abbrev pub keyed_cmp : KeyedFinding → KeyedFinding → Ordering
 keyed_cmp = on (λ k. k.finding) finding_cmp
 
+-- a total order
 pub keyed_total : IsTotalOrder keyed_cmp
 keyed_total = on_total (λ (k : KeyedFinding). k.finding) finding_total

@@ -1,5 +1,5 @@
 -- The layers of an image as a desk has them (cvwatch's own): each distinct layer is listed once, in the order of the image.
-use Rattle.std.specs.Prelude.{◌≡◌, ℕ, ◌+◌, Bool, true, false, not, filter, if◌then◌else◌, List, [], ◌∷◌, length, map, Option, Some, None, Result, Ok, Err, IfSome, slice_get}
+use Rattle.std.specs.Prelude.{◌≡◌, ℕ, ◌+◌, ◌≤◌, Bool, true, false, not, filter, if◌then◌else◌, List, [], ◌∷◌, length, map, Option, Some, None, Result, Ok, Err, IfSome, slice_get}
 use Rattle.std.specs.Option.{option_map}
 use Rattle.cv_base.specs.Texts.{same}
 use Rattle.cv_base.specs.declared.finding.Finding.{Finding}
@@ -15,7 +15,7 @@ use Rattle.cv_scan.specs.declared.error.ImageError.{ImageError}
 use Rattle.cv_scan.specs.declared.error.ImageError.TheVariants as error
 use Rattle.cv_scan.specs.declared.layers.LoadedLayer.{LoadedLayer}
 
--- digests, each at the first place where it stands alone
+-- digests, each once, at the first place where it stands
 abbrev pub distinct : List (List ℕ) → List (List ℕ)
 distinct [] = []
 distinct (layer ∷ layers) = layer ∷ filter (λ other. not (same layer other)) (distinct layers)
@@ -45,13 +45,13 @@ IsScanned (Err (error.Bad bad)) scanned = scanned ≡ Err bad
 IsScanned (Err (error.Desk layer)) scanned = Unit {0}
 IsScanned (Err error.NoMemory) scanned = Unit {0}
 
--- how often layers were listed: each distinct one once where the image was scanned, and up to the one that the desk
--- failed at
+-- how often layers were listed: each distinct one once where the image was scanned, up to the one that the desk failed at,
+-- and no more than each distinct one once where memory was wanting
 abbrev pub AreListed : List (List ℕ) → ℕ → ℕ → Result (List Finding) ImageError → Type 0
 AreListed layers before now (Ok found) = now ≡ before + length (distinct layers)
 AreListed layers before now (Err (error.Bad bad)) = now ≡ before + length (distinct layers)
 AreListed layers before now (Err (error.Desk layer)) = IsFailed (distinct layers) before now layer
-AreListed layers before now (Err error.NoMemory) = Unit {0}
+AreListed layers before now (Err error.NoMemory) = now ≤ before + length (distinct layers)
 
 -- a layer was loaded as the desk's type names it, where it tells
 abbrev pub IsTold : (List ℕ → Option (Option (List Stored))) → LoadedLayer → Type 0
@@ -72,7 +72,7 @@ IsOfLayer layer error.NoMemory = Unit {0}
 abbrev pub IsOfLayers : List (List ℕ) → ℕ → ℕ → ImageError → Type 0
 IsOfLayers layers before now (error.Bad bad) = ⊥
 IsOfLayers layers before now (error.Desk layer) = IsFailed layers before now layer
-IsOfLayers layers before now error.NoMemory = Unit {0}
+IsOfLayers layers before now error.NoMemory = now ≤ before + length layers
 
 -- an image was not scanned for want of memory
 abbrev pub is_image_memory : ImageError → Bool

@@ -30,6 +30,7 @@ trees_from number [] = Ok []
 trees_from number (None ∷ layers) = Err (fault.NoLayer number)
 trees_from number (Some tree ∷ layers) = with_tree tree (trees_from (number + 1) layers)
 
+-- a tree's fault with the number of its layer, or a later one
 abbrev pub or_bad : ℕ → Option TreeFault → Option ImageFault → Option ImageFault
 or_bad number None later = later
 or_bad number (Some told) later = Some (fault.BadTree number told)
@@ -39,33 +40,37 @@ abbrev pub bad_tree_from : ℕ → List (List TreeEntry) → Option ImageFault
 bad_tree_from number [] = None
 bad_tree_from number (tree ∷ trees) = or_bad number (tree_fault tree) (bad_tree_from (number + 1) trees)
 
--- the refusal of a package file as that of its image. (Want of memory is no refusal: no definition gives it.)
+-- the refusal of a package file as that of its image. (None is for want of memory: `refusals_law` of cv_packages. What
+-- stands there is never told.)
 abbrev pub file_fault : PackagesError → ImageFault
 file_fault (error.BadFile path line what) = fault.BadFile path line what
 file_fault (error.TooLarge path) = fault.TooLarge path
 file_fault error.NoMemory = fault.TooLarge []
 
--- the findings of a root, or the refusal of its first package file that is refused
+-- the findings of packages, or the refusal in their place
 abbrev pub with_findings : List (List ℕ × List Advisory) → Result (List Package) PackagesError → Result (List Finding) PackagesError
 with_findings feeds (Ok found) = Ok (findings found feeds)
 with_findings feeds (Err refused) = Err refused
 
-abbrev pub found_in : List TreeEntry → List (List ℕ × List Advisory) → Result (List Finding) PackagesError
-found_in entries feeds = with_findings feeds (packages entries)
+-- the findings of the packages of a root, or the refusal of its first package file that is refused
+abbrev pub root_findings : List TreeEntry → List (List ℕ × List Advisory) → Result (List Finding) PackagesError
+root_findings entries feeds = with_findings feeds (packages entries)
 
 -- the same, as that of the image
 abbrev pub as_scanned : Result (List Finding) PackagesError → Scanned
 as_scanned (Ok found) = Ok found
 as_scanned (Err refused) = Err (file_fault refused)
 
+-- the scan of an image of these trees: the first that is not good, or else what is found in the root
 abbrev pub scan_good : Option ImageFault → List (List TreeEntry) → List (List ℕ × List Advisory) → Scanned
 scan_good (Some bad) trees feeds = Err bad
-scan_good None trees feeds = as_scanned (found_in (root_entries trees) feeds)
+scan_good None trees feeds = as_scanned (root_findings (root_entries trees) feeds)
 
 -- the scan of an image that has all these trees
 abbrev pub scan_of : List (List TreeEntry) → List (List ℕ × List Advisory) → Scanned
 scan_of trees feeds = scan_good (bad_tree_from 0 trees) trees feeds
 
+-- the scan, where all layers are there, or else the first that is not
 abbrev pub scan_layers : Result (List (List TreeEntry)) ImageFault → List (List ℕ × List Advisory) → Scanned
 scan_layers (Err bad) feeds = Err bad
 scan_layers (Ok trees) feeds = scan_of trees feeds

@@ -53,7 +53,6 @@ fn find_counted<L: Ledger>(
 }
 
 /// What the records say of a package, in their order.
-#[tactic(auto, using(crate::proofs::Looked::found_named))]
 fn find_in<L: Ledger>(
     alloc: Global,
     package: &Package,

@@ -1,9 +1,10 @@
-ghost use Rattle.std.specs.Prelude.{◌≡◌, ◌++◌, [], ◌∷◌, IfOk, OnOk, if◌then◌else◌};
+ghost use Rattle.std.specs.Prelude.{◌≡◌, ◌++◌, List, [], ◌∷◌, IfOk, OnOk, if◌then◌else◌};
 ghost use Rattle.std.specs.BTreeMap.{get};
 ghost use Rattle.std.specs.Ordering.{is_eq};
+ghost use Rattle.cv_base.specs.declared.advisory.Advisory.{Advisory};
 ghost use Rattle.cv_base.specs.declared.package.PackageName.{PackageName};
 ghost use Rattle.cv_match.specs.Affects.{family, key_name};
-ghost use Rattle.cv_scan.specs.Index.{Indexes, added, family_key, merged, name_cmp, numbers_in, once, whole_key};
+ghost use Rattle.cv_scan.specs.Index.{Indexes, added, is_about, merged, name_cmp, numbers_from, numbers_in, once};
 
 use cv_base::{Advisory, NoMemory, Package, PackageKind, PackageName, Text};
 use std::alloc::Global;
@@ -60,7 +61,7 @@ pub(crate) fn numbers_for(
     index: &Index,
     package: &Package,
 ) -> Result<Vec<usize>, NoMemory>
-    ensures { IfOk result (λ numbers. numbers.items ≡ merged (numbers_in (get name_cmp index.now (whole_key «package».now))) (numbers_in (get name_cmp index.now (family_key «package».now)))) }
+    ensures { (records : List Advisory) → Indexes index.now records → IfOk result (λ numbers. numbers.items ≡ numbers_from (is_about «package».now) 0 records) }
 {
     let whole = PackageName {
         ecosystem: package.ecosystem.clone()?,

@@ -36,7 +36,7 @@ pub fn load_layers<D: Desk>(
     load_each(alloc, desk, &distinct)
 }
 
-/// The layers of an image, each at the first place where it stands alone. They are at most 128.
+/// The layers of an image, each once, at the first place where it stands. They are at most 128.
 #[tactic(auto, using(crate::proofs::Distinct::behind_all, crate::proofs::Distinct::behind_none))]
 fn distinct_layers(alloc: Global, layers: &[Digest]) -> Result<Vec<Digest>, NoMemory>
     ensures layers { IfOk result (λ out. out.items ≡ distinct layers.now) }

@@ -12,6 +12,7 @@ mod layers;
 mod order;
 mod scan;
 
+pub use cv_packages::PackagesError as ScanError;
 pub use error::ImageError;
 pub use find::find_all;
 pub use order::in_order;

@@ -1,4 +1,5 @@
 ghost use Rattle.std.specs.Prelude.{◌≡◌, IfOk};
+ghost use Rattle.std.specs.List.Sorted.{IsStrictlySortedBy};
 ghost use Rattle.cv_base.specs.InOrder.{in_order};
 ghost use Rattle.cv_match.specs.Findings.{finding_cmp};
 
@@ -73,9 +74,18 @@ impl Ord for KeyedFinding {
 
 /// Findings in rising order, by package, feed and id of the advisory, each once: of those that are the
 /// same by these three the last one stays.
+pub fn in_order(alloc: Global, found: Vec<Finding>) -> Result<Seq<Finding>, NoMemory>
+    ensures order { IfOk result (λ out. out ≡ in_order finding_cmp found.items) }
+    ensures rises { IfOk result (λ out. IsStrictlySortedBy finding_cmp out) }
+{
+    let ordered = put_in_order(alloc, found)?;
+    Ok(Seq::of(ordered))
+}
+
+/// The same, by a set: the last one is put first, and stays.
 #[tactic(auto, using(crate::proofs::Ordered::put_last, crate::proofs::Ordered::put_none, crate::proofs::Ordered::put_seen))]
-pub fn in_order(alloc: Global, mut found: Vec<Finding>) -> Result<Seq<Finding>, NoMemory>
-    ensures { IfOk result (λ out. out ≡ in_order finding_cmp found.items) }
+fn put_in_order(alloc: Global, mut found: Vec<Finding>) -> Result<Vec<Finding>, NoMemory>
+    ensures { IfOk result (λ out. out.items ≡ in_order finding_cmp found.items) }
 {
     let mut keyed = BTreeSet::new(alloc);
     while let Some(finding) = found.pop() {
@@ -85,7 +95,7 @@ pub fn in_order(alloc: Global, mut found: Vec<Finding>) -> Result<Seq<Finding>, 
     for next in keyed {
         ordered.push(next.finding)?;
     }
-    Ok(Seq::of(ordered))
+    Ok(ordered)
 }
 
 #[cfg(test)]

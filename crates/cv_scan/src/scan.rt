@@ -5,7 +5,7 @@ ghost use Rattle.cv_overlay.specs.Lay.{node_at, root_of};
 ghost use Rattle.cv_seq.specs.Cause.{CausedBy};
 ghost use Rattle.cv_packages.specs.Packages.{is_packages_memory};
 ghost use Rattle.cv_scan.specs.Layers.{AreListed, IsScanned, is_desk_fault, is_image_memory, IsBadTree, refusing, stored_layers, tree_in, whole_layers};
-ghost use Rattle.cv_scan.specs.Scan.{as_scanned, bad_tree_from, found_in, scan, scan_of, trees_from};
+ghost use Rattle.cv_scan.specs.Scan.{as_scanned, bad_tree_from, root_findings, scan, scan_of, trees_from};
 
 use crate::error::{ImageError, image_error};
 use crate::find::find_all;
@@ -13,13 +13,13 @@ use crate::layers::{LoadedLayer, load_layers, tree_of};
 use cv_base::{Advisory, Digest, Finding, Text, Tree, TreeEntry};
 use cv_desk::Desk;
 use cv_overlay::{ImageFault, OverlayError, Root};
-use cv_packages::{PackagesError, read_packages};
+use cv_packages::{PackagesError as ScanError, read_packages};
 use cv_seq::Seq;
 use std::alloc::Global;
 
 /// Scans an image: loads each distinct layer once, in the order of the image, and finds what the records of the feed say of
 /// the packages of its root. Layers are given with the base first, and numbered from 0.
-#[tactic(auto, using(crate::proofs::Scanned::failed_told, crate::proofs::Scanned::failed_listed))]
+#[tactic(auto, using(crate::proofs::Scanned::failed_told, crate::proofs::Scanned::failed_listed, crate::proofs::Scanned::listed_then))]
 pub fn scan_image<D: Desk>(
     alloc: Global,
     desk: &mut D,
@@ -79,7 +79,7 @@ fn scan_laid(
     feed: &Text,
     advisories: &[Advisory],
 ) -> Result<Seq<Finding>, ImageError>
-    ensures { Gives is_image_memory (λ found. found) result (refusing (as_scanned (found_in entries.now ((feed.now, advisories.now) ∷ [])))) }
+    ensures { Gives is_image_memory (λ found. found) result (refusing (as_scanned (root_findings entries.now ((feed.now, advisories.now) ∷ [])))) }
 {
     match scan_entries(alloc, entries, advisories, feed) {
         Ok(found) => Ok(found),
@@ -134,8 +134,8 @@ pub fn scan_root(
     root: &Root,
     advisories: &[Advisory],
     feed: &Text,
-) -> Result<Seq<Finding>, PackagesError>
-    ensures { Gives is_packages_memory (λ found. found) result (found_in root.now ((feed.now, advisories.now) ∷ [])) }
+) -> Result<Seq<Finding>, ScanError>
+    ensures { Gives is_packages_memory (λ found. found) result (root_findings root.now ((feed.now, advisories.now) ∷ [])) }
 {
     scan_entries(alloc, root.entries(), advisories, feed)
 }
@@ -146,8 +146,8 @@ fn scan_entries(
     entries: &[TreeEntry],
     advisories: &[Advisory],
     feed: &Text,
-) -> Result<Seq<Finding>, PackagesError>
-    ensures { Gives is_packages_memory (λ found. found) result (found_in entries.now ((feed.now, advisories.now) ∷ [])) }
+) -> Result<Seq<Finding>, ScanError>
+    ensures { Gives is_packages_memory (λ found. found) result (root_findings entries.now ((feed.now, advisories.now) ∷ [])) }
 {
     let packages = read_packages(alloc, entries)?;
     Ok(find_all(alloc, packages.as_slice(), feed, advisories)?)

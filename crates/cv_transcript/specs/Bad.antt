@@ -57,6 +57,7 @@ bad_data (BadTree layer fault) = bad_tree_data layer fault
 bad_data (BadFile path line what) = bad_file_data path line what
 bad_data (TooLarge path) = too_large_data path
 
+-- the JSON value of a bad image
 abbrev pub bad_image_data : List ℕ → ImageFault → Data
 bad_image_data image bad =
     object (member (codes "bad") (bad_data bad)

@@ -6,6 +6,7 @@ use Rattle.cv_base.specs.declared.finding.Finding.{Finding}
 use Rattle.cv_base.specs.declared.package.PackageKind.{PackageKind}
 use Rattle.cv_base.specs.declared.package.PackageKind.TheVariants.{Deb, Apk, Npm}
 
+-- a kind by its word
 abbrev pub kind_text : PackageKind → List ℕ
 kind_text Deb = codes "deb"
 kind_text Apk = codes "apk"

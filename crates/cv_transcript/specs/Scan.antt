@@ -6,6 +6,7 @@ use Rattle.cv_base.specs.declared.finding.Finding.{Finding}
 use Rattle.cv_transcript.specs.Finding.{findings_data}
 use Rattle.cv_transcript.specs.Line.{line_text}
 
+-- the JSON value of a good image
 abbrev pub good_data : List ℕ → List Finding → Data
 good_data image findings =
     object (member (codes "findings") (findings_data findings)
@@ -16,20 +17,15 @@ good_data image findings =
 unfoldable pub good_text : List ℕ → List Finding → List ℕ
 good_text image findings = line_text (good_data image findings)
 
+-- the JSON value of a refused line
 abbrev pub line_data : ℕ → List ℕ → Data
 line_data line word = object (member (codes "line") (number (unsigned line)) (member (codes "refused") (string word) no_members))
 
--- an input line that is refused, with its number from 1
+-- the line of a refused line, with its number from 1 and a word for the cause
 unfoldable pub refused_text : ℕ → List ℕ → List ℕ
 refused_text line word = line_text (line_data line word)
 
-abbrev pub image_data : List ℕ → List ℕ → Data
-image_data image word = object (member (codes "image") (string (digest_text image)) (member (codes "refused") (string word) no_members))
-
--- an image that is refused
-unfoldable pub image_text : List ℕ → List ℕ → List ℕ
-image_text image word = line_text (image_data image word)
-
+-- the JSON value of a failed layer
 abbrev pub layer_data : List ℕ → Data
 layer_data layer = object (member (codes "layer") (string (digest_text layer)) (member (codes "refused") (string (codes "desk_fault")) no_members))
 

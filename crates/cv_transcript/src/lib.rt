@@ -18,4 +18,4 @@ pub use finding::findings_value;
 pub use line::line_of;
 pub use object::Object;
 pub use refusal::{no_manifest_line, refusal_line};
-pub use scan::{desk_fault_line, good_line, image_line, refused_line};
+pub use scan::{desk_fault_line, good_line};

@@ -1,5 +1,5 @@
 ghost use Rattle.std.specs.Prelude.{◌≡◌, IfOk, string_bytes};
-ghost use Rattle.cv_transcript.specs.Scan.{desk_fault_text, good_data, good_text, image_data, image_text, layer_data, line_data, refused_text};
+ghost use Rattle.cv_transcript.specs.Scan.{desk_fault_text, good_data, good_text, layer_data, line_data, refused_text};
 ghost use Rattle.serde_json.specs.View.{view};
 
 use crate::finding::findings_value;
@@ -30,9 +30,9 @@ fn good_value(alloc: Global, image: &Digest, findings: &[Finding]) -> Result<Val
     )
 }
 
-/// The line of an input line that is refused: `{"line":1,"refused":"not_built"}`. Lines are numbered from 1.
+/// The line of a refusal by a word alone: `{"line":1,"refused":"no_manifest"}`. Lines are numbered from 1.
 #[tactic(auto, unfolding(crate::specs::Scan::refused_text))]
-pub fn refused_line(alloc: Global, line: u64, word: &str) -> Result<String, NoMemory>
+pub(crate) fn refused_line(alloc: Global, line: u64, word: &str) -> Result<String, NoMemory>
     ensures { IfOk result (λ text. string_bytes text ≡ refused_text line word.now) }
 {
     let value = line_value(alloc, line, word)?;
@@ -45,26 +45,6 @@ pub(crate) fn line_value(alloc: Global, line: u64, word: &str) -> Result<Value, 
     Ok(
         Object::new(alloc)
             .value(alloc, "line", Value::from(line))?
-            .text(alloc, "refused", word)?
-            .done(),
-    )
-}
-
-/// The line of an image that is refused: `{"image":"..","refused":"not_built"}`.
-#[tactic(auto, unfolding(crate::specs::Scan::image_text))]
-pub fn image_line(alloc: Global, image: &Digest, word: &str) -> Result<String, NoMemory>
-    ensures { IfOk result (λ text. string_bytes text ≡ image_text image.now word.now) }
-{
-    let value = image_value(alloc, image, word)?;
-    line_of(alloc, &value)
-}
-
-fn image_value(alloc: Global, image: &Digest, word: &str) -> Result<Value, NoMemory>
-    ensures { IfOk result (λ value. view value ≡ image_data image.now word.now) }
-{
-    Ok(
-        Object::new(alloc)
-            .text(alloc, "image", image.text(alloc)?.as_str())?
             .text(alloc, "refused", word)?
             .done(),
     )

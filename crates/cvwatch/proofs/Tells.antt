@@ -1,73 +1,67 @@
 -- A line tells what came of an image.
-use Rattle.std.proofs.Common.{◌≡◌, ℕ, ◌+◌, true, List, [], ◌∷◌, length, codes, sym, ◌∙◌, ap, subst}
-use Rattle.std.specs.Prelude.{IfOk, IfSome, Option, Result, Ok, Err}
+use Rattle.std.proofs.Common.{◌≡◌, ℕ, ◌+◌, ◌≤◌, List, [], ◌∷◌, length, codes, ◌∙◌, ap, subst, arith}
+use Rattle.std.proofs.lemmas.Option.{slice_get_within}
+use Rattle.std.specs.Prelude.{IfOk, IfSome, Result, Ok, Err}
 use Rattle.cv_base.specs.declared.advisory.Advisory.{Advisory}
 use Rattle.cv_base.specs.declared.finding.Finding.{Finding}
 use Rattle.cv_base.specs.declared.manifest.Manifest.{Manifest}
-use Rattle.cv_desk.specs.Stored.{Stored}
 use Rattle.cv_scan.specs.Layers.{AreListed, IsFailed, IsScanned, distinct, is_desk_fault, stored_layers, whole_layers}
 use Rattle.cv_scan.specs.Scan.{Scanned, scan}
 use Rattle.cv_scan.specs.declared.error.ImageError.{ImageError}
 use Rattle.cv_scan.specs.declared.error.ImageError.TheVariants as error
-use Rattle.cv_seq.specs.Cause.{CausedBy, Rose}
+use Rattle.cv_seq.specs.Cause.{CausedBy}
 use Rattle.cv_transcript.specs.Scan.{good_text}
 use Rattle.cvwatch.specs.Outcome.{Told, Failed, TellsError, TellsOutcome, printed_of}
-use Rattle.cvwatch.specs.Printed.{Printed, is_end}
+use Rattle.cvwatch.specs.Printed.{Printed}
 use Rattle.cv_seq.specs.declared.memory.NoMemory.{NoMemory}
+use Rattle.cvwatch.specs.World.{Counts, Trees}
 use Rattle.cvwatch.specs.declared.scanning.Answer.{Answer}
 use Rattle.cvwatch.specs.declared.status.Status.TheVariants as status
 
-refused_differs : status.Refused ≡ status.DeskFault → ⊥
-refused_differs h = cc
-
 -- the desk's type tells the scan of an image
-abbrev IsScan : (List ℕ → Option (Option (List Stored))) → List (List ℕ) → List (List ℕ × List Advisory) → Scanned → Type 0
+abbrev IsScan : Trees → List (List ℕ) → List (List ℕ × List Advisory) → Scanned → Type 0
 IsScan trees layers feeds scanned = IfSome (stored_layers trees layers) (λ stored. scan (whole_layers stored) feeds ≡ scanned)
 
 -- the same layers, records and feed
-these : (trees : List ℕ → Option (Option (List Stored))) (layers ls : List (List ℕ)) (records rs : List Advisory) (feed : List ℕ) (scanned : Scanned)
+these : (trees : Trees) (layers ls : List (List ℕ)) (records rs : List Advisory) (feed : List ℕ) (scanned : Scanned)
     → ls ≡ layers → rs ≡ records → feed ≡ codes "scan" → IsScan trees ls ((feed, rs) ∷ []) scanned → IsScan trees layers ((codes "scan", records) ∷ []) scanned
 these trees layers ls records rs feed scanned l r f h =
     subst (λ xs. IsScan trees xs ((codes "scan", records) ∷ []) scanned) l (subst (λ g. IsScan trees ls ((g, records) ∷ []) scanned) f (subst (λ ys. IsScan trees ls ((feed, ys) ∷ []) scanned) r h))
 
-pub tells_good : (trees : List ℕ → Option (Option (List Stored))) (manifest : Manifest) (records rs : List Advisory) (layers : List (List ℕ)) (listed now : ℕ) (feed text : List ℕ) (found : List Finding)
-    → layers ≡ manifest.layers → rs ≡ records → feed ≡ codes "scan" → IsScan trees layers ((feed, rs) ∷ []) (Ok found) → now ≡ listed + length (distinct layers) → text ≡ good_text manifest.hash found
-    → TellsOutcome trees manifest records listed now (record { text = text; ended = status.Done })
-tells_good trees manifest records rs layers listed now feed text found l r f told counted line = (
+pub tells_good : (trees : Trees) (manifest : Manifest) (records rs : List Advisory) (layers : List (List ℕ)) (before now : Counts) (feed text : List ℕ) (found : List Finding)
+    → layers ≡ manifest.layers → rs ≡ records → feed ≡ codes "scan" → IsScan trees layers ((feed, rs) ∷ []) (Ok found) → now.listings ≡ before.listings + length (distinct layers) → text ≡ good_text manifest.hash found
+    → TellsOutcome trees manifest records before now (record { text = text; ended = status.Done })
+tells_good trees manifest records rs layers before now feed text found l r f told counted line = (
   Told (Ok found),
-  (these trees manifest.layers layers records rs feed (Ok found) l r f told, counted ∙ ap (λ ls. listed + length (distinct ls)) l),
+  (these trees manifest.layers layers records rs feed (Ok found) l r f told, counted ∙ ap (λ ls. before.listings + length (distinct ls)) l),
   λ i. record { text = line i; ended = status.Done },
 )
 
 -- an answer of the code
-abbrev IsImage : (List ℕ → Option (Option (List Stored))) → List (List ℕ) → List (List ℕ × List Advisory) → Result (List Finding) ImageError → Type 0
+abbrev IsImage : Trees → List (List ℕ) → List (List ℕ × List Advisory) → Result (List Finding) ImageError → Type 0
 IsImage trees layers feeds answer = IfSome (stored_layers trees layers) (λ stored. IsScanned answer (scan (whole_layers stored) feeds))
 
-pub tells_error : (trees : List ℕ → Option (Option (List Stored))) (manifest : Manifest) (records rs : List Advisory) (layers : List (List ℕ)) (listed now : ℕ) (feed : List ℕ) (e : ImageError) (printed : Printed)
-    → layers ≡ manifest.layers → rs ≡ records → feed ≡ codes "scan" → IsImage trees layers ((feed, rs) ∷ []) (Err e) → AreListed layers listed now (Err e) → TellsError manifest.hash e printed
-    → TellsOutcome trees manifest records listed now printed
-tells_error trees manifest records rs layers listed now feed (error.Bad bad) printed l r f told counted line =
-    (Told (Err bad), (these trees manifest.layers layers records rs feed (Err bad) l r f told, counted ∙ ap (λ ls. listed + length (distinct ls)) l), line)
-tells_error trees manifest records rs layers listed now feed (error.Desk layer) printed l r f told failed line =
-    (Failed layer, subst (λ ls. IsFailed (distinct ls) listed now layer) l failed, line)
-tells_error trees manifest records rs layers listed now feed error.NoMemory printed l r f told counted line = absurd line
-
--- it is a text that ends the command
-pub error_ends : (hash : List ℕ) (e : ImageError) (printed : Printed) → TellsError hash e printed → is_end printed.ended ≡ true
-error_ends hash (error.Bad bad) printed line = ap (λ (p : Printed). is_end p.ended) line
-error_ends hash (error.Desk layer) printed line = ap (λ (p : Printed). is_end p.ended) line
-error_ends hash error.NoMemory printed line = absurd line
-
--- the desk is blamed where it failed alone
-pub error_blames : (hash : List ℕ) (e : ImageError) (printed : Printed) (before now : ℕ) → TellsError hash e printed → CausedBy before now (is_desk_fault {A = List Finding} (Err e))
-    → printed.ended ≡ status.DeskFault → Rose before now
-error_blames hash (error.Bad bad) printed before now line cause h = absurd (refused_differs (sym (ap (λ (p : Printed). p.ended) line) ∙ h))
-error_blames hash (error.Desk layer) printed before now line cause h = cause.rose
-error_blames hash error.NoMemory printed before now line cause h = absurd line
+pub tells_error : (trees : Trees) (manifest : Manifest) (records rs : List Advisory) (layers : List (List ℕ)) (before now : Counts) (feed : List ℕ) (e : ImageError) (printed : Printed)
+    → layers ≡ manifest.layers → rs ≡ records → feed ≡ codes "scan" → IsImage trees layers ((feed, rs) ∷ []) (Err e) → AreListed layers before.listings now.listings (Err e) → CausedBy before.faults now.faults (is_desk_fault {A = List Finding} (Err e)) → TellsError manifest.hash e printed
+    → TellsOutcome trees manifest records before now printed
+tells_error trees manifest records rs layers before now feed (error.Bad bad) printed l r f told counted cause line =
+    (Told (Err bad), (these trees manifest.layers layers records rs feed (Err bad) l r f told, counted ∙ ap (λ ls. before.listings + length (distinct ls)) l), line)
+tells_error trees manifest records rs layers before now feed (error.Desk layer) printed l r f told failed cause line =
+    (Failed layer, (subst (λ ls. IsFailed (distinct ls) before.listings now.listings layer) l failed, cause.rose), line)
+tells_error trees manifest records rs layers before now feed error.NoMemory printed l r f told counted cause line = absurd line
 
 -- the answer of the code to an image without findings
-pub answer_tells : (trees : List ℕ → Option (Option (List Stored))) (manifest : Manifest) (records rs : List Advisory) (layers : List (List ℕ)) (listed now : ℕ) (feed : List ℕ) (e : ImageError) (answer : Result Answer NoMemory)
-    → layers ≡ manifest.layers → rs ≡ records → feed ≡ codes "scan" → IsImage trees layers ((feed, rs) ∷ []) (Err e) → AreListed layers listed now (Err e)
-    → IfOk answer (λ a. TellsError manifest.hash e (printed_of a)) → IfOk answer (λ a. TellsOutcome trees manifest records listed now (printed_of a))
-answer_tells trees manifest records rs layers listed now feed e (Ok a) l r f told counted line = tells_error trees manifest records rs layers listed now feed e (printed_of a) l r f told counted line
-answer_tells trees manifest records rs layers listed now feed e (Err m) l r f told counted line = tt
+pub answer_tells : (trees : Trees) (manifest : Manifest) (records rs : List Advisory) (layers : List (List ℕ)) (before now : Counts) (feed : List ℕ) (e : ImageError) (answer : Result Answer NoMemory)
+    → layers ≡ manifest.layers → rs ≡ records → feed ≡ codes "scan" → IsImage trees layers ((feed, rs) ∷ []) (Err e) → AreListed layers before.listings now.listings (Err e) → CausedBy before.faults now.faults (is_desk_fault {A = List Finding} (Err e))
+    → IfOk answer (λ a. TellsError manifest.hash e (printed_of a)) → IfOk answer (λ a. TellsOutcome trees manifest records before now (printed_of a))
+answer_tells trees manifest records rs layers before now feed e (Ok a) l r f told counted cause line = tells_error trees manifest records rs layers before now feed e (printed_of a) l r f told counted cause line
+answer_tells trees manifest records rs layers before now feed e (Err m) l r f told counted cause line = tt
+
+listed_of : (layers : List (List ℕ)) (before now : ℕ) (e : ImageError) → AreListed layers before now (Err e) → now ≤ before + length (distinct layers)
+listed_of layers before now (error.Bad bad) counted = omega (arith, counted)
+listed_of layers before now (error.Desk layer) (k, counted, at) = omega (arith, counted, slice_get_within (distinct layers) k layer at)
+listed_of layers before now error.NoMemory within = within
+
+-- each distinct layer is listed at most once
+pub listed_within : (layers ls : List (List ℕ)) (before now : ℕ) (e : ImageError) → ls ≡ layers → AreListed ls before now (Err e) → now ≤ before + length (distinct layers)
+listed_within layers ls before now e l h = subst (λ xs. now ≤ before + length (distinct xs)) l (listed_of ls before now e h)

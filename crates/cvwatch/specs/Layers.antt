@@ -1,11 +1,14 @@
 -- The layers that the tests scan (cvwatch's own), as plain data.
 use Rattle.std.specs.Prelude.{ℕ, ◌==◌, if◌then◌else◌, List, [], ◌∷◌, codes, Option, Some, None}
+use Rattle.std.specs.List.{list_all}
 use Rattle.cv_base.specs.declared.tree.Kind.TheVariants as kind
 use Rattle.cv_desk.specs.Row.{Row}
 
+-- a folder
 abbrev pub dir : List ℕ → Row
 dir path = record { path = path; kind = kind.Dir; bytes = [] }
 
+-- a file with these bytes
 abbrev pub file : List ℕ → List ℕ → Row
 file path bytes = record { path = path; kind = kind.File; bytes = bytes }
 
@@ -13,10 +16,11 @@ file path bytes = record { path = path; kind = kind.File; bytes = bytes }
 abbrev pub with_dpkg : List Row → List Row
 with_dpkg files = dir (codes "var") ∷ dir (codes "var/lib") ∷ dir (codes "var/lib/dpkg") ∷ files
 
--- the status file with these bytes, and the mark that takes it away
+-- the status file with these bytes
 abbrev pub status_file : List ℕ → Row
 status_file bytes = file (codes "var/lib/dpkg/status") bytes
 
+-- the mark that takes the status file away
 abbrev pub no_status : Row
 no_status = file (codes "var/lib/dpkg/.wh.status") []
 
@@ -27,29 +31,34 @@ debian bytes =
     ∷ dir (codes "usr") ∷ dir (codes "usr/lib") ∷ file (codes "usr/lib/os-release") (codes "ID=debian\nVERSION_ID=\"12\"\n")
     ∷ with_dpkg (status_file bytes ∷ [])
 
--- below the fixed version, at it, a short version, and another package
+-- a status file with a package below its fixed version
 abbrev pub old_status : List ℕ
 old_status = codes "Package: libssl3\nStatus: install ok installed\nArchitecture: amd64\nSource: openssl (3.0.9-1)\nVersion: 3.0.9-1+b1\n"
 
+-- at the fixed version
 abbrev pub fixed_status : List ℕ
 fixed_status = codes "Package: libssl3\nStatus: install ok installed\nArchitecture: amd64\nSource: openssl (3.0.11-1)\nVersion: 3.0.11-1\n"
 
+-- with a version of one digit
 abbrev pub short_status : List ℕ
 short_status = codes "Package: libssl3\nStatus: install ok installed\nArchitecture: amd64\nSource: openssl (9)\nVersion: 9\n"
 
+-- with another package
 abbrev pub other_status : List ℕ
 other_status = codes "Package: zlib1g\nStatus: install ok installed\nArchitecture: amd64\nSource: zlib\nVersion: 1:1.2.13.dfsg-1\n"
 
--- two npm packages, the mark that takes all below one of their folders away, and a file in the place of a folder
+-- the files of a layer below the modules of one program
 abbrev pub in_app : List Row → List Row
 in_app rows = dir (codes "app") ∷ dir (codes "app/node_modules") ∷ rows
 
+-- two npm packages
 abbrev pub modules : List Row
 modules =
     in_app (dir (codes "app/node_modules/x") ∷ file (codes "app/node_modules/x/package.json") (codes "{\"name\":\"x\",\"version\":\"1.0.0\"}")
     ∷ dir (codes "srv") ∷ dir (codes "srv/node_modules") ∷ dir (codes "srv/node_modules/y")
     ∷ file (codes "srv/node_modules/y/package.json") (codes "{\"name\":\"y\",\"version\":\"1.0.0\"}") ∷ [])
 
+-- the mark that takes all below one of their folders away
 abbrev pub opaque : List Row
 opaque = in_app (file (codes "app/node_modules/.wh..wh..opq") [] ∷ [])
 
@@ -64,7 +73,7 @@ alpine =
 abbrev pub broken : List Row
 broken = with_dpkg (status_file (codes "Package: a\nStatus: install ok installed\nnocolon\n") ∷ [])
 
--- the rows of a digest, by its first byte
+-- the rows of the digest whose bytes are all this one, if it has a layer
 abbrev pub rows_by : ℕ → Option (List Row)
 rows_by byte =
     if byte == 170 then Some (debian old_status)
@@ -80,6 +89,7 @@ rows_by byte =
     else (if byte == 119 then Some (debian short_status)
     else None))))))))))
 
+-- the rows of a digest: one with two different bytes has no layer
 abbrev pub rows_of : List ℕ → Option (List Row)
 rows_of [] = None
-rows_of (byte ∷ bytes) = rows_by byte
+rows_of (byte ∷ bytes) = if list_all (λ other. other == byte) (byte ∷ bytes) then rows_by byte else None

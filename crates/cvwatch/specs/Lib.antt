@@ -4,3 +4,4 @@ pub mod Order
 pub mod Outcome
 pub mod Printed
 pub mod Run
+pub mod World

@@ -39,6 +39,7 @@ compared_status (Ordered order) = status.Done
 compared_status NotFirst = status.Refused
 compared_status NotSecond = status.Refused
 
+-- the line with its status
 abbrev pub compared_printed : Compared → Printed
 compared_printed compared = record { text = compared_text compared; ended = compared_status compared }
 

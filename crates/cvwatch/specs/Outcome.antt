@@ -1,15 +1,16 @@
 -- What comes of the scan of an image (cvwatch's own), and the line that tells it.
-use Rattle.std.specs.Prelude.{◌≡◌, ℕ, ◌+◌, List, [], ◌∷◌, codes, length, string_bytes, Option, Ok, Err, IfSome}
+use Rattle.std.specs.Prelude.{◌≡◌, ℕ, ◌+◌, List, [], ◌∷◌, codes, length, string_bytes, Ok, Err, IfSome}
 use Rattle.cv_base.specs.declared.advisory.Advisory.{Advisory}
 use Rattle.cv_base.specs.declared.manifest.Manifest.{Manifest}
-use Rattle.cv_desk.specs.Stored.{Stored}
 use Rattle.cv_scan.specs.Layers.{IsFailed, distinct, stored_layers, whole_layers}
 use Rattle.cv_scan.specs.Scan.{Scanned, scan}
 use Rattle.cv_scan.specs.declared.error.ImageError.{ImageError}
 use Rattle.cv_scan.specs.declared.error.ImageError.TheVariants as error
 use Rattle.cv_transcript.specs.Bad.{bad_image_text}
 use Rattle.cv_transcript.specs.Scan.{desk_fault_text, good_text}
+use Rattle.cv_seq.specs.Cause.{Rose}
 use Rattle.cvwatch.specs.Printed.{Printed}
+use Rattle.cvwatch.specs.World.{Counts, Trees}
 use Rattle.cvwatch.specs.declared.scanning.Answer.{Answer}
 use Rattle.cvwatch.specs.declared.status.Status.TheVariants as status
 
@@ -33,17 +34,19 @@ abbrev pub feeds_of : List Advisory → List (List ℕ × List Advisory)
 feeds_of records = (codes "scan", records) ∷ []
 
 -- what came of an image with these records, by the trees that the desk's type names, where it names those of all layers,
--- and by how often layers were listed: each distinct one once, or up to the one that the desk failed at
-abbrev pub HasOutcome : (List ℕ → Option (Option (List Stored))) → Manifest → List Advisory → ℕ → ℕ → Outcome → Type 0
-HasOutcome trees manifest records listed listed_now (Told scanned) =
+-- and by what the desk counted: each distinct layer was listed once, or they were listed up to the one at which a fault was
+-- counted
+abbrev pub HasOutcome : Trees → Manifest → List Advisory → Counts → Counts → Outcome → Type 0
+HasOutcome trees manifest records before now (Told scanned) =
     IfSome (stored_layers trees manifest.layers) (λ stored. scan (whole_layers stored) (feeds_of records) ≡ scanned)
-    × (listed_now ≡ listed + length (distinct manifest.layers))
-HasOutcome trees manifest records listed listed_now (Failed layer) = IsFailed (distinct manifest.layers) listed listed_now layer
+    × (now.listings ≡ before.listings + length (distinct manifest.layers))
+HasOutcome trees manifest records before now (Failed layer) =
+    IsFailed (distinct manifest.layers) before.listings now.listings layer × Rose before.faults now.faults
 
 -- a line tells what came of an image
-abbrev pub TellsOutcome : (List ℕ → Option (Option (List Stored))) → Manifest → List Advisory → ℕ → ℕ → Printed → Type 0
-TellsOutcome trees manifest records listed listed_now printed =
-    (outcome : Outcome) × HasOutcome trees manifest records listed listed_now outcome × (printed ≡ outcome_printed manifest.hash outcome)
+abbrev pub TellsOutcome : Trees → Manifest → List Advisory → Counts → Counts → Printed → Type 0
+TellsOutcome trees manifest records before now printed =
+    (outcome : Outcome) × HasOutcome trees manifest records before now outcome × (printed ≡ outcome_printed manifest.hash outcome)
 
 -- an answer of the code
 abbrev pub printed_of : Answer → Printed

@@ -3,6 +3,7 @@ ghost use Rattle.std.specs.Io.KnownBytes.{IsAtEnd};
 ghost use Rattle.cv_seq.specs.Cause.{Rose};
 ghost use Rattle.cv_transcript.specs.Refusal.{no_manifest_text, refusal_text};
 ghost use Rattle.cvwatch.specs.Command.{OutcomePrinted, RefusalPrinted, ScanEnds};
+ghost use Rattle.cvwatch.specs.World.{counts_of};
 
 use crate::print::print;
 use crate::scanning::scan_answer;
@@ -23,7 +24,12 @@ pub fn scan_command<S: Source, K: Sink, D: Desk>(
     desk: &mut D,
 ) -> Status
     requires room { D.listings desk.old < 2 ^ 62 }
-    ensures told { ScanEnds D.tree (S.left input.old) (S.left input.new) (D.listings desk.old) (D.listings desk.new) (K.contents output.old) (K.contents output.new) result }
+    ensures told {
+        ScanEnds D.tree
+            (record { left = S.left input.old; written = K.contents output.old; counts = counts_of D.listings D.faults desk.old })
+            (record { left = S.left input.new; written = K.contents output.new; counts = counts_of D.listings D.faults desk.new })
+            result
+    }
     ensures read_fault { result ≡ Status.ReadFault → Rose (S.faults input.old) (S.faults input.new) }
     ensures write_fault { result ≡ Status.WriteFault → Rose (K.faults output.old) (K.faults output.new) }
     ensures desk_fault { result ≡ Status.DeskFault → Rose (D.faults desk.old) (D.faults desk.new) }
@@ -48,7 +54,7 @@ fn print_scan<K: Sink, D: Desk>(
 ) -> Status
     requires room { D.listings desk.old < 2 ^ 62 }
     requires few { length asked.now.manifest.layers ≤ 128 }
-    ensures told { OutcomePrinted D.tree asked.now.manifest asked.now.records (D.listings desk.old) (D.listings desk.new) (K.contents output.old) (K.contents output.new) result }
+    ensures told { OutcomePrinted D.tree asked.now.manifest asked.now.records (counts_of D.listings D.faults desk.old) (counts_of D.listings D.faults desk.new) (K.contents output.old) (K.contents output.new) result }
     ensures write_fault { result ≡ Status.WriteFault → Rose (K.faults output.old) (K.faults output.new) }
     ensures desk_fault { result ≡ Status.DeskFault → Rose (D.faults desk.old) (D.faults desk.new) }
 {

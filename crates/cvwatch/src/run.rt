@@ -1,7 +1,8 @@
 ghost use Rattle.std.specs.Prelude.{◌≡◌, ◌^◌, ◌<◌, ◌≤◌, length, map, string_bytes, All};
 ghost use Rattle.cv_seq.specs.Cause.{Rose};
 ghost use Rattle.cvwatch.specs.Printed.{IsPrinted};
-ghost use Rattle.cvwatch.specs.Run.{FirstRose, RunEnds, printed_of};
+ghost use Rattle.cvwatch.specs.Run.{FirstRose, RunEnds, words_printed};
+ghost use Rattle.cvwatch.specs.World.{counts_of};
 
 use crate::command::scan_command;
 use crate::order::order_command;
@@ -22,7 +23,12 @@ pub fn run<S: Source, K: Sink, D: Desk>(
     requires some { 1 ≤ length desks.old.items }
     requires few { length desks.old.items ≤ 8 }
     requires room { All (λ desk. D.listings desk < 2 ^ 62) desks.old.items }
-    ensures told { RunEnds D.tree D.listings (map (λ word. string_bytes word) words.now) (S.left input.old) (S.left input.new) desks.old.items desks.new.items (K.contents output.old) (K.contents output.new) result }
+    ensures told {
+        RunEnds D.tree (counts_of D.listings D.faults) (map (λ word. string_bytes word) words.now)
+            (record { left = S.left input.old; written = K.contents output.old; desks = desks.old.items })
+            (record { left = S.left input.new; written = K.contents output.new; desks = desks.new.items })
+            result
+    }
     ensures read_fault { result ≡ Status.ReadFault → Rose (S.faults input.old) (S.faults input.new) }
     ensures write_fault { result ≡ Status.WriteFault → Rose (K.faults output.old) (K.faults output.new) }
     ensures desk_fault { result ≡ Status.DeskFault → FirstRose D.faults desks.old.items desks.new.items }
@@ -38,7 +44,7 @@ pub fn run<S: Source, K: Sink, D: Desk>(
 
 /// Runs a command that reads no input. Words that are no command print the line of use.
 fn print_command<K: Sink>(alloc: Global, words: &[String], output: &mut K) -> Status
-    ensures told { IsPrinted (printed_of (map (λ word. string_bytes word) words.now)) (K.contents output.old) (K.contents output.new) result }
+    ensures told { IsPrinted (words_printed (map (λ word. string_bytes word) words.now)) (K.contents output.old) (K.contents output.new) result }
     ensures write_fault { result ≡ Status.WriteFault → Rose (K.faults output.old) (K.faults output.new) }
 {
     match words {

@@ -1,7 +1,9 @@
-ghost use Rattle.std.specs.Prelude.{◌≡◌, ◌^◌, ◌<◌, ◌≤◌, true, length, IfOk};
+ghost use Rattle.std.specs.Prelude.{◌≡◌, ◌+◌, ◌^◌, ◌<◌, ◌≤◌, true, length, IfOk};
 ghost use Rattle.cv_seq.specs.Cause.{Rose};
+ghost use Rattle.cv_scan.specs.Layers.{distinct};
 ghost use Rattle.cvwatch.specs.Outcome.{TellsError, TellsOutcome, printed_of};
 ghost use Rattle.cvwatch.specs.Printed.{is_end};
+ghost use Rattle.cvwatch.specs.World.{counts_of};
 
 use crate::status::Status;
 use cv_base::{Digest, NoMemory, Text};
@@ -26,7 +28,8 @@ pub fn scan_answer<D: Desk>(
 ) -> Result<Answer, NoMemory>
     requires room { D.listings desk.old < 2 ^ 62 }
     requires few { length asked.now.manifest.layers ≤ 128 }
-    ensures told { IfOk result (λ answer. TellsOutcome D.tree asked.now.manifest asked.now.records (D.listings desk.old) (D.listings desk.new) (printed_of answer)) }
+    ensures told { IfOk result (λ answer. TellsOutcome D.tree asked.now.manifest asked.now.records (counts_of D.listings D.faults desk.old) (counts_of D.listings D.faults desk.new) (printed_of answer)) }
+    ensures listed { D.listings desk.new ≤ D.listings desk.old + length (distinct asked.now.manifest.layers) }
     ensures end { IfOk result (λ answer. is_end answer.ended ≡ true) }
     ensures cause { IfOk result (λ answer. answer.ended ≡ Status.DeskFault → Rose (D.faults desk.old) (D.faults desk.new)) }
 {

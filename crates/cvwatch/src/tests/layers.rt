@@ -242,14 +242,18 @@ static MARKED: [TableEntry; 1] = [TableEntry {
     bytes: b"",
 }];
 
-/// Layers by the first byte of their digests.
+/// Layers by the one byte that their digests repeat. No other digest has a layer.
 pub struct Layers;
 
 impl Table for Layers {
     ghost rows = { rows_of };
 
     fn layer(digest: &Digest) -> Option<&'static [TableEntry]> {
-        let [byte, ..] = digest.bytes();
+        let bytes = digest.bytes();
+        let [byte, ..] = bytes;
+        if !bytes.iter().all(|&other| other == byte) {
+            return None;
+        }
         match byte {
             0xaa => Some(&OLD),
             0xbb => Some(&WITHOUT),

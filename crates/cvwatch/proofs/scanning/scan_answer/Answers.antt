@@ -12,4 +12,4 @@ returns-in-Ok-clause-told g c =
 pub returns-clause-told : goal.returns-clause-told
 returns-clause-told g c =
     answer_tells g.D.Desk.tree c.args.asked.now.manifest c.args.asked.now.records c.as_slice.result.now c.as_slice-layers.result.now _ _ c.in_ok-feed.feed c.in-Err.error c.error_answer.result
-    c.as_slice-layers.ensures c.as_slice.ensures c.in_ok-feed.ensures c.in-Err.ensures.told c.in-Err.ensures.listed c.error_answer.ensures.told
+    c.as_slice-layers.ensures c.as_slice.ensures c.in_ok-feed.ensures c.in-Err.ensures.told c.in-Err.ensures.listed c.in-Err.ensures.cause c.error_answer.ensures.told

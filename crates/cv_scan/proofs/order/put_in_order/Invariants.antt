@@ -2,7 +2,7 @@ use Rattle.std.proofs.Common.{◌≡◌, length}
 use Rattle.cv_base.specs.InOrder.{in_order}
 use Rattle.cv_match.specs.Findings.{finding_cmp}
 use Rattle.cv_scan.proofs.Ordered.{findings_in, put_all}
-use Rattle.cv_scan.proofs.order.in_order.Given as goal
+use Rattle.cv_scan.proofs.order.put_in_order.Given as goal
 
 -- those that are left, put among those that were taken, are all in order
 abbrev pub invariant-loop-finding : goal.invariant-loop-finding
