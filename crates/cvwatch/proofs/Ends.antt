@@ -9,10 +9,10 @@ use Rattle.cv_base.specs.declared.manifest.Manifest.{Manifest}
 use Rattle.cv_request.specs.Line.{is_request_memory}
 use Rattle.cv_request.specs.declared.error.RequestError.{RequestError}
 use Rattle.cv_scan_input.specs.Answer.{IsRefusedBy, refuses_memory}
-use Rattle.cv_scan_input.specs.Asked.{Asked, NoLine, RefusedAt, Scan, asked_by, input_of}
+use Rattle.cv_scan_input.specs.Asked.{Asked, RefusedAt, Scan, asked_by, input_of}
 use Rattle.cv_scan_input.specs.declared.error.InputError.{InputError}
 use Rattle.cv_scan_input.specs.declared.error.InputError.TheVariants as input
-use Rattle.cv_transcript.specs.Refusal.{no_manifest_text, refusal_text}
+use Rattle.cv_transcript.specs.Refusal.{refusal_text}
 use Rattle.cvwatch.specs.Command.{AnswersAsked, IsAnswered, IsAskedBy, IsCutShort, IsIdle, OutcomePrinted, RefusalPrinted, ScanEnds}
 use Rattle.cvwatch.specs.Outcome.{Outcome, Told, Failed, TellsOutcome, outcome_printed}
 use Rattle.cvwatch.specs.Order.{compared_as, compared_status, kind_of, order_of, order_printed}
@@ -85,12 +85,6 @@ module _ (trees : Trees) (before now : World) where
   scan_ends manifest records ended h at (inl ((e, p), listed)) = memory_ends ended e (inr (inl (manifest, records, h, at, p, listed)))
   scan_ends manifest records ended h at (inr (printed, tells, p)) =
       printed_ends (Scan manifest records) printed ended h (at, tells) (tells_end manifest records printed tells) p
-
-  -- the input has no line
-  pub no_line_ends : (ended : Status) → IsAskedBy before.left NoLine → IsAtEnd now.left → now.counts ≡ before.counts → RefusalPrinted no_manifest_text before.written now.written ended
-      → ScanEnds trees before now ended
-  no_line_ends ended h at unasked (inl (e, p)) = memory_ends ended e (inl (p, unasked))
-  no_line_ends ended h at unasked (inr p) = printed_ends NoLine (record { text = no_manifest_text; ended = status.Refused }) ended h (at, unasked, refl) refl p
 
   -- a line of the input is refused
   pub refused_ends : (number : ℕ) (error : RequestError) (ended : Status) → IsAskedBy before.left (RefusedAt number error) → is_request_memory error ≡ false → now.counts ≡ before.counts

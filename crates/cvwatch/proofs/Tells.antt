@@ -1,6 +1,5 @@
 -- A line tells what came of an image.
-use Rattle.std.proofs.Common.{◌≡◌, ℕ, ◌+◌, ◌≤◌, List, [], ◌∷◌, length, codes, ◌∙◌, ap, subst, arith}
-use Rattle.std.proofs.lemmas.Option.{slice_get_within}
+use Rattle.std.proofs.Common.{◌≡◌, ℕ, ◌+◌, List, [], ◌∷◌, length, codes, ◌∙◌, ap, subst}
 use Rattle.std.specs.Prelude.{IfOk, IfSome, Result, Ok, Err}
 use Rattle.cv_base.specs.declared.advisory.Advisory.{Advisory}
 use Rattle.cv_base.specs.declared.finding.Finding.{Finding}
@@ -56,12 +55,3 @@ pub answer_tells : (trees : Trees) (manifest : Manifest) (records rs : List Advi
     → IfOk answer (λ a. TellsError manifest.hash e (printed_of a)) → IfOk answer (λ a. TellsOutcome trees manifest records before now (printed_of a))
 answer_tells trees manifest records rs layers before now feed e (Ok a) l r f told counted cause line = tells_error trees manifest records rs layers before now feed e (printed_of a) l r f told counted cause line
 answer_tells trees manifest records rs layers before now feed e (Err m) l r f told counted cause line = tt
-
-listed_of : (layers : List (List ℕ)) (before now : ℕ) (e : ImageError) → AreListed layers before now (Err e) → now ≤ before + length (distinct layers)
-listed_of layers before now (error.Bad bad) counted = omega (arith, counted)
-listed_of layers before now (error.Desk layer) (k, counted, at) = omega (arith, counted, slice_get_within (distinct layers) k layer at)
-listed_of layers before now error.NoMemory within = within
-
--- each distinct layer is listed at most once
-pub listed_within : (layers ls : List (List ℕ)) (before now : ℕ) (e : ImageError) → ls ≡ layers → AreListed ls before now (Err e) → now ≤ before + length (distinct layers)
-listed_within layers ls before now e l h = subst (λ xs. now ≤ before + length (distinct xs)) l (listed_of ls before now e h)

@@ -1,3 +1,4 @@
+use Rattle.std.proofs.Common.{refl}
 use Rattle.cvwatch.proofs.Ends.{refused_asked, refused_ends, refused_named, scan_ends}
 use Rattle.cvwatch.proofs.command.scan_command.Goals as goal
 
