@@ -24,12 +24,10 @@ pub fn scan_command<S: Source, K: Sink, D: Desk>(
     desk: &mut D,
 ) -> Status
     requires room { D.listings desk.old < 2 ^ 62 }
-    ensures told {
-        ScanEnds D.tree
-            (record { left = S.left input.old; written = K.contents output.old; counts = counts_of D.listings D.faults desk.old })
-            (record { left = S.left input.new; written = K.contents output.new; counts = counts_of D.listings D.faults desk.new })
-            result
-    }
+    ensures told { ScanEnds D.tree
+        (record { left = S.left input.old; written = K.contents output.old; counts = counts_of D.listings D.faults desk.old })
+        (record { left = S.left input.new; written = K.contents output.new; counts = counts_of D.listings D.faults desk.new })
+        result }
     ensures read_fault { result ≡ Status.ReadFault → Rose (S.faults input.old) (S.faults input.new) }
     ensures write_fault { result ≡ Status.WriteFault → Rose (K.faults output.old) (K.faults output.new) }
     ensures desk_fault { result ≡ Status.DeskFault → Rose (D.faults desk.old) (D.faults desk.new) }
