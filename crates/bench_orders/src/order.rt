@@ -17,6 +17,7 @@ impl VersionOrder {
         }
     }
 
+    /// How two versions compare by it.
     pub fn compare(self, left: &[u8], right: &[u8]) -> Ordering {
         match self {
             VersionOrder::Debian => cv_debver::compare(left, right),

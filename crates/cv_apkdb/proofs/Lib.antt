@@ -1,4 +1,2 @@
-pub mod Cuts
 mod Examples
-pub mod Printing
 pub mod Told

@@ -1,18 +1,21 @@
 -- That reading line by line, package by package, tells what the definition says of the whole file.
-use Rattle.std.proofs.Common.{◌≡◌, ℕ, ◌+◌, Bool, true, false, cond, if◌then◌else◌, List, [], ◌∷◌, ◌++◌, Option, None, Some, Result, Ok, Err, refl, sym, ap, ◌∙◌, append_assoc, append-nil}
+use Rattle.std.proofs.Common.{◌≡◌, ℕ, ◌+◌, Bool, true, false, if◌then◌else◌, List, [], ◌∷◌, ◌++◌, Option, None, Some, Result, Ok, Err, refl, sym, ap, ◌∙◌, append_assoc, append-nil}
 use Rattle.std.specs.List.{flat_map, onto_first, slice_split}
 use Rattle.std.specs.Option.{is_some, option_map_or, option_or}
 use Rattle.cv_base.specs.Answer.{Gives}
+use Rattle.cv_base.specs.Cuts.{is_lf, split_left}
+use Rattle.cv_base.specs.Lines.{Line, answer, as_read, at, bad, given, is_gap, last_number, line_faults, numbered}
 use Rattle.cv_base.specs.Reading.{is_read_memory}
+use Rattle.cv_base.specs.Results.{◌>>=◌}
 use Rattle.cv_base.specs.declared.fault.FileBad.{FileBad}
 use Rattle.cv_base.specs.declared.fault.ReadBad.{ReadBad}
 use Rattle.cv_base.specs.declared.fault.ReadBad.TheVariants.{Bad, NoMemory}
 use Rattle.cv_base.specs.declared.fault.What.{What}
-use Rattle.cv_base.specs.declared.fault.What.TheVariants.{NoColon, Repeated}
-use Rattle.cv_apkdb.specs.Installed.{answer, at, end_faults, entry_fault, faults, installed, last_number, line_fault, line_faults, packages, value_fault, whole_fault}
-use Rattle.cv_apkdb.specs.Lines.{Line, is_gap, is_lf, numbered}
+use Rattle.cv_base.specs.declared.fault.What.TheVariants.{Repeated}
+use Rattle.cv_base.proofs.Lines.{first_fault, glue, glue_first, glue_none, last_snoc, or_assoc, or_none}
+use Rattle.cv_apkdb.specs.Installed.{end_faults, entry_fault, faults, installed, line_fault, packages, value_fault, whole_fault}
 use Rattle.cv_apkdb.specs.Package.{Entry, Facts, entry_of, facts, join, nothing, tells, told_by, value_in}
-use Rattle.cv_apkdb.specs.Reader.{State, and_then, as_read, bad, close, end_step, entry_by, line_step, lines_left, opening, state_step, told, told_with, value_by}
+use Rattle.cv_apkdb.specs.Reader.{State, close, entry_by, line_step, opening, state_step, told, told_with, value_by}
 use Rattle.cv_apkdb.specs.declared.letter.Letter.{Letter}
 use Rattle.cv_apkdb.specs.declared.package.ApkPackage.{ApkPackage}
 
@@ -21,14 +24,6 @@ abbrev pub state_of : List Line → State
 state_of p = record { told = facts p; last = last_number p }
 
 -- One more line.
-
-or_assoc : {A : Type 0} (a b c : Option A) → option_or (option_or a b) c ≡ option_or a (option_or b c)
-or_assoc None b c = refl
-or_assoc (Some x) b c = refl
-
-or_none : {A : Type 0} (a : Option A) → option_or a None ≡ a
-or_none None = refl
-or_none (Some x) = refl
 
 join_assoc : (a b c : Facts) → join (join a b) c ≡ join a (join b c)
 join_assoc a b c = λ i. record {
@@ -45,10 +40,6 @@ facts_snoc : (p : List Line) (l : Line) → facts (p ++ l ∷ []) ≡ join (told
 facts_snoc [] l = sym (join_nothing (told_by l.text))
 facts_snoc (x ∷ p) l = ap (λ f. join f (told_by x.text)) (facts_snoc p l) ∙ join_assoc (told_by l.text) (facts p) (told_by x.text)
 
-last_snoc : (p : List Line) (l : Line) → last_number (p ++ l ∷ []) ≡ Some l.number
-last_snoc [] l = refl
-last_snoc (x ∷ p) l = ap (λ o. option_or o (Some x.number)) (last_snoc p l)
-
 -- what is told after an entry
 abbrev after : Facts → Option Entry → Facts
 after f e = join (option_map_or (λ e. tells e.letter e.value) e nothing) f
@@ -57,11 +48,6 @@ state_snoc : (p : List Line) (l : Line) → state_of (p ++ l ∷ []) ≡ record 
 state_snoc p l = λ i. record { told = facts_snoc p l i; last = last_snoc p l i }
 
 -- The fault of a line.
-
--- a fault, or the state
-abbrev pub given : ℕ → Option What → State → Result State ReadBad
-given n None k = Ok k
-given n (Some w) k = bad n w
 
 value_given : (n : ℕ) (c : Letter) (f : Facts) (w : Option What) (v : List ℕ) → state_step n (told_with c f (value_by w v)) ≡ given n w (record { told = join (tells c v) f; last = Some n })
 value_given n c f None v = refl
@@ -81,100 +67,72 @@ line_given p l = entry_given l.number (facts p) (entry_of l.text) ∙ ap (given 
 
 -- The faults of a package.
 
-faults_snoc : (b p : List Line) (l : Line) (h : List Line) → line_faults b (p ++ l ∷ h) ≡ line_faults b p ++ (at l.number (line_fault (b ++ p) l.text) ++ line_faults ((b ++ p) ++ l ∷ []) h)
-faults_snoc b [] l h = ap (λ q. at l.number (line_fault q l.text) ++ line_faults (q ++ l ∷ []) h) (sym (append-nil b))
-faults_snoc b (x ∷ p) l h =
-    ap (λ r. at x.number (line_fault b x.text) ++ r)
-    (faults_snoc (b ++ x ∷ []) p l h ∙ ap (λ q. line_faults (b ++ x ∷ []) p ++ (at l.number (line_fault q l.text) ++ line_faults (q ++ l ∷ []) h)) (append_assoc b (x ∷ []) p))
-    ∙ sym (append_assoc (at x.number (line_fault b x.text)) (line_faults (b ++ x ∷ []) p) (at l.number (line_fault (b ++ x ∷ p) l.text) ++ line_faults ((b ++ x ∷ p) ++ l ∷ []) h))
-
--- lines without a fault, and then one
-first_fault : (p : List Line) (l : Line) (h : List Line) → line_faults [] p ≡ [] → line_faults [] (p ++ l ∷ h) ≡ at l.number (line_fault p l.text) ++ line_faults (p ++ l ∷ []) h
-first_fault p l h e = faults_snoc [] p l h ∙ ap (λ r. r ++ (at l.number (line_fault p l.text) ++ line_faults (p ++ l ∷ []) h)) e
-
 -- the answer, where these packages are left
 abbrev pub answer_all : List ApkPackage → List (List Line) → Result (List ApkPackage) ReadBad
 answer_all found ps = as_read (answer (flat_map faults ps) (found ++ flat_map packages ps))
 
 -- the end of a package
 ended_by : (n : ℕ) (w : Option What) (found made : List ApkPackage) (fs : List FileBad) (rest : List ApkPackage)
-    → as_read (answer (at n w ++ fs) (found ++ (made ++ rest))) ≡ and_then (end_step n w (found ++ made)) (λ o. as_read (answer fs (o ++ rest)))
+    → as_read (answer (at n w ++ fs) (found ++ (made ++ rest))) ≡ (given n w (found ++ made) >>= λ o. as_read (answer fs (o ++ rest)))
 ended_by n None found made fs rest = ap (λ r. as_read (answer fs r)) (sym (append_assoc found made rest))
 ended_by n (Some w) found made fs rest = refl
 
 ended : (o : Option ℕ) (n : ℕ) (w : Option What) (found made : List ApkPackage) (fs : List FileBad) (rest : List ApkPackage)
     → as_read (answer (option_map_or (λ m. at m w) (option_or o (Some n)) [] ++ fs) (found ++ (made ++ rest)))
-    ≡ and_then (option_map_or (λ m. end_step m w (found ++ made)) (option_or o (Some n)) (Ok found)) (λ o. as_read (answer fs (o ++ rest)))
+    ≡ (option_map_or (λ m. given m w (found ++ made)) (option_or o (Some n)) (Ok found) >>= λ o. as_read (answer fs (o ++ rest)))
 ended None n w found made fs rest = ended_by n w found made fs rest
 ended (Some m) n w found made fs rest = ended_by m w found made fs rest
 
 closed : (found : List ApkPackage) (p : List Line) (ps : List (List Line)) → as_read (answer (end_faults p ++ flat_map faults ps) (found ++ (packages p ++ flat_map packages ps)))
-    ≡ and_then (close (state_of p) found) (λ o. answer_all o ps)
+    ≡ (close (state_of p) found >>= λ o. answer_all o ps)
 closed found [] ps = refl
 closed found (l ∷ ls) ps = ended (last_number ls) l.number (whole_fault (facts (l ∷ ls))) found (packages (l ∷ ls)) (flat_map faults ps) (flat_map packages ps)
 
-answer_cons : (found : List ApkPackage) (p : List Line) (ps : List (List Line)) → line_faults [] p ≡ [] → answer_all found (p ∷ ps) ≡ and_then (close (state_of p) found) (λ o. answer_all o ps)
+answer_cons : (found : List ApkPackage) (p : List Line) (ps : List (List Line)) → line_faults line_fault [] p ≡ [] → answer_all found (p ∷ ps) ≡ (close (state_of p) found >>= λ o. answer_all o ps)
 answer_cons found p ps e = ap (λ r. as_read (answer ((r ++ end_faults p) ++ flat_map faults ps) (found ++ (packages p ++ flat_map packages ps)))) e ∙ closed found p ps
 
 -- a line with a fault
-faulty : (found : List ApkPackage) (p : List Line) (l : Line) (h : List Line) (ps : List (List Line)) (w : What) → line_faults [] p ≡ [] → line_fault p l.text ≡ Some w
+faulty : (found : List ApkPackage) (p : List Line) (l : Line) (h : List Line) (ps : List (List Line)) (w : What) → line_faults line_fault [] p ≡ [] → line_fault p l.text ≡ Some w
     → answer_all found ((p ++ l ∷ h) ∷ ps) ≡ bad l.number w
 faulty found p l h ps w e f =
     ap (λ r. as_read (answer ((r ++ end_faults (p ++ l ∷ h)) ++ flat_map faults ps) (found ++ (packages (p ++ l ∷ h) ++ flat_map packages ps))))
-    (first_fault p l h e ∙ ap (λ o. at l.number o ++ line_faults (p ++ l ∷ []) h) f)
+    (first_fault line_fault p l h e ∙ ap (λ o. at l.number o ++ line_faults line_fault (p ++ l ∷ []) h) f)
 
 -- The whole file.
 
--- the lines so far go before those of the first package
-abbrev pub glue : List Line → List (List Line) → List (List Line)
-glue p [] = p ∷ []
-glue p (h ∷ t) = (p ++ h) ∷ t
-
-glue_none : (ls : List Line) → glue [] (slice_split is_gap ls) ≡ slice_split is_gap ls
-glue_none [] = refl
-glue_none (l ∷ ls) = by (is_gap l) (slice_split is_gap ls) where
-  by : (b : Bool) (r : List (List Line)) → glue [] (cond b ([] ∷ r) (onto_first l r)) ≡ cond b ([] ∷ r) (onto_first l r)
-  by true r = refl
-  by false [] = refl
-  by false (h ∷ t) = refl
-
-glue_first : (p : List Line) (l : Line) (r : List (List Line)) → glue (p ++ l ∷ []) r ≡ glue p (onto_first l r)
-glue_first p l [] = refl
-glue_first p l (h ∷ t) = ap (λ q. q ∷ t) (append_assoc p (l ∷ []) h)
-
 -- the lines of a package go on with this one
-faulty_first : (found : List ApkPackage) (p : List Line) (l : Line) (r : List (List Line)) (w : What) → line_faults [] p ≡ [] → line_fault p l.text ≡ Some w
+faulty_first : (found : List ApkPackage) (p : List Line) (l : Line) (r : List (List Line)) (w : What) → line_faults line_fault [] p ≡ [] → line_fault p l.text ≡ Some w
     → bad l.number w ≡ answer_all found (glue p (onto_first l r))
 faulty_first found p l [] w e f = sym (faulty found p l [] [] w e f)
 faulty_first found p l (h ∷ t) w e f = sym (faulty found p l h t w e f)
 
 -- what is told of the lines that are left, whatever the lines so far
 abbrev Tells : List (List ℕ) → Type 0
-Tells ts = (p : List Line) (n : ℕ) (found : List ApkPackage) → line_faults [] p ≡ [] → told n (state_of p) found ts ≡ answer_all found (glue p (slice_split is_gap (numbered (n + 1) ts)))
+Tells ts = (p : List Line) (n : ℕ) (found : List ApkPackage) → line_faults line_fault [] p ≡ [] → told n (state_of p) found ts ≡ answer_all found (glue p (slice_split is_gap (numbered (n + 1) ts)))
 
 told_none : Tells []
 told_none p n found e = sym (answer_cons found p [] e ∙ last (close (state_of p) found)) ∙ ap (λ q. answer_all found (q ∷ [])) (sym (append-nil p)) where
-  last : (r : Result (List ApkPackage) ReadBad) → and_then r (λ o. answer_all o []) ≡ r
+  last : (r : Result (List ApkPackage) ReadBad) → (r >>= λ o. answer_all o []) ≡ r
   last (Ok o) = ap Ok (append-nil o)
   last (Err bad) = refl
 
 told_gap : (ts : List (List ℕ)) → Tells ts → Tells ([] ∷ ts)
 told_gap ts more p n found e =
-    ap (and_then (close (state_of p) found)) (λ i o. (more [] (n + 1) o refl ∙ ap (answer_all o) (glue_none (numbered (n + 1 + 1) ts))) i)
+    ap (◌>>=◌ (close (state_of p) found)) (λ i o. (more [] (n + 1) o refl ∙ ap (answer_all o) (glue_none (numbered (n + 1 + 1) ts))) i)
     ∙ sym (answer_cons found p (slice_split is_gap (numbered (n + 1 + 1) ts)) e)
     ∙ ap (λ q. answer_all found (q ∷ slice_split is_gap (numbered (n + 1 + 1) ts))) (sym (append-nil p))
 
 told_line : (x : ℕ) (xs : List ℕ) (ts : List (List ℕ)) → Tells ts → Tells ((x ∷ xs) ∷ ts)
 told_line x xs ts more p n found e =
-    ap (λ r. and_then r (λ k. told (n + 1) k found ts)) (line_given p l) ∙ by (line_fault p (x ∷ xs)) refl where
+    ap (λ r. r >>= λ k. told (n + 1) k found ts) (line_given p l) ∙ by (line_fault p (x ∷ xs)) refl where
       l : Line
       l = record { number = n + 1; text = x ∷ xs }
 
       rest : List (List Line)
       rest = slice_split is_gap (numbered (n + 1 + 1) ts)
 
-      by : (w : Option What) → line_fault p (x ∷ xs) ≡ w → and_then (given (n + 1) w (state_of (p ++ l ∷ []))) (λ k. told (n + 1) k found ts) ≡ answer_all found (glue p (onto_first l rest))
-      by None h = more (p ++ l ∷ []) (n + 1) found (first_fault p l [] e ∙ ap (λ o. at (n + 1) o ++ []) h) ∙ ap (answer_all found) (glue_first p l rest)
+      by : (w : Option What) → line_fault p (x ∷ xs) ≡ w → (given (n + 1) w (state_of (p ++ l ∷ [])) >>= λ k. told (n + 1) k found ts) ≡ answer_all found (glue p (onto_first l rest))
+      by None h = more (p ++ l ∷ []) (n + 1) found (first_fault line_fault p l [] e ∙ ap (λ o. at (n + 1) o ++ []) h) ∙ ap (answer_all found) (glue_first p l rest)
       by (Some w) h = faulty_first found p l rest w e h
 
 told_is : (ts : List (List ℕ)) → Tells ts
@@ -183,10 +141,10 @@ told_is ([] ∷ ts) = told_gap ts (told_is ts)
 told_is ((x ∷ xs) ∷ ts) = told_line x xs ts (told_is ts)
 
 -- the reader tells what the definition says
-pub told_installed : (bytes : List ℕ) → told 0 opening [] (lines_left (Some bytes)) ≡ as_read (installed bytes)
+pub told_installed : (bytes : List ℕ) → told 0 opening [] (split_left (Some bytes)) ≡ as_read (installed bytes)
 told_installed bytes = told_is (slice_split is_lf bytes) [] 0 [] refl ∙ ap (answer_all []) (glue_none (numbered 1 (slice_split is_lf bytes)))
 
 -- a step that was refused refuses all
-pub stopped : {A B X : Type 0} (r : Result A ReadBad) (f : A → Result B ReadBad) (v : X → A) (e : ReadBad) → Gives is_read_memory v (Err e) r → Gives is_read_memory (λ (y : B). y) (Err e) (and_then r f)
-stopped r f v (Bad e) h = ap (λ q. and_then q f) h
+pub stopped : {A B X : Type 0} (r : Result A ReadBad) (f : A → Result B ReadBad) (v : X → A) (e : ReadBad) → Gives is_read_memory v (Err e) r → Gives is_read_memory (λ (y : B). y) (Err e) (r >>= f)
+stopped r f v (Bad e) h = ap (λ q. q >>= f) h
 stopped r f v NoMemory h = tt

@@ -1,5 +1,4 @@
 -- What the code holds of a package's lines, seen as the reader's state.
-use Rattle.std.specs.Prelude.{ℕ, ◌+◌, List, length, Option, None, Some}
 use Rattle.std.specs.Option.{option_map}
 use Rattle.cv_apkdb.specs.Package.{Entry, Facts}
 use Rattle.cv_apkdb.specs.Reader.{State}
@@ -23,8 +22,3 @@ facts_view f = record {
 -- the lines of a package so far
 abbrev pub state_view : Block → State
 state_view b = record { told = facts_view b.facts; last = b.last }
-
--- how many bytes and ends are left
-abbrev pub left_len : Option (List ℕ) → ℕ
-left_len None = 0
-left_len (Some bytes) = length bytes + 1

@@ -4,22 +4,20 @@
 -- `installed bytes` takes the bytes of the file. It gives its packages in order, each as an `ApkPackage` (name, version, arch,
 -- origin), or the fault at the least faulty line as a `FileBad` (its number from 1, and what is wrong). It lists all faults of
 -- all packages in the order in which they count, and answers the first; it stops at none.
-use Rattle.std.specs.Prelude.{ℕ, Bool, true, false, ◌&&◌, if◌then◌else◌, not, List, [], ◌∷◌, ◌++◌, Option, None, Some, Result, Ok, Err}
+use Rattle.std.specs.Prelude.{ℕ, ◌&&◌, if◌then◌else◌, not, List, [], ◌++◌, Option, None, Some, Result}
 use Rattle.std.specs.List.{flat_map, list_all}
-use Rattle.std.specs.Option.{is_some, option_map_or, option_or}
+use Rattle.std.specs.Option.{is_some, option_map_or}
+use Rattle.cv_base.specs.Lines.{Line, answer, at, last_number, line_faults, unless}
+use Rattle.cv_base.specs.Printing.{is_printing}
+use Rattle.cv_base.specs.Texts.{is_nil}
 use Rattle.cv_base.specs.declared.fault.FileBad.{FileBad}
 use Rattle.cv_base.specs.declared.fault.What.{What}
 use Rattle.cv_base.specs.declared.fault.What.TheVariants.{NoColon, NoVersion, BadValue, NoName, Repeated}
-use Rattle.cv_apkdb.specs.Lines.{Line, blocks, is_nil}
-use Rattle.cv_apkdb.specs.Package.{Entry, Facts, entry_of, facts, is_printing, package_in, value_in}
+use Rattle.cv_apkdb.specs.Lines.{blocks}
+use Rattle.cv_apkdb.specs.Package.{Entry, Facts, entry_of, facts, package_in, value_in}
 use Rattle.cv_apkdb.specs.declared.letter.Letter.{Letter}
 use Rattle.cv_apkdb.specs.declared.letter.Letter.TheVariants.{Name, Version, Arch, Origin, Unused}
 use Rattle.cv_apkdb.specs.declared.package.ApkPackage.{ApkPackage}
-
--- a fault unless the test holds
-abbrev pub unless : Bool → What → Option What
-unless true w = None
-unless false w = Some w
 
 -- the fault of a value: a used letter has printing bytes, and P and V at least one
 abbrev pub value_fault : Letter → List ℕ → Option What
@@ -38,24 +36,9 @@ entry_fault before (Some e) = if is_some (value_in e.letter before) then Some Re
 abbrev pub line_fault : List Line → List ℕ → Option What
 line_fault before text = entry_fault (facts before) (entry_of text)
 
--- a fault with its line, if there is one
-abbrev pub at : ℕ → Option What → List FileBad
-at n None = []
-at n (Some w) = record { line = n; what = w } ∷ []
-
--- the faults of a package's lines in order
-abbrev pub line_faults : List Line → List Line → List FileBad
-line_faults before [] = []
-line_faults before (l ∷ ls) = at l.number (line_fault before l.text) ++ line_faults (before ++ l ∷ []) ls
-
 -- the fault of a whole package: no name, then no version
 abbrev pub whole_fault : Facts → Option What
 whole_fault f = if not (is_some f.name) then Some NoName else unless (is_some f.version) NoVersion
-
--- the number of the last line
-abbrev pub last_number : List Line → Option ℕ
-last_number [] = None
-last_number (l ∷ ls) = option_or (last_number ls) (Some l.number)
 
 -- the fault of a whole package stands at its last line; no lines are no package
 abbrev pub end_faults : List Line → List FileBad
@@ -63,16 +46,11 @@ end_faults p = option_map_or (λ n. at n (whole_fault (facts p))) (last_number p
 
 -- the faults of a package in the order in which they count
 abbrev pub faults : List Line → List FileBad
-faults p = line_faults [] p ++ end_faults p
+faults p = line_faults line_fault [] p ++ end_faults p
 
 -- the package of these lines
 abbrev pub packages : List Line → List ApkPackage
 packages p = package_in (facts p)
-
--- the first fault of a list, and without one what was found
-abbrev pub answer : List FileBad → List ApkPackage → Result (List ApkPackage) FileBad
-answer [] found = Ok found
-answer (f ∷ fs) found = Err f
 
 -- the packages of an installed database, or its first fault
 abbrev pub installed : List ℕ → Result (List ApkPackage) FileBad

@@ -1,15 +1,12 @@
 -- What the lines of a package tell: cvwatch's own profile, after apk's installed database format (Alpine wiki, "Apk spec",
 -- installed database v2). The letters P (name), V (version), A (architecture) and o (origin) are used, all others passed over.
-use Rattle.std.specs.Prelude.{ℕ, Bool, ◌&&◌, ◌==◌, nat_le, if◌then◌else◌, List, [], ◌∷◌, Option, None, Some, option_and_then, unwrap_or}
+use Rattle.std.specs.Prelude.{ℕ, ◌==◌, if◌then◌else◌, List, [], ◌∷◌, Option, None, Some, option_and_then, unwrap_or}
 use Rattle.std.specs.Option.{option_map_or, option_or}
-use Rattle.cv_apkdb.specs.Lines.{Line}
+use Rattle.cv_base.specs.Lines.{Line}
+use Rattle.cv_base.specs.Texts.{filled}
 use Rattle.cv_apkdb.specs.declared.letter.Letter.{Letter}
 use Rattle.cv_apkdb.specs.declared.letter.Letter.TheVariants.{Name, Version, Arch, Origin, Unused}
 use Rattle.cv_apkdb.specs.declared.package.ApkPackage.{ApkPackage}
-
--- a byte that prints
-abbrev pub is_printing : ℕ → Bool
-is_printing byte = nat_le 33 byte && nat_le byte 126
 
 -- what a letter stands for: P, V, A and o
 abbrev pub letter_of : ℕ → Letter
@@ -74,11 +71,6 @@ value_in Version f = f.version
 value_in Arch f = f.arch
 value_in Origin f = f.origin
 value_in Unused f = None
-
--- a value that is not empty
-abbrev pub filled : List ℕ → Option (List ℕ)
-filled [] = None
-filled (x ∷ xs) = Some (x ∷ xs)
 
 -- a package with its name and version. An absent architecture is the empty text. An absent or empty origin is the name.
 abbrev pub package_of : List ℕ → List ℕ → Facts → ApkPackage

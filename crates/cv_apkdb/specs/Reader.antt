@@ -1,22 +1,16 @@
 -- How an installed database is read in one pass over its lines. It is shown in `proofs/` that this tells what `Installed.antt` says.
-use Rattle.std.specs.Prelude.{ℕ, ◌+◌, Bool, if◌then◌else◌, List, [], ◌∷◌, ◌++◌, Option, None, Some, Result, Ok, Err}
-use Rattle.std.specs.List.{slice_split}
-use Rattle.std.specs.Option.{is_some, option_map, option_map_or}
-use Rattle.cv_base.specs.declared.fault.FileBad.{FileBad}
+use Rattle.std.specs.Prelude.{ℕ, ◌+◌, if◌then◌else◌, List, [], ◌∷◌, ◌++◌, Option, None, Some, Result, Ok, Err}
+use Rattle.std.specs.Option.{is_some, option_map_or}
+use Rattle.cv_base.specs.Lines.{bad, given}
+use Rattle.cv_base.specs.Results.{◌>>=◌}
+use Rattle.cv_base.specs.Texts.{is_nil}
 use Rattle.cv_base.specs.declared.fault.ReadBad.{ReadBad}
-use Rattle.cv_base.specs.declared.fault.ReadBad.TheVariants.{Bad}
 use Rattle.cv_base.specs.declared.fault.What.{What}
 use Rattle.cv_base.specs.declared.fault.What.TheVariants.{NoColon, Repeated}
 use Rattle.cv_apkdb.specs.Installed.{value_fault, whole_fault}
-use Rattle.cv_apkdb.specs.Lines.{is_lf, is_nil}
 use Rattle.cv_apkdb.specs.Package.{Entry, Facts, entry_of, join, nothing, package_in, tells, value_in}
 use Rattle.cv_apkdb.specs.declared.letter.Letter.{Letter}
 use Rattle.cv_apkdb.specs.declared.package.ApkPackage.{ApkPackage}
-
--- what stands before the first byte that passes, and what behind it
-abbrev pub cut : (ℕ → Bool) → List ℕ → Option (List ℕ × List ℕ)
-cut passes [] = None
-cut passes (x ∷ xs) = if passes x then Some ([], xs) else option_map (λ p. (x ∷ p.0, p.1)) (cut passes xs)
 
 -- what is told of the package so far, and the number of its last line
 pub record State : Type 0 where
@@ -26,10 +20,6 @@ pub record State : Type 0 where
 -- before the first line of a package
 abbrev pub opening : State
 opening = record { told = nothing; last = None }
-
--- a fault of a line
-abbrev pub bad : {A : Type 0} → ℕ → What → Result A ReadBad
-bad n w = Err (Bad (record { line = n; what = w }))
 
 -- a value, or its fault
 abbrev pub value_by : Option What → List ℕ → Result (List ℕ) What
@@ -67,33 +57,13 @@ state_step n (Err w) = bad n w
 abbrev pub line_step : State → ℕ → List ℕ → Result State ReadBad
 line_step s n text = state_step n (entry_by s.told (entry_of text))
 
--- the end of a package whose last line has this number
-abbrev pub end_step : ℕ → Option What → List ApkPackage → Result (List ApkPackage) ReadBad
-end_step n None found = Ok found
-end_step n (Some w) found = bad n w
-
 -- the end of a package, if there is one
 abbrev pub close : State → List ApkPackage → Result (List ApkPackage) ReadBad
-close s found = option_map_or (λ n. end_step n (whole_fault s.told) (found ++ package_in s.told)) s.last (Ok found)
-
--- a step and then the next one, unless it is refused
-abbrev pub and_then : {A B : Type 0} → Result A ReadBad → (A → Result B ReadBad) → Result B ReadBad
-and_then (Ok x) f = f x
-and_then (Err e) f = Err e
+close s found = option_map_or (λ n. given n (whole_fault s.told) (found ++ package_in s.told)) s.last (Ok found)
 
 -- the lines that are left, after n lines
 abbrev pub told : ℕ → State → List ApkPackage → List (List ℕ) → Result (List ApkPackage) ReadBad
 told n s found [] = close s found
 told n s found (t ∷ ts) =
-    if is_nil t then and_then (close s found) (λ o. told (n + 1) opening o ts)
-    else and_then (line_step s (n + 1) t) (λ k. told (n + 1) k found ts)
-
--- the lines of what is left of the bytes
-abbrev pub lines_left : Option (List ℕ) → List (List ℕ)
-lines_left None = []
-lines_left (Some bytes) = slice_split is_lf bytes
-
--- the answer of a call that reads
-abbrev pub as_read : {A : Type 0} → Result A FileBad → Result A ReadBad
-as_read (Ok x) = Ok x
-as_read (Err e) = Err (Bad e)
+    if is_nil t then (close s found >>= λ o. told (n + 1) opening o ts)
+    else (line_step s (n + 1) t >>= λ k. told (n + 1) k found ts)

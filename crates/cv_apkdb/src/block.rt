@@ -2,14 +2,13 @@
 ghost use Rattle.std.specs.Prelude.{◌≡◌};
 ghost use Rattle.cv_base.specs.Answer.{Gives};
 ghost use Rattle.cv_base.specs.Reading.{is_read_memory};
-ghost use Rattle.cv_base.specs.declared.fault.ReadBad.TheVariants as reading;
 ghost use Rattle.cv_apkdb.specs.Held.{entry_view, state_view};
 ghost use Rattle.cv_apkdb.specs.Reader.{close, entry_step, line_step, opening, state_step};
 
 use crate::facts::Facts;
 use crate::letter::{Entry, split_entry};
 use crate::package::ApkPackage;
-use cv_base::{FileBad, ReadBad, What};
+use cv_base::{ReadBad, What};
 use std::alloc::Global;
 
 /// The lines of a package as far as they were read.
@@ -36,7 +35,7 @@ impl<'a> Block<'a> {
         ensures { Gives is_read_memory (λ _. state_view self.new) result (line_step (state_view self.old) number line.now) }
     {
         match split_entry(line) {
-            None => Err(bad(number, What::NoColon)),
+            None => Err(ReadBad::at(number, What::NoColon)),
             Some(entry) => self.take_entry(entry, number),
         }
     }
@@ -45,7 +44,7 @@ impl<'a> Block<'a> {
         ensures { Gives is_read_memory (λ _. state_view self.new) result (state_step number (entry_step (state_view self.old).told (entry_view entry.entry))) }
     {
         match self.facts.tell(entry) {
-            Err(what) => Err(bad(number, what)),
+            Err(what) => Err(ReadBad::at(number, what)),
             Ok(()) => {
                 self.last = Some(number);
                 Ok(())
@@ -61,18 +60,11 @@ impl<'a> Block<'a> {
             return Ok(());
         };
         match self.facts.fault() {
-            Some(what) => Err(bad(line, what)),
+            Some(what) => Err(ReadBad::at(line, what)),
             None => match self.facts.push_package(alloc, found) {
                 Ok(()) => Ok(()),
                 Err(_) => Err(ReadBad::NoMemory),
             },
         }
     }
-}
-
-/// A fault of a line.
-fn bad(line: u64, what: What) -> ReadBad
-    ensures { result ≡ reading.Bad (record { line = line; what = what }) }
-{
-    ReadBad::Bad(FileBad { line, what })
 }

@@ -2,16 +2,16 @@
 ghost use Rattle.std.specs.Prelude.{◌≡◌, ◌++◌, IfOk, false, option_and_then, unwrap_or};
 ghost use Rattle.std.specs.Option.{option_map};
 ghost use Rattle.cv_base.specs.Answer.{Gives};
+ghost use Rattle.cv_base.specs.Texts.{filled};
 ghost use Rattle.cv_apkdb.specs.Held.{entry_view, facts_view};
 ghost use Rattle.cv_apkdb.specs.Installed.{whole_fault};
-ghost use Rattle.cv_apkdb.specs.Package.{filled, nothing, package_in, package_of};
+ghost use Rattle.cv_apkdb.specs.Package.{nothing, package_in, package_of};
 ghost use Rattle.cv_apkdb.specs.Reader.{entry_step, letter_step, taken};
 ghost use Rattle.cv_apkdb.specs.declared.letter.Letter.TheVariants as letter;
 
 use crate::letter::{Entry, Letter};
 use crate::package::ApkPackage;
-use crate::text::printing;
-use cv_base::What;
+use cv_base::{What, printing_text};
 use cv_seq::{NoMemory, Text};
 use std::alloc::Global;
 
@@ -151,7 +151,7 @@ fn new_value<'a>(before: Option<&str>, value: &'a [u8]) -> Result<&'a str, What>
     if before.is_some() {
         return Err(What::Repeated);
     }
-    match printing(value) {
+    match printing_text(value) {
         Some(text) => Ok(text),
         None => Err(What::BadValue),
     }

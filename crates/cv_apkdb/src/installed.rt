@@ -1,14 +1,15 @@
 //! A whole database of installed packages.
 ghost use Rattle.std.specs.Prelude.{Some, []};
 ghost use Rattle.cv_base.specs.Answer.{Gives};
+ghost use Rattle.cv_base.specs.Cuts.{split_left};
+ghost use Rattle.cv_base.specs.Lines.{as_read};
 ghost use Rattle.cv_base.specs.Reading.{is_read_memory};
 ghost use Rattle.cv_apkdb.specs.Installed.{installed};
-ghost use Rattle.cv_apkdb.specs.Reader.{as_read, lines_left, opening, told};
+ghost use Rattle.cv_apkdb.specs.Reader.{opening, told};
 
 use crate::block::Block;
 use crate::package::ApkPackage;
-use crate::text::next_line;
-use cv_base::ReadBad;
+use cv_base::{ReadBad, next_line};
 use cv_seq::Seq;
 use std::alloc::Global;
 
@@ -27,7 +28,7 @@ pub fn read_installed(alloc: Global, bytes: &[u8]) -> Result<Seq<ApkPackage>, Re
 
 #[tactic(auto, using(crate::proofs::Told::stopped))]
 fn read_all(alloc: Global, bytes: &[u8]) -> Result<Vec<ApkPackage>, ReadBad>
-    ensures { Gives is_read_memory (λ v. v.items) result (told 0 opening [] (lines_left (Some bytes.now))) }
+    ensures { Gives is_read_memory (λ v. v.items) result (told 0 opening [] (split_left (Some bytes.now))) }
 {
     let mut found = Vec::new(alloc);
     let mut block = Block::new();

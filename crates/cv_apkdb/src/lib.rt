@@ -12,7 +12,6 @@ mod facts;
 mod installed;
 mod letter;
 mod package;
-mod text;
 
 pub use installed::read_installed;
 pub use package::ApkPackage;

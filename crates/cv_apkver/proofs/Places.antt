@@ -4,10 +4,11 @@ use Rattle.std.specs.declared.cmp.Ordering.TheVariants.{Less, Equal, Greater}
 use Rattle.std.specs.Ordering.{ordering_then}
 use Rattle.std.specs.Cmp.Lexicographic.{slice_cmp}
 use Rattle.cv_order.specs.Digits.{front_digits, number_cmp}
+use Rattle.cv_order.specs.Filled.{later}
 use Rattle.cv_apkver.specs.Grammar.{DOT, UNDERSCORE}
 use Rattle.cv_apkver.specs.Order.{digits_of, suffix_cmp, suffix_of, suffixes_cmp}
 use Rattle.cv_apkver.specs.Parts.{before, behind, pieces, pieces_behind}
-use Rattle.cv_apkver.specs.Walk.{first_suffix, later, left_len}
+use Rattle.cv_apkver.specs.Walk.{first_suffix, left_len}
 use Rattle.cv_apkver.proofs.Pieces.{pieces_cut}
 
 -- the first numbers, and then the numbers behind them

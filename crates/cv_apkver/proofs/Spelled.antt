@@ -37,9 +37,6 @@ module _ (test : ℕ → Bool) where
   front-whole : (xs : List ℕ) → list_all test xs ≡ true → front_while test xs ≡ xs
   front-whole xs h = ap (front_while test) (sym (append-nil xs)) ∙ front-append xs [] h ∙ append-nil xs
 
-  after-whole : (xs : List ℕ) → list_all test xs ≡ true → after_while test xs ≡ []
-  after-whole xs h = ap (after_while test) (sym (append-nil xs)) ∙ after-append xs [] h
-
 -- any byte but this one
 abbrev but : ℕ → ℕ → Bool
 but c x = not (x == c)

@@ -7,11 +7,6 @@ abbrev pub first_suffix : List (List ℕ) → Suffix
 first_suffix [] = suffix_end
 first_suffix (part ∷ parts) = suffix_of part
 
--- the pieces behind the first
-abbrev pub later : List (List ℕ) → List (List ℕ)
-later [] = []
-later (part ∷ parts) = parts
-
 -- how much is left to read of a text, if there is one
 abbrev pub left_len : Option (List ℕ) → ℕ
 left_len None = 0

@@ -6,7 +6,7 @@ ghost use Rattle.cv_apkver.specs.Grammar.{DOT, IsVersion, UNDERSCORE, is_number,
 ghost use Rattle.cv_apkver.specs.Parts.{is_build, is_last_number, is_letter_or_nothing, is_release, is_suffix, is_version, pieces, pieces_behind};
 
 use crate::parts::{Parts, cut, split_word};
-use cv_order::skip_digits;
+use cv_order::{are_digits, skip_digits};
 
 /// Whether a text is a version: `number{.number}[letter]{_suffix[number]}[-rnumber]`. A number is one or more digits, however
 /// many; the letter is one of a to z; the suffix is one of alpha, beta, pre, rc, cvs, svn, git, hg and p.
@@ -99,12 +99,6 @@ fn is_number(text: &[u8]) -> bool
     ensures { result ≡ is_number text.now }
 {
     !text.is_empty() && are_digits(text)
-}
-
-fn are_digits(text: &[u8]) -> bool
-    ensures { result ≡ list_all is_digit text.now }
-{
-    text.iter().all(|byte| byte.is_ascii_digit())
 }
 
 /// The rank of a suffix by its word. Their end has the rank 4.

@@ -3,11 +3,12 @@ ghost use Rattle.std.specs.Cmp.{IsTotalOrder};
 ghost use Rattle.std.specs.Cmp.Lexicographic.{slice_cmp};
 ghost use Rattle.std.specs.Option.{option_copied};
 ghost use Rattle.cv_order.specs.Digits.{front_digits, number_cmp};
+ghost use Rattle.cv_order.specs.Filled.{later};
 ghost use Rattle.cv_order.specs.Laws.{IsTotalPreorder};
 ghost use Rattle.cv_apkver.specs.Grammar.{DOT, IsWellWritten, UNDERSCORE, Written, is_letter, text_of};
 ghost use Rattle.cv_apkver.specs.Order.{build_digits, digits_of, key_of, suffix_of, suffixes_cmp, version_cmp, written_key};
 ghost use Rattle.cv_apkver.specs.Parts.{pieces, pieces_behind};
-ghost use Rattle.cv_apkver.specs.Walk.{first_suffix, later, left_len};
+ghost use Rattle.cv_apkver.specs.Walk.{first_suffix, left_len};
 
 use crate::grammar::rank;
 use crate::parts::{Parts, cut, split_word};

@@ -1,7 +1,9 @@
-ghost use Rattle.std.specs.Prelude.{◌≡◌, ◌==◌, not, position};
+ghost use Rattle.std.specs.Prelude.{◌≡◌, not, position};
 ghost use Rattle.std.specs.Option.{option_copied};
 ghost use Rattle.cv_apkver.specs.Grammar.{UNDERSCORE, is_letter};
 ghost use Rattle.cv_apkver.specs.Parts.{after_letters, before, behind, build_part, front_letters, pieces_behind, release_part, suffix_parts};
+
+use cv_order::find;
 
 /// What the text of a version is cut into, by its first hyphen and the first underscore before it.
 #[derive(Clone, Copy)]
@@ -43,14 +45,8 @@ pub(crate) fn cut(text: &[u8], byte: u8) -> (&[u8], Option<&[u8]>)
     }
 }
 
-fn find(text: &[u8], byte: u8) -> Option<usize>
-    ensures { result ≡ position (λ c. c == byte) text.now }
-{
-    text.iter().position(|&other| other == byte)
-}
-
 /// The lower-case letters at the front of a text, and what stands behind them.
-#[tactic(auto, using(crate::proofs::Fronts::letters_some, crate::proofs::Fronts::letters_none, crate::proofs::Fronts::no_letters_some, crate::proofs::Fronts::no_letters_none))]
+#[tactic(auto, using(cv_order::proofs::Fronts::while_some, cv_order::proofs::Fronts::while_none, cv_order::proofs::Fronts::past_some, cv_order::proofs::Fronts::past_none))]
 pub(crate) fn split_word(text: &[u8]) -> (&[u8], &[u8])
     ensures word { result.0.now ≡ front_letters text.now }
     ensures rest { result.1.now ≡ after_letters text.now }

@@ -1,11 +1,8 @@
 -- Where a byte stands last, looked for from the back.
-use Rattle.std.proofs.Common.{◌≡◌, ℕ, ◌+◌, ◌-◌, ◌≤◌, Bool, true, false, ◌==◌, List, [], ◌∷◌, ◌++◌, length, take, get_or, Some, refl, ap, sym, ◌∙◌, add-one, arith}
+use Rattle.std.proofs.Common.{◌≡◌, ℕ, ◌+◌, ◌-◌, ◌≤◌, Bool, true, false, ◌==◌, List, [], ◌∷◌, ◌++◌, length, take, get_or, Some, ap, sym, ◌∙◌, add-one, arith}
 use Rattle.std.proofs.lemmas.Bool.Decides.{nat_tests}
 use Rattle.std.proofs.lemmas.List.{take_more, take_all}
 use Rattle.cv_debver.specs.Version.{or_here, last_position}
-
-some_more : (passes : Bool) (n : ℕ) → or_here passes (Some n) ≡ Some (n + 1)
-some_more passes n = refl
 
 -- with one more byte at the end, which passes
 push_here : (test : ℕ → Bool) (xs : List ℕ) (x : ℕ) → test x ≡ true → last_position test (xs ++ x ∷ []) ≡ Some (length xs)

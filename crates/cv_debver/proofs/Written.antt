@@ -1,5 +1,6 @@
 -- The texts that `is_version` takes are those that the grammar writes.
-use Rattle.std.proofs.Common.{◌≡◌, ℕ, ◌+◌, ◌<◌, Bool, true, false, ◌&&◌, ◌||◌, List, [], ◌∷◌, ◌++◌, length, take, drop, get_or, nat_lt, Option, Some, None, refl, ap, sym, ◌∙◌, add-one, arith, codes, eqb-true, ltb-true}
+use Rattle.std.proofs.Common.{◌≡◌, ℕ, ◌+◌, ◌<◌, Bool, true, false, ◌&&◌, List, [], ◌∷◌, ◌++◌, length, take, drop, get_or, nat_lt, Option, Some, None, refl, ap, sym, ◌∙◌, add-one, arith, codes, eqb-true, ltb-true}
+use Rattle.std.proofs.lemmas.Bool.{and_parts, or_parts}
 use Rattle.std.proofs.lemmas.Bool.Decides.{nat_tests}
 use Rattle.std.proofs.lemmas.List.{take-append-drop, take_at, drop_at, drop-drop, drop_more, length-append}
 use Rattle.std.proofs.lemmas.List.Folds.{list_any-append}
@@ -9,15 +10,6 @@ use Rattle.std.specs.Prelude.{IfSome, IsNone, IsTrue}
 use Rattle.cv_order.specs.Digits.{is_digit}
 use Rattle.cv_debver.specs.Version.{Version, last_position, is_colon, is_hyphen, split_at_hyphen, split_at_colon, with_epoch, version_of}
 use Rattle.cv_debver.specs.Grammar.{one_or_more, is_revision_byte, is_upstream_byte, are_version_parts, is_version, with_colon, with_hyphen, IsVersion}
-
-both_hold : (a b : Bool) → (a && b) ≡ true → (a ≡ true) × (b ≡ true)
-both_hold true true h = (refl, refl)
-both_hold true false h = cc
-both_hold false b h = cc
-
-none_holds : (a b : Bool) → (a || b) ≡ false → (a ≡ false) × (b ≡ false)
-none_holds true b h = cc
-none_holds false b h = (refl, h)
 
 -- Which bytes are no colon, and which no hyphen.
 digit_no_colon : (x : ℕ) → is_digit x ≡ true → is_colon x ≡ false
@@ -34,10 +26,10 @@ upstream_no_colon x h = grind (arith, nat_tests)
 
 none_of : (p q : ℕ → Bool) → ((x : ℕ) → q x ≡ true → p x ≡ false) → (xs : List ℕ) → list_all q xs ≡ true → list_any p xs ≡ false
 none_of p q apart [] h = refl
-none_of p q apart (x ∷ xs) h = let k = both_hold (q x) (list_all q xs) h in rw (apart x k.0, none_of p q apart xs k.1) refl
+none_of p q apart (x ∷ xs) h = let k = and_parts (q x) (list_all q xs) h in rw (apart x k.0, none_of p q apart xs k.1) refl
 
 none_of_some : (p q : ℕ → Bool) → ((x : ℕ) → q x ≡ true → p x ≡ false) → (xs : List ℕ) → one_or_more q xs ≡ true → list_any p xs ≡ false
-none_of_some p q apart xs h = none_of p q apart xs (both_hold (nat_lt 0 (length xs)) (list_all q xs) h).1
+none_of_some p q apart xs h = none_of p q apart xs (and_parts (nat_lt 0 (length xs)) (list_all q xs) h).1
 
 -- Where a byte stands first.
 first_by : (p : ℕ → Bool) (x : ℕ) (xs : List ℕ) (n : ℕ) → p x ≡ false → position_or_len p xs ≡ n → position_or_len p (x ∷ xs) ≡ n + 1
@@ -46,12 +38,12 @@ first_by p x xs n e more = simp (e, more) (omega arith)
 first_place : (p : ℕ → Bool) (xs ys : List ℕ) (y : ℕ) → list_any p xs ≡ false → p y ≡ true → position_or_len p (xs ++ y ∷ ys) ≡ length xs
 first_place p [] ys y none e = simp e
 first_place p (x ∷ xs) ys y none e =
-    let k = none_holds (p x) (list_any p xs) none in
+    let k = or_parts (p x) (list_any p xs) none in
     first_by p x (xs ++ y ∷ ys) (length xs) k.0 (first_place p xs ys y k.1 e) ∙ simp add-one
 
 no_place : (p : ℕ → Bool) (xs : List ℕ) → list_any p xs ≡ false → position_or_len p xs ≡ length xs
 no_place p [] none = refl
-no_place p (x ∷ xs) none = let k = none_holds (p x) (list_any p xs) none in first_by p x xs (length xs) k.0 (no_place p xs k.1) ∙ simp add-one
+no_place p (x ∷ xs) none = let k = or_parts (p x) (list_any p xs) none in first_by p x xs (length xs) k.0 (no_place p xs k.1) ∙ simp add-one
 
 position_first : (p : ℕ → Bool) (xs ys : List ℕ) (y : ℕ) → list_any p xs ≡ false → p y ≡ true → position p (xs ++ y ∷ ys) ≡ Some (length xs)
 position_first p xs ys y none e =
@@ -64,7 +56,7 @@ position_none p xs none = let past : nat_lt (length xs) (length xs) ≡ false = 
 -- Where a byte stands last.
 last_none : (p : ℕ → Bool) (xs : List ℕ) → list_any p xs ≡ false → last_position p xs ≡ None
 last_none p [] none = refl
-last_none p (x ∷ xs) none = let k = none_holds (p x) (list_any p xs) none in rw (last_none p xs k.1, k.0) refl
+last_none p (x ∷ xs) none = let k = or_parts (p x) (list_any p xs) none in rw (last_none p xs k.1, k.0) refl
 
 last_place : (p : ℕ → Bool) (xs ys : List ℕ) (y : ℕ) → list_any p ys ≡ false → p y ≡ true → last_position p (xs ++ y ∷ ys) ≡ Some (length xs)
 last_place p [] ys y none e = rw (last_none p ys none, e) refl
@@ -154,8 +146,8 @@ hyphen_is x h = eqb-true x 45 h
 body_written : (text : List ℕ) (epoch : Option (List ℕ)) (digits body : List ℕ) (last : Option ℕ) → text ≡ with_colon epoch body → IfSome epoch (λ digits. IsTrue (one_or_more is_digit digits)) → last_position is_hyphen body ≡ last
     → are_version_parts (split_at_hyphen digits body last) ≡ true → IsVersion text
 body_written text epoch digits body (Some place) w e stands h =
-    let k = both_hold (one_or_more is_digit digits && one_or_more is_upstream_byte (take place body)) (one_or_more is_revision_byte (drop (place + 1) body)) h in
-    let j = both_hold (one_or_more is_digit digits) (one_or_more is_upstream_byte (take place body)) k.0 in
+    let k = and_parts (one_or_more is_digit digits && one_or_more is_upstream_byte (take place body)) (one_or_more is_revision_byte (drop (place + 1) body)) h in
+    let j = and_parts (one_or_more is_digit digits) (one_or_more is_upstream_byte (take place body)) k.0 in
     let found = last_is is_hyphen 45 hyphen_is body place stands in
     record {
       epoch = epoch;
@@ -168,14 +160,14 @@ body_written text epoch digits body (Some place) w e stands h =
       no_hyphen = λ h. cc;
     }
 body_written text epoch digits body None w e none h =
-    let k = both_hold (one_or_more is_digit digits && one_or_more is_upstream_byte body) (one_or_more is_revision_byte (codes "0")) h in
-    let j = both_hold (one_or_more is_digit digits) (one_or_more is_upstream_byte body) k.0 in
+    let k = and_parts (one_or_more is_digit digits && one_or_more is_upstream_byte body) (one_or_more is_revision_byte (codes "0")) h in
+    let j = and_parts (one_or_more is_digit digits) (one_or_more is_upstream_byte body) k.0 in
     record { epoch = epoch; upstream = body; revision = None; written = w; epoch_digits = e; upstream_bytes = j.1; revision_bytes = tt; no_hyphen = λ h. no_last is_hyphen body none }
 
 digits_pass : (parts : Version) → are_version_parts parts ≡ true → one_or_more is_digit parts.epoch ≡ true
 digits_pass parts h =
-    let k = both_hold (one_or_more is_digit parts.epoch && one_or_more is_upstream_byte parts.upstream) (one_or_more is_revision_byte parts.revision) h in
-    (both_hold (one_or_more is_digit parts.epoch) (one_or_more is_upstream_byte parts.upstream) k.0).0
+    let k = and_parts (one_or_more is_digit parts.epoch && one_or_more is_upstream_byte parts.upstream) (one_or_more is_revision_byte parts.revision) h in
+    (and_parts (one_or_more is_digit parts.epoch) (one_or_more is_upstream_byte parts.upstream) k.0).0
 
 epoch_is : (digits body : List ℕ) (last : Option ℕ) → (split_at_hyphen digits body last).epoch ≡ digits
 epoch_is digits body (Some place) = refl

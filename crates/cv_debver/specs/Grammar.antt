@@ -23,6 +23,7 @@ is_upstream_byte byte = byte == 45 || is_revision_byte byte
 abbrev pub are_version_parts : Version → Bool
 are_version_parts parts = one_or_more is_digit parts.epoch && one_or_more is_upstream_byte parts.upstream && one_or_more is_revision_byte parts.revision
 
+-- the parts of the text are those of a version (Debian Policy 5.6.12)
 abbrev pub is_version : List ℕ → Bool
 is_version text = are_version_parts (version_of text)
 
@@ -31,6 +32,7 @@ abbrev pub with_colon : Option (List ℕ) → List ℕ → List ℕ
 with_colon None body = body
 with_colon (Some epoch) body = epoch ++ 58 ∷ body
 
+-- a revision stands behind a hyphen
 abbrev pub with_hyphen : List ℕ → Option (List ℕ) → List ℕ
 with_hyphen upstream None = upstream
 with_hyphen upstream (Some revision) = upstream ++ 45 ∷ revision

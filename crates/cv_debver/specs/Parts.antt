@@ -12,9 +12,11 @@ use Rattle.cv_order.specs.Filled.{filled_cmp, filled_total}
 pub data Pair : Type 0 where
   of : List ℕ → List ℕ → Pair
 
+-- the part without digits
 abbrev pub word : Pair → List ℕ
 word (of letters figures) = letters
 
+-- the digits behind it
 abbrev pub number : Pair → List ℕ
 number (of letters figures) = figures
 
@@ -34,10 +36,11 @@ abbrev pub pairs : List ℕ → List Pair
 pairs [] = []
 pairs (byte ∷ rest) = if is_digit byte then digit_onto byte (pairs rest) else letter_onto byte (pairs rest)
 
--- the word that a text begins with, which may be empty, and what stands behind it
+-- the word that a text begins with, which may be empty
 abbrev pub front_word : List ℕ → List ℕ
 front_word text = front_while (λ byte. not (is_digit byte)) text
 
+-- what stands behind that word
 abbrev pub after_word : List ℕ → List ℕ
 after_word text = after_while (λ byte. not (is_digit byte)) text
 
@@ -46,6 +49,7 @@ after_word text = after_while (λ byte. not (is_digit byte)) text
 abbrev pub weight_of : ℕ → ℕ
 weight_of byte = if byte == 126 then 0 else (if is_ascii_alphabetic byte then byte + 1 else byte + 257)
 
+-- the end of a word
 abbrev pub end_weight : ℕ
 end_weight = 1
 
@@ -61,11 +65,14 @@ pair_cmp = then_cmp (on word word_cmp) (on number number_cmp)
 abbrev pub part_cmp : List ℕ → List ℕ → Ordering
 part_cmp = on pairs (filled_cmp pair_cmp (of [] []))
 
+-- words are in a total order
 pub word_total : IsTotalOrder word_cmp
 word_total = on_total (map weight_of) (filled_total end_weight nat_cmp_total)
 
+-- pairs are in a total order
 pub pair_total : IsTotalOrder pair_cmp
 pair_total = then_total (on_total word word_total) (on_total number number_total)
 
+-- parts are in a total order
 pub part_total : IsTotalOrder part_cmp
 part_total = on_total pairs (filled_total (of [] []) pair_total)

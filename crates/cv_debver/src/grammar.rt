@@ -4,6 +4,7 @@ ghost use Rattle.cv_order.specs.Digits.{is_digit};
 ghost use Rattle.cv_debver.specs.Grammar.{IsVersion, is_revision_byte, is_upstream_byte, is_version, one_or_more};
 
 use crate::version::split;
+use cv_order::are_digits;
 
 /// Whether the text is a version: `[epoch:]upstream[-revision]`, where the epoch is what stands before the first colon and the
 /// revision what stands behind the last hyphen. A text with a colon in its upstream version is none.
@@ -37,12 +38,6 @@ fn is_revision(text: &[u8]) -> bool
     ensures { result ≡ one_or_more is_revision_byte text.now }
 {
     !text.is_empty() && are_revision_bytes(text)
-}
-
-fn are_digits(bytes: &[u8]) -> bool
-    ensures { result ≡ list_all is_digit bytes.now }
-{
-    bytes.iter().all(|byte| byte.is_ascii_digit())
 }
 
 fn are_upstream_bytes(bytes: &[u8]) -> bool

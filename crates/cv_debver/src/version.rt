@@ -5,7 +5,7 @@ ghost use Rattle.cv_order.specs.Laws.{IsTotalPreorder};
 ghost use Rattle.cv_debver.specs.Version.{last_position, version_cmp, version_of, with_epoch};
 
 use crate::parts::compare_parts;
-use cv_order::compare_digits;
+use cv_order::{compare_digits, find};
 use std::cmp::Ordering;
 
 const COLON: u8 = b':';
@@ -68,13 +68,6 @@ fn split_body<'a>(epoch: &'a [u8], body: &'a [u8]) -> Parts<'a>
             revision: b"0",
         },
     }
-}
-
-fn find(bytes: &[u8], byte: u8) -> Option<usize>
-    ensures place { result ≡ position (λ x. x == byte) bytes.now }
-    ensures bound { IfSome result (λ place. place < length bytes.now) }
-{
-    bytes.iter().position(|x| *x == byte)
 }
 
 fn find_last(bytes: &[u8], byte: u8) -> Option<usize>

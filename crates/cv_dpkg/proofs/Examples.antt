@@ -1,10 +1,10 @@
 -- The definitions, computed on examples.
 use Rattle.std.proofs.Common.{◌≡◌, ℕ, List, [], ◌∷◌, ◌++◌, refl, codes, None, Some, Result, Ok, Err}
+use Rattle.cv_base.specs.Cuts.{is_dropped, without_end}
 use Rattle.cv_base.specs.declared.fault.FileBad.{FileBad}
 use Rattle.cv_base.specs.declared.fault.What.{What}
 use Rattle.cv_base.specs.declared.fault.What.TheVariants.{NoColon, BadField, RepeatedField, LooseContinuation, NoPackage, NoVersion, BadStatus, BadValue}
 use Rattle.cv_dpkg.specs.Fields.{origin_of, state_of, words}
-use Rattle.cv_dpkg.specs.Lines.{is_trailing, without_end}
 use Rattle.cv_dpkg.specs.Status.{status}
 use Rattle.cv_dpkg.specs.declared.package.DebPackage.{DebPackage}
 use Rattle.cv_dpkg.specs.declared.rule.StatusRule.TheVariants.{Needed, Optional}
@@ -19,7 +19,7 @@ abbrev bad : ℕ → What → Result (List DebPackage) FileBad
 bad n w = Err (record { line = n; what = w })
 
 -- blanks and CRs at a line's end are dropped, and the last empty piece is a line that ends nothing more
-dropped : without_end is_trailing (codes "a b \r\t") ≡ codes "a b"
+dropped : without_end is_dropped (codes "a b \r\t") ≡ codes "a b"
 dropped = refl
 
 -- words are parted by any number of blanks, and the third one tells the state

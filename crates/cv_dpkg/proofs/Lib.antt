@@ -1,5 +1,3 @@
-pub mod Cuts
-pub mod Ends
 mod Examples
 pub mod Printing
 pub mod SameNames

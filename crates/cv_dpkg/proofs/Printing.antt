@@ -1,38 +1,19 @@
--- Printing bytes are ASCII, and so they are a text in UTF-8.
-use Rattle.std.proofs.Common.{◌≡◌, ℕ, ◌<◌, Bool, true, false, ◌&&◌, not, zero, suc, List, [], ◌∷◌, get_or, refl, arith}
+-- The words of Source are printing bytes, and so they are texts in UTF-8.
+use Rattle.std.proofs.Common.{◌≡◌, ℕ, true, not, List, [], ◌∷◌, refl}
 use Rattle.std.specs.List.{list_all}
 use Rattle.std.specs.Str.{IsUtf8}
-use Rattle.std.proofs.lemmas.Bool.Decides.{nat_tests}
-use Rattle.std.proofs.lemmas.Str.{IsUtf8-from_ascii}
-use Rattle.cv_dpkg.specs.Fields.{is_printing, is_word, is_word_byte}
-use Rattle.cv_dpkg.specs.Lines.{is_nil}
-
-low : (x : ℕ) → is_printing x ≡ true → x < 128
-low x h = grind (arith, nat_tests)
-
-front : (a b : Bool) → (a && b) ≡ true → a ≡ true
-front true b h = refl
-front false b h = cc
-
-back : (a b : Bool) → (a && b) ≡ true → b ≡ true
-back true b h = h
-back false b h = cc
-
-ascii : (bs : List ℕ) → list_all is_printing bs ≡ true → (i : ℕ) → get_or bs i 0 < 128
-ascii [] h i = omega arith
-ascii (x ∷ xs) h zero = low x (front (is_printing x) (list_all is_printing xs) h)
-ascii (x ∷ xs) h (suc i) = ascii xs (back (is_printing x) (list_all is_printing xs) h) i
-
--- printing bytes are UTF-8
-pub printing_utf8 : (bs : List ℕ) → list_all is_printing bs ≡ true → IsUtf8 bs
-printing_utf8 bs h = IsUtf8-from_ascii bs (ascii bs h)
+use Rattle.std.proofs.lemmas.Bool.{and_from, and_parts}
+use Rattle.cv_base.specs.Printing.{is_printing}
+use Rattle.cv_base.specs.Texts.{is_nil}
+use Rattle.cv_base.proofs.Printing.{printing_utf8}
+use Rattle.cv_dpkg.specs.Fields.{is_word, is_word_byte}
 
 prints : (bs : List ℕ) → list_all is_word_byte bs ≡ true → list_all is_printing bs ≡ true
 prints [] h = refl
-prints (x ∷ xs) h = both (is_printing x) _ (front (is_printing x) _ (front (is_word_byte x) _ h)) (prints xs (back (is_word_byte x) _ h)) where
-  both : (a b : Bool) → a ≡ true → b ≡ true → (a && b) ≡ true
-  both a b p q = cc
+prints (x ∷ xs) h =
+    let parts = and_parts (is_word_byte x) (list_all is_word_byte xs) h in
+    and_from (is_printing x) (list_all is_printing xs) (and_parts (is_printing x) _ parts.0).0 (prints xs parts.1)
 
--- and so are words
+-- words are UTF-8
 pub word_utf8 : (bs : List ℕ) → is_word bs ≡ true → IsUtf8 bs
-word_utf8 bs h = printing_utf8 bs (prints bs (back (not (is_nil bs)) _ h))
+word_utf8 bs h = printing_utf8 bs (prints bs (and_parts (not (is_nil bs)) (list_all is_word_byte bs) h).1)

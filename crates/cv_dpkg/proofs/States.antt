@@ -2,10 +2,11 @@
 use Rattle.std.proofs.Common.{◌≡◌, ℕ, Bool, true, false, ◌&&◌, if◌then◌else◌, not, List, [], ◌∷◌, Option, None, Some, refl, sym, ap, ◌∙◌}
 use Rattle.std.specs.List.{filter}
 use Rattle.std.specs.Option.{is_some, option_and_then, option_map}
-use Rattle.cv_dpkg.specs.Fields.{cut, is_state, state_of, third, words}
-use Rattle.cv_dpkg.specs.Lines.{is_blank, is_nil, without_front}
+use Rattle.cv_base.specs.Cuts.{cut, is_blank}
+use Rattle.cv_base.specs.Texts.{is_nil}
+use Rattle.cv_base.proofs.Cuts.{pieces, split_cut}
+use Rattle.cv_dpkg.specs.Fields.{is_state, state_of, third, words}
 use Rattle.cv_dpkg.specs.Words.{next_word, state_by, third_by, word_at, word_by}
-use Rattle.cv_dpkg.proofs.Cuts.{pieces, split_cut}
 
 -- the words that follow from the first one
 abbrev pub words_by : Option (List ℕ × List ℕ) → List (List ℕ)
@@ -14,13 +15,6 @@ words_by (Some p) = p.0 ∷ words p.1
 
 abbrev is_long : List ℕ → Bool
 is_long w = not (is_nil w)
-
-trimmed_words : (t : List ℕ) → words (without_front t) ≡ words t
-trimmed_words [] = refl
-trimmed_words (x ∷ xs) = by (is_blank x) refl (trimmed_words xs) where
-  by : (b : Bool) → is_blank x ≡ b → words (without_front xs) ≡ words xs → words (without_front (x ∷ xs)) ≡ words (x ∷ xs)
-  by true e h = simp e h
-  by false e h = simp e refl
 
 first_by : (x : ℕ) (xs : List ℕ) (c : Option (List ℕ × List ℕ)) → filter is_long (pieces is_blank (x ∷ xs) (option_map (λ p. (x ∷ p.0, p.1)) c))
     ≡ words_by (Some (word_by (x ∷ xs) (option_map (λ p. (x ∷ p.0, p.1)) c)))

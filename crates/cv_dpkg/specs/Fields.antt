@@ -1,22 +1,15 @@
 -- What a line of a dpkg status file tells: cvwatch's own profile of it, after deb-control(5) and Debian Policy 5.1. The used
 -- fields are Package, Status, Version, Source and Architecture. Every other field is passed over.
-use Rattle.std.specs.Prelude.{ℕ, Bool, false, ◌&&◌, ◌||◌, ◌==◌, nat_le, if◌then◌else◌, not, List, [], ◌∷◌, map, codes, Option, None, Some}
+use Rattle.std.specs.Prelude.{ℕ, Bool, false, ◌&&◌, ◌||◌, ◌==◌, if◌then◌else◌, not, List, [], ◌∷◌, map, codes, Option, None, Some}
 use Rattle.std.specs.Char.{to_ascii_lowercase}
 use Rattle.std.specs.List.{filter, list_all, list_any, slice_split}
 use Rattle.std.specs.Option.{option_map, option_map_or, option_or}
-use Rattle.cv_base.specs.Texts.{same}
-use Rattle.cv_dpkg.specs.Lines.{is_blank, is_continuation, is_nil, without_end, without_front}
+use Rattle.cv_base.specs.Cuts.{cut, is_blank, without_end}
+use Rattle.cv_base.specs.Printing.{is_printing}
+use Rattle.cv_base.specs.Texts.{is_nil, same}
+use Rattle.cv_dpkg.specs.Lines.{is_continuation, without_front}
 use Rattle.cv_dpkg.specs.declared.field.Field.{Field}
 use Rattle.cv_dpkg.specs.declared.field.Field.TheVariants.{Package, Status, Version, Source, Architecture, Unused}
-
--- what stands before the first byte that passes, and what behind it
-abbrev pub cut : (ℕ → Bool) → List ℕ → Option (List ℕ × List ℕ)
-cut passes [] = None
-cut passes (x ∷ xs) = if passes x then Some ([], xs) else option_map (λ p. (x ∷ p.0, p.1)) (cut passes xs)
-
--- a byte that prints
-abbrev pub is_printing : ℕ → Bool
-is_printing byte = nat_le 33 byte && nat_le byte 126
 
 -- the byte between a field's name and its value
 abbrev pub is_colon : ℕ → Bool
@@ -80,9 +73,11 @@ pub record Origin : Type 0 where
   pub name : Option (List ℕ)
   pub version : Option (List ℕ)
 
+-- 40 is `(`
 abbrev pub is_open : ℕ → Bool
 is_open byte = byte == 40
 
+-- 41 is `)`
 abbrev pub is_close : ℕ → Bool
 is_close byte = byte == 41
 

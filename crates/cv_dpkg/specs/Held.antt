@@ -1,16 +1,17 @@
 -- What the code holds of a paragraph, seen as the reader's state.
-use Rattle.std.specs.Prelude.{ℕ, ◌+◌, Bool, false, List, length, Option, None, Some, Result, Ok, Err}
+use Rattle.std.specs.Prelude.{ℕ, Bool, false, List, Option, None, Some, Result, Ok, Err}
 use Rattle.std.specs.BTreeSet.{BTreeSet}
 use Rattle.std.specs.List.{list_any}
 use Rattle.std.specs.Option.{option_map}
 use Rattle.std.specs.Ordering.{is_eq}
 use Rattle.cv_base.specs.Answer.{Gives}
+use Rattle.cv_base.specs.Lines.{given}
 use Rattle.cv_base.specs.Reading.{is_read_memory}
 use Rattle.cv_base.specs.declared.fault.ReadBad.{ReadBad}
 use Rattle.cv_base.specs.declared.fault.What.{What}
 use Rattle.cv_dpkg.specs.Fields.{Facts, Pair, join, named, tells}
 use Rattle.cv_dpkg.specs.Names.{name_cmp}
-use Rattle.cv_dpkg.specs.Reader.{State, given}
+use Rattle.cv_dpkg.specs.Reader.{State}
 use Rattle.cv_dpkg.specs.Status.{value_fault}
 use Rattle.cv_dpkg.specs.declared.facts.Facts as held
 use Rattle.cv_dpkg.specs.declared.field.Field.{Field}
@@ -56,8 +57,3 @@ value_after p n f = record { stood = stood_in p.names; told = join (tells (named
 -- a value whose name was noted
 abbrev pub value_step : Paragraph → ℕ → Pair → Result State ReadBad
 value_step p n f = given n (value_fault (named f.name) f.value) (value_after p n f)
-
--- how many bytes and ends are left
-abbrev pub left_len : Option (List ℕ) → ℕ
-left_len None = 0
-left_len (Some bytes) = length bytes + 1

@@ -12,5 +12,6 @@ use Rattle.cv_dpkg.specs.declared.names.FieldName.{FieldName}
 abbrev pub field_name_cmp : FieldName → FieldName → Ordering
 field_name_cmp = on (λ n. n.text.now) name_cmp
 
+-- field names are in a total order
 pub field_name_total : IsTotalOrder field_name_cmp
 field_name_total = on_total (λ (n : FieldName). n.text.now) (on_total (map to_ascii_lowercase) nat_list_cmp_total)

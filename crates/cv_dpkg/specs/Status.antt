@@ -4,25 +4,22 @@
 -- count, in the order of their paragraphs, each as a `DebPackage` (name, version, source, source_version, arch), or the
 -- fault at the least faulty line as a `FileBad` (its number from 1, and what is wrong). It lists all faults of all paragraphs
 -- in the order in which they count, and answers the first; it stops at none.
-use Rattle.std.specs.Prelude.{ℕ, Bool, true, false, ◌&&◌, ◌||◌, if◌then◌else◌, not, List, [], ◌∷◌, ◌++◌, codes, Option, None, Some, Result, Ok, Err, unwrap_or}
+use Rattle.std.specs.Prelude.{ℕ, Bool, true, false, ◌&&◌, ◌||◌, if◌then◌else◌, not, List, [], ◌∷◌, ◌++◌, codes, Option, None, Some, Result, unwrap_or}
 use Rattle.std.specs.List.{flat_map, list_all, list_any}
-use Rattle.std.specs.Option.{is_some, option_map_or, option_or}
-use Rattle.cv_base.specs.Texts.{same}
+use Rattle.std.specs.Option.{is_some, option_map_or}
+use Rattle.cv_base.specs.Lines.{Line, answer, at, last_number, line_faults, unless}
+use Rattle.cv_base.specs.Printing.{is_printing}
+use Rattle.cv_base.specs.Texts.{is_nil, same}
 use Rattle.cv_base.specs.declared.fault.FileBad.{FileBad}
 use Rattle.cv_base.specs.declared.fault.What.{What}
 use Rattle.cv_base.specs.declared.fault.What.TheVariants.{NoColon, BadField, RepeatedField, LooseContinuation, NoPackage, NoVersion, BadStatus, BadValue}
-use Rattle.cv_dpkg.specs.Fields.{Facts, Pair, field_of, is_name, is_printing, join, named, nothing, origin_of, same_name, state_of, told_by}
-use Rattle.cv_dpkg.specs.Lines.{Line, is_continuation, is_nil, paragraphs}
+use Rattle.cv_dpkg.specs.Fields.{Facts, Pair, field_of, is_name, join, named, nothing, origin_of, same_name, state_of, told_by}
+use Rattle.cv_dpkg.specs.Lines.{is_continuation, paragraphs}
 use Rattle.cv_dpkg.specs.declared.field.Field.{Field}
 use Rattle.cv_dpkg.specs.declared.field.Field.TheVariants.{Package, Status, Version, Source, Architecture, Unused}
 use Rattle.cv_dpkg.specs.declared.package.DebPackage.{DebPackage}
 use Rattle.cv_dpkg.specs.declared.rule.StatusRule.{StatusRule}
 use Rattle.cv_dpkg.specs.declared.rule.StatusRule.TheVariants.{Needed, Optional}
-
--- a fault unless the test holds
-abbrev pub unless : Bool → What → Option What
-unless true w = None
-unless false w = Some w
 
 -- the fault of a value. Package is not empty; Package, Version and Architecture are printing bytes; Status is three words and
 -- tells a state; Source is empty, a name, or a name and a version in brackets; and other values may be anything.
@@ -45,26 +42,11 @@ field_fault before (Some f) =
     if not (is_name f.name) then Some BadField
     else (if stands f.name before then Some RepeatedField else value_fault (named f.name) f.value)
 
--- whether lines are none
-abbrev pub is_first : List Line → Bool
-is_first [] = true
-is_first (l ∷ ls) = false
-
 -- the fault of a line, where these lines stand before it in its paragraph
 abbrev pub line_fault : List Line → List ℕ → Option What
 line_fault before text =
-    if is_continuation text then (if is_first before then Some LooseContinuation else None)
+    if is_continuation text then (if is_nil before then Some LooseContinuation else None)
     else field_fault before (field_of text)
-
--- a fault with its line, if there is one
-abbrev pub at : ℕ → Option What → List FileBad
-at n None = []
-at n (Some w) = record { line = n; what = w } ∷ []
-
--- the faults of a paragraph's lines in order
-abbrev pub line_faults : List Line → List Line → List FileBad
-line_faults before [] = []
-line_faults before (l ∷ ls) = at l.number (line_fault before l.text) ++ line_faults (before ++ l ∷ []) ls
 
 -- what the lines of a paragraph tell together
 abbrev pub facts : List Line → Facts
@@ -101,18 +83,13 @@ whole_fault rule f =
     else (if not (is_some f.state || is_optional rule) then Some BadStatus
     else unless (not (counts f.state f.version && is_missing f.version)) NoVersion)
 
--- the number of the last line
-abbrev pub last_number : List Line → Option ℕ
-last_number [] = None
-last_number (l ∷ ls) = option_or (last_number ls) (Some l.number)
-
 -- the fault of a whole paragraph stands at its last line; no lines are no paragraph
 abbrev pub end_faults : StatusRule → List Line → List FileBad
 end_faults rule p = option_map_or (λ n. at n (whole_fault rule (facts p))) (last_number p) []
 
 -- the faults of a paragraph in the order in which they count
 abbrev pub faults : StatusRule → List Line → List FileBad
-faults rule p = line_faults [] p ++ end_faults rule p
+faults rule p = line_faults line_fault [] p ++ end_faults rule p
 
 -- a package with its name and version. Its source is Source's name, and else its own; the source's version is the one in
 -- brackets, and else its own. An absent architecture is the empty text.
@@ -132,11 +109,6 @@ package_in f = if counts f.state f.version then package_by f.name f.version f el
 -- the package of a paragraph, if it counts
 abbrev pub packages : List Line → List DebPackage
 packages p = package_in (facts p)
-
--- the first fault of a list, and without one what was found
-abbrev pub answer : List FileBad → List DebPackage → Result (List DebPackage) FileBad
-answer [] found = Ok found
-answer (f ∷ fs) found = Err f
 
 -- the packages of a status file, or its first fault
 abbrev pub status : List ℕ → StatusRule → Result (List DebPackage) FileBad

@@ -2,8 +2,9 @@
 -- `Fields.antt`.
 use Rattle.std.specs.Prelude.{ℕ, ◌&&◌, if◌then◌else◌, not, List, [], ◌∷◌, Option, None, Some}
 use Rattle.std.specs.Option.{is_some, option_and_then}
-use Rattle.cv_dpkg.specs.Fields.{cut, is_state}
-use Rattle.cv_dpkg.specs.Lines.{is_blank, without_front}
+use Rattle.cv_base.specs.Cuts.{cut, is_blank}
+use Rattle.cv_dpkg.specs.Fields.{is_state}
+use Rattle.cv_dpkg.specs.Lines.{without_front}
 
 -- a word up to a blank or to the end
 abbrev pub word_by : List ℕ → Option (List ℕ × List ℕ) → List ℕ × List ℕ

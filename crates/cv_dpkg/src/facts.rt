@@ -10,8 +10,8 @@ ghost use Rattle.cv_dpkg.specs.declared.field.Field.TheVariants as field;
 use crate::field::Field;
 use crate::package::DebPackage;
 use crate::rule::StatusRule;
-use crate::value::{origin_of, printing, state_of};
-use cv_base::What;
+use crate::value::{origin_of, state_of};
+use cv_base::{What, printing_text};
 use cv_seq::{NoMemory, Text};
 use std::alloc::Global;
 
@@ -62,7 +62,7 @@ impl<'a> Facts<'a> {
         if value.is_empty() {
             return Err(What::BadValue);
         }
-        let Some(name) = printing(value) else {
+        let Some(name) = printing_text(value) else {
             return Err(What::BadValue);
         };
         self.name = Some(name);
@@ -82,7 +82,7 @@ impl<'a> Facts<'a> {
     fn tell_version(&mut self, value: &'a [u8]) -> Result<(), What>
         ensures { Tells field.Version value.now (facts_view self.old) (facts_view self.new) result }
     {
-        let Some(version) = printing(value) else {
+        let Some(version) = printing_text(value) else {
             return Err(What::BadValue);
         };
         self.version = Some(version);
@@ -103,7 +103,7 @@ impl<'a> Facts<'a> {
     fn tell_arch(&mut self, value: &'a [u8]) -> Result<(), What>
         ensures { Tells field.Architecture value.now (facts_view self.old) (facts_view self.new) result }
     {
-        let Some(arch) = printing(value) else {
+        let Some(arch) = printing_text(value) else {
             return Err(What::BadValue);
         };
         self.arch = Some(arch);

@@ -1,11 +1,11 @@
 //! Fields and their names.
 ghost use Rattle.std.specs.Prelude.{◌≡◌};
-ghost use Rattle.std.specs.List.{list_all};
 ghost use Rattle.std.specs.Option.{option_map};
-ghost use Rattle.cv_dpkg.specs.Fields.{is_name, is_printing, named, pair_in, same_name};
+ghost use Rattle.cv_dpkg.specs.Fields.{is_name, named, pair_in, same_name};
 ghost use Rattle.cv_dpkg.specs.Names.{entry_of, name_cmp};
 
-use crate::text::{cut_at, trim_front};
+use crate::text::trim_front;
+use cv_base::{are_printing, cut_at};
 use std::cmp::Ordering;
 
 /// The fields that are used. Every other one is passed over.
@@ -43,21 +43,8 @@ pub fn is_name(name: &[u8]) -> bool
 {
     match name {
         [] | [b'#' | b'-', ..] => false,
-        _ => is_printing_text(name),
+        _ => are_printing(name),
     }
-}
-
-/// Whether all bytes print.
-pub fn is_printing_text(text: &[u8]) -> bool
-    ensures { result ≡ list_all is_printing text.now }
-{
-    text.iter().all(|byte| is_printing(*byte))
-}
-
-fn is_printing(byte: u8) -> bool
-    ensures { result ≡ is_printing byte }
-{
-    byte.is_ascii_graphic()
 }
 
 /// The field that a name names.

@@ -5,7 +5,6 @@ ghost use Rattle.cv_base.specs.Reading.{is_read_memory};
 ghost use Rattle.cv_dpkg.specs.Held.{Takes, state_view, value_step};
 ghost use Rattle.cv_dpkg.specs.Names.{entry_of};
 ghost use Rattle.cv_dpkg.specs.Reader.{close, continuation_step, field_step, line_step, opening};
-ghost use Rattle.cv_base.specs.declared.fault.ReadBad.TheVariants as reading;
 
 use crate::facts::Facts;
 use crate::field::{Entry, is_name, named, split_field};
@@ -13,7 +12,7 @@ use crate::names::{FieldName, note};
 use crate::package::DebPackage;
 use crate::rule::StatusRule;
 use crate::text::begins_with_blank;
-use cv_base::{FileBad, ReadBad, What};
+use cv_base::{ReadBad, What};
 use std::alloc::Global;
 use std::collections::BTreeSet;
 
@@ -46,7 +45,7 @@ impl<'a> Paragraph<'a> {
             return self.go_on(number);
         }
         match split_field(line) {
-            None => Err(bad(number, What::NoColon)),
+            None => Err(ReadBad::at(number, What::NoColon)),
             Some(entry) => self.take_field(entry, number),
         }
     }
@@ -56,7 +55,7 @@ impl<'a> Paragraph<'a> {
         ensures { Takes (continuation_step (state_view self.old) number self.old.last) (state_view self.new) result }
     {
         if self.last.is_none() {
-            return Err(bad(number, What::LooseContinuation));
+            return Err(ReadBad::at(number, What::LooseContinuation));
         }
         self.last = Some(number);
         Ok(())
@@ -66,10 +65,10 @@ impl<'a> Paragraph<'a> {
         ensures { Takes (field_step (state_view self.old) number (Some (entry_of entry.entry))) (state_view self.new) result }
     {
         if !is_name(entry.name) {
-            return Err(bad(number, What::BadField));
+            return Err(ReadBad::at(number, What::BadField));
         }
         if !note(&mut self.names, entry.name)? {
-            return Err(bad(number, What::RepeatedField));
+            return Err(ReadBad::at(number, What::RepeatedField));
         }
         self.take_value(entry, number)
     }
@@ -78,7 +77,7 @@ impl<'a> Paragraph<'a> {
         ensures { Takes (value_step self.old number (entry_of entry.entry)) (state_view self.new) result }
     {
         match self.facts.tell(named(entry.name), entry.value) {
-            Err(what) => Err(bad(number, what)),
+            Err(what) => Err(ReadBad::at(number, what)),
             Ok(()) => {
                 self.last = Some(number);
                 Ok(())
@@ -99,15 +98,8 @@ impl<'a> Paragraph<'a> {
             return Ok(());
         };
         match self.facts.fault(rule) {
-            Some(what) => Err(bad(line, what)),
+            Some(what) => Err(ReadBad::at(line, what)),
             None => Ok(self.facts.push_package(alloc, found)?),
         }
     }
-}
-
-/// A fault of a line.
-fn bad(line: u64, what: What) -> ReadBad
-    ensures { result ≡ reading.Bad (record { line = line; what = what }) }
-{
-    ReadBad::Bad(FileBad { line, what })
 }

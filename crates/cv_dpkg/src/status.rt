@@ -2,16 +2,16 @@
 ghost use Rattle.std.specs.Prelude.{◌≡◌, ◌∷◌, ◌≤◌, Some, [], length};
 ghost use Rattle.std.specs.Option.{option_map};
 ghost use Rattle.cv_base.specs.Answer.{Gives};
+ghost use Rattle.cv_base.specs.Cuts.{left_len};
+ghost use Rattle.cv_base.specs.Lines.{as_read};
 ghost use Rattle.cv_base.specs.Reading.{is_read_memory};
-ghost use Rattle.cv_dpkg.specs.Held.{left_len};
-ghost use Rattle.cv_dpkg.specs.Reader.{as_read, lines_left, opening, told};
+ghost use Rattle.cv_dpkg.specs.Reader.{lines_left, opening, told};
 ghost use Rattle.cv_dpkg.specs.Status.{status};
 
 use crate::package::DebPackage;
 use crate::paragraph::Paragraph;
 use crate::rule::StatusRule;
-use crate::text::{cut_at, trim_line};
-use cv_base::ReadBad;
+use cv_base::{ReadBad, trim_line};
 use cv_seq::Seq;
 use std::alloc::Global;
 
@@ -58,15 +58,12 @@ fn read_all(alloc: Global, bytes: &[u8], rule: StatusRule) -> Result<Vec<DebPack
 }
 
 /// The first line without what is dropped at its end, and what stands behind its LF, if it has one.
-#[tactic(auto, using(crate::proofs::Cuts::split_cut))]
 fn next_line(bytes: &[u8]) -> (&[u8], Option<&[u8]>)
     ensures lines { lines_left (Some bytes.now) ≡ result.0.now ∷ lines_left (option_map (λ s. s.now) result.1) }
     ensures shorter { left_len (option_map (λ s. s.now) result.1) ≤ length bytes.now }
 {
-    match cut_at(bytes, b'\n') {
-        Some((line, rest)) => (trim_line(line), Some(rest)),
-        None => (trim_line(bytes), None),
-    }
+    let (line, rest) = cv_base::next_line(bytes);
+    (trim_line(line), rest)
 }
 
 #[cfg(test)]

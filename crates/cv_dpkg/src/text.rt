@@ -1,61 +1,15 @@
 //! Pieces of texts, all of them borrowed.
-ghost use Rattle.std.specs.Prelude.{◌≡◌, ◌==◌, ◌<◌, IfSome, length};
+ghost use Rattle.std.specs.Prelude.{◌≡◌};
 ghost use Rattle.std.specs.List.{position};
 ghost use Rattle.std.specs.Option.{option_map};
-ghost use Rattle.cv_dpkg.specs.Fields.{cut};
+ghost use Rattle.cv_base.specs.Cuts.{cut, is_blank, without_end};
+ghost use Rattle.cv_dpkg.specs.Lines.{is_continuation, without_front};
 ghost use Rattle.cv_dpkg.specs.Words.{next_word};
-ghost use Rattle.cv_dpkg.specs.Lines.{is_blank, is_continuation, is_trailing, without_end, without_front};
 
-/// What stands before the first of these bytes, and what behind it.
-#[tactic(auto, using(crate::proofs::Cuts::cut_is))]
-pub fn cut_at(text: &[u8], byte: u8) -> Option<(&[u8], &[u8])>
-    ensures parts { option_map (λ p. (p.0.now, p.1.now)) result ≡ cut (λ b. b == byte) text.now }
-    ensures shorter { IfSome result (λ p. length p.1.now < length text.now) }
-{
-    let Some(at) = find(text, byte) else {
-        return None;
-    };
-    let (front, back) = text.split_at(at);
-    let (_, rest) = back.split_at(1);
-    Some((front, rest))
-}
-
-/// The index of the first of these bytes.
-fn find(text: &[u8], byte: u8) -> Option<usize>
-    ensures { result ≡ position (λ b. b == byte) text.now }
-{
-    text.iter().position(|b| *b == byte)
-}
-
-fn is_blank(byte: u8) -> bool
-    ensures { result ≡ is_blank byte }
-{
-    byte == b' ' || byte == b'\t'
-}
-
-fn is_trailing(byte: u8) -> bool
-    ensures { result ≡ is_trailing byte }
-{
-    is_blank(byte) || byte == b'\r'
-}
-
-/// A line without the blanks and CRs at its end.
-#[tactic(auto, using(crate::proofs::Ends::end_more, crate::proofs::Ends::end_done))]
-pub fn trim_line(text: &[u8]) -> &[u8]
-    ensures { result.now ≡ without_end is_trailing text.now }
-{
-    let mut left = text;
-    while let Some((last, front)) = left.split_last() {
-        if !is_trailing(*last) {
-            return left;
-        }
-        left = front;
-    }
-    left
-}
+use cv_base::is_blank;
 
 /// A text without the blanks at its end.
-#[tactic(auto, using(crate::proofs::Ends::end_more, crate::proofs::Ends::end_done))]
+#[tactic(auto, using(cv_base::proofs::Ends::end_more, cv_base::proofs::Ends::end_done))]
 pub fn trim_end(text: &[u8]) -> &[u8]
     ensures { result.now ≡ without_end is_blank text.now }
 {
@@ -94,7 +48,7 @@ pub fn begins_with_blank(text: &[u8]) -> bool
 }
 
 /// What stands before the first blank, and what behind it.
-#[tactic(auto, using(crate::proofs::Cuts::cut_is))]
+#[tactic(auto, using(cv_base::proofs::Cuts::cut_is))]
 fn cut_at_blank(text: &[u8]) -> Option<(&[u8], &[u8])>
     ensures { option_map (λ p. (p.0.now, p.1.now)) result ≡ cut is_blank text.now }
 {

@@ -2,29 +2,19 @@
 ghost use Rattle.std.specs.Prelude.{◌≡◌, if◌then◌else◌, Some, None};
 ghost use Rattle.std.specs.List.{list_all};
 ghost use Rattle.std.specs.Option.{option_map};
-ghost use Rattle.cv_dpkg.specs.Fields.{cut, is_close, is_printing, is_state, is_word, is_word_byte, origin_of, state_of, versioned};
+ghost use Rattle.cv_base.specs.Cuts.{cut};
+ghost use Rattle.cv_dpkg.specs.Fields.{is_close, is_state, is_word, is_word_byte, origin_of, state_of, versioned};
 ghost use Rattle.cv_dpkg.specs.Values.{source_view};
 ghost use Rattle.cv_dpkg.specs.Words.{state_by};
 
-use crate::field::is_printing_text;
-use crate::text::{cut_at, next_word, trim_end};
+use crate::text::{next_word, trim_end};
+use cv_base::cut_at;
 
 /// What a value of Source names.
 #[derive(Clone, Copy)]
 pub struct Source<'a> {
     pub name: Option<&'a str>,
     pub version: Option<&'a str>,
-}
-
-/// A value of printing bytes.
-#[tactic(auto, using(crate::proofs::Printing::printing_utf8))]
-pub fn printing(value: &[u8]) -> Option<&str>
-    ensures { option_map (λ s. s.now) result ≡ (if list_all is_printing value.now then Some value.now else None) }
-{
-    if !is_printing_text(value) {
-        return None;
-    }
-    str::from_utf8(value).ok()
 }
 
 /// The state that a value of Status tells: the last of its three words.

@@ -4,22 +4,18 @@
 -- `npm bytes` takes the bytes of the file. It gives the package that has the members `name` and `version`
 -- where the bytes are an object with both, each a text that is not empty. In every other case it gives
 -- none: no JSON, not UTF-8, no object, a member that is absent, no text or empty. A file has no fault.
-use Rattle.std.specs.Prelude.{ℕ, if◌then◌else◌, List, [], ◌∷◌, codes, Option, None, Some, option_and_then}
+use Rattle.std.specs.Prelude.{ℕ, if◌then◌else◌, List, codes, Option, None, option_and_then}
 use Rattle.std.specs.Option.{option_map}
 use Rattle.std.specs.Str.{is_utf8}
 use Rattle.serde_json.specs.Data.{Data}
 use Rattle.serde_json.specs.Find.{as_str, get}
 use Rattle.serde_json.specs.Read.{read}
+use Rattle.cv_base.specs.Texts.{filled}
 use Rattle.cv_npm.specs.declared.package.NpmPackage.{NpmPackage}
 
 -- the value that bytes are, if they are a JSON text in UTF-8
 abbrev pub json_of : List ℕ → Option Data
 json_of bytes = if is_utf8 bytes then read bytes else None
-
--- a text that is not empty
-abbrev pub filled : List ℕ → Option (List ℕ)
-filled [] = None
-filled (x ∷ xs) = Some (x ∷ xs)
 
 -- a member that is a text and not empty. Only an object has members, and of a key that stands twice the last one counts.
 abbrev pub text_at : List ℕ → Data → Option (List ℕ)

@@ -13,7 +13,7 @@ use std::str;
 /// The package that a package.json tells of, or none where it has no name or no version that is a text and not empty.
 ///
 /// What is JSON is what `serde_json` reads. Only the two texts are copied out of it.
-#[tactic(auto, using(crate::proofs::Utf8::text_found, crate::proofs::Utf8::none_found))]
+#[tactic(auto, using(cv_seq::proofs::Utf8::text_found, cv_seq::proofs::Utf8::none_found))]
 pub fn read_package(alloc: Global, bytes: &[u8]) -> Result<Option<NpmPackage>, NoMemory>
     ensures { IfOk result (λ found. found ≡ npm bytes.now) }
 {

@@ -4,20 +4,16 @@ use Rattle.std.specs.declared.cmp.Ordering.{Ordering}
 use Rattle.std.specs.Ordering.{ordering_then}
 use Rattle.std.specs.Cmp.{IsTotalOrder, tied_itself}
 use Rattle.cv_order.specs.Digits.{front_while, after_while}
-use Rattle.cv_order.specs.Filled.{filled_cmp}
+use Rattle.cv_order.specs.Filled.{filled_cmp, later}
 
--- the first place of a list that goes on with the filler, and the places behind it
+-- the first place of a list that goes on with the filler
 abbrev pub front_or : {K : Type 0} → K → List K → K
 front_or filler [] = filler
 front_or filler (x ∷ xs) = x
 
-abbrev pub behind : {K : Type 0} → List K → List K
-behind [] = []
-behind (x ∷ xs) = xs
-
 -- one place and then the places behind it, also where one list or both have ended
 pub filled_cmp_place : {K : Type 0} {R : K → K → Ordering} → IsTotalOrder R → (filler : K) (xs ys : List K)
-    → filled_cmp R filler xs ys ≡ ordering_then (R (front_or filler xs) (front_or filler ys)) (filled_cmp R filler (behind xs) (behind ys))
+    → filled_cmp R filler xs ys ≡ ordering_then (R (front_or filler xs) (front_or filler ys)) (filled_cmp R filler (later xs) (later ys))
 filled_cmp_place o filler [] [] = rw (tied_itself o filler) refl
 filled_cmp_place o filler [] (y ∷ ys) = refl
 filled_cmp_place o filler (x ∷ xs) [] = refl

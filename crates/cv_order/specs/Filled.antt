@@ -14,6 +14,11 @@ filled_cmp R filler [] (y ∷ ys) = ordering_then (R filler y) (filled_cmp R fil
 filled_cmp R filler (x ∷ xs) [] = ordering_then (R x filler) (filled_cmp R filler xs [])
 filled_cmp R filler (x ∷ xs) (y ∷ ys) = ordering_then (R x y) (filled_cmp R filler xs ys)
 
+-- the places behind the first one
+abbrev pub later : {K : Type 0} → List K → List K
+later [] = []
+later (x ∷ xs) = xs
+
 turned : (a a' p p' : Ordering) → a ≡ ordering_reverse a' → p ≡ ordering_reverse p' → ordering_then a p ≡ ordering_reverse (ordering_then a' p')
 turned a a' p p' e f = rw (e, f) (then_flip a' p')
 

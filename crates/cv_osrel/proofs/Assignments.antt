@@ -2,9 +2,10 @@
 use Rattle.std.proofs.Common.{◌≡◌, ℕ, Bool, true, false, if◌then◌else◌, List, Option, None, Some, refl, ap, ◌∙◌}
 use Rattle.std.specs.Prelude.{option_and_then}
 use Rattle.std.specs.Option.{option_map}
+use Rattle.cv_base.specs.Cuts.{cut}
 use Rattle.cv_base.specs.Texts.{same}
 use Rattle.cv_osrel.specs.System.{Assignment, assignment_by, is_equals, is_name, text_of, value_by, value_for}
-use Rattle.cv_osrel.specs.Value.{cut, value_of}
+use Rattle.cv_osrel.specs.Value.{value_of}
 
 abbrev assigned : List ℕ → Option (List ℕ) → Option Assignment
 assigned front v = option_map (λ v. record { name = front; value = v }) v

@@ -2,7 +2,8 @@
 use Rattle.std.proofs.Common.{◌≡◌, ℕ, true, false, if◌then◌else◌, ◌==◌, List, [], ◌∷◌, ◌++◌, Option, None, Some, refl, sym, ap, ◌∙◌, append_assoc, append-nil, arith}
 use Rattle.std.proofs.lemmas.Bool.Decides.{nat_tests}
 use Rattle.std.specs.Option.{option_map}
-use Rattle.cv_osrel.specs.Value.{double_quoted, is_backslash, is_double_quote, is_nil, unescaped}
+use Rattle.cv_base.specs.Texts.{is_nil}
+use Rattle.cv_osrel.specs.Value.{double_quoted, is_backslash, is_double_quote, unescaped}
 
 -- what was read goes in front of what is left
 abbrev pub onto : List ℕ → Option (List ℕ) → Option (List ℕ)

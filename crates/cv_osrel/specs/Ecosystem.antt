@@ -1,25 +1,13 @@
 -- The ecosystem of a package: cvwatch's own table, after the ecosystems of the OSV schema (`Debian:12`, `Alpine:v3.18`, `npm`).
 --
 -- `eco os kind` takes the system, or none where the root has no file os-release, and the kind of the package.
-use Rattle.std.specs.Prelude.{ℕ, Bool, ◌&&◌, ◌==◌, nat_le, if◌then◌else◌, List, [], ◌∷◌, ◌++◌, codes, Option, None, Some}
+use Rattle.std.specs.Prelude.{ℕ, ◌==◌, if◌then◌else◌, List, [], ◌∷◌, ◌++◌, codes, Option, None, Some}
 use Rattle.std.specs.Option.{option_map_or}
 use Rattle.cv_base.specs.Texts.{same}
 use Rattle.cv_base.specs.declared.package.PackageKind.{PackageKind}
 use Rattle.cv_base.specs.declared.package.PackageKind.TheVariants.{Deb, Apk, Npm}
+use Rattle.cv_order.specs.Digits.{after_digits, front_digits}
 use Rattle.cv_osrel.specs.declared.name.OsName.{OsName}
-
-abbrev pub is_digit : ℕ → Bool
-is_digit byte = nat_le 48 byte && nat_le byte 57
-
--- the digits that begin a text
-abbrev pub digits : List ℕ → List ℕ
-digits [] = []
-digits (x ∷ xs) = if is_digit x then x ∷ digits xs else []
-
--- what stands behind them
-abbrev pub after_digits : List ℕ → List ℕ
-after_digits [] = []
-after_digits (x ∷ xs) = if is_digit x then after_digits xs else x ∷ xs
 
 -- a branch of two numbers, where neither is empty
 abbrev pub branch_by : List ℕ → List ℕ → Option (List ℕ)
@@ -30,11 +18,11 @@ branch_by (x ∷ xs) (y ∷ ys) = Some ((x ∷ xs) ++ 46 ∷ y ∷ ys)
 -- a branch of these digits, where a dot and digits follow
 abbrev pub branch_from : List ℕ → List ℕ → Option (List ℕ)
 branch_from major [] = None
-branch_from major (x ∷ xs) = if x == 46 then branch_by major (digits xs) else None
+branch_from major (x ∷ xs) = if x == 46 then branch_by major (front_digits xs) else None
 
 -- the branch of a version of Alpine Linux, where the version begins with digits, a dot and digits: these
 abbrev pub branch : List ℕ → Option (List ℕ)
-branch version = branch_from (digits version) (after_digits version)
+branch version = branch_from (front_digits version) (after_digits version)
 
 -- a system with its version, if it has one
 abbrev pub versioned : List ℕ → Option (List ℕ) → List ℕ

@@ -7,36 +7,15 @@ use Rattle.std.specs.Prelude.{ℕ, Bool, false, ◌&&◌, ◌||◌, ◌==◌, na
 use Rattle.std.specs.List.{list_all, slice_split}
 use Rattle.std.specs.Option.{option_map, option_or}
 use Rattle.std.specs.Str.{is_utf8}
-use Rattle.cv_base.specs.Texts.{same}
-use Rattle.cv_osrel.specs.Value.{cut, is_blank, value_of}
+use Rattle.cv_base.specs.Cuts.{cut, is_dropped, is_lf, without_end}
+use Rattle.cv_base.specs.Texts.{filled, same}
+use Rattle.cv_order.specs.Digits.{after_while, is_digit}
+use Rattle.cv_osrel.specs.Value.{value_of}
 use Rattle.cv_osrel.specs.declared.name.OsName.{OsName}
-
--- the byte at the end of a line
-abbrev pub is_lf : ℕ → Bool
-is_lf byte = byte == 10
-
--- what is dropped at both ends of a line: blanks and CRs
-abbrev pub is_dropped : ℕ → Bool
-is_dropped byte = is_blank byte || byte == 13
-
--- a byte before what is left of the text behind it
-abbrev pub keep : (ℕ → Bool) → ℕ → List ℕ → List ℕ
-keep drops x [] = if drops x then [] else x ∷ []
-keep drops x (y ∷ ys) = x ∷ y ∷ ys
-
--- a text without the bytes at its end that are to be dropped
-abbrev pub without_end : (ℕ → Bool) → List ℕ → List ℕ
-without_end drops [] = []
-without_end drops (x ∷ xs) = keep drops x (without_end drops xs)
-
--- a text without the bytes at its front that are to be dropped
-abbrev pub without_front : (ℕ → Bool) → List ℕ → List ℕ
-without_front drops [] = []
-without_front drops (x ∷ xs) = if drops x then without_front drops xs else x ∷ xs
 
 -- a line without blanks and CRs at both ends
 abbrev pub trimmed : List ℕ → List ℕ
-trimmed line = without_front is_dropped (without_end is_dropped line)
+trimmed line = after_while is_dropped (without_end is_dropped line)
 
 -- the lines of a file lie between LFs
 abbrev pub lines : List ℕ → List (List ℕ)
@@ -48,7 +27,7 @@ is_name_start byte = nat_le 65 byte && nat_le byte 90 || (nat_le 97 byte && nat_
 
 -- a letter, `_` or a digit
 abbrev pub is_name_byte : ℕ → Bool
-is_name_byte byte = is_name_start byte || nat_le 48 byte && nat_le byte 57
+is_name_byte byte = is_name_start byte || is_digit byte
 
 -- a name: a letter or `_`, then letters, digits or `_`
 abbrev pub is_name : List ℕ → Bool
@@ -89,11 +68,6 @@ value_by name line = option_and_then (value_for name) (assignment line)
 abbrev pub last_value : List ℕ → List (List ℕ) → Option (List ℕ)
 last_value name [] = None
 last_value name (l ∷ ls) = option_or (last_value name ls) (value_by name l)
-
--- a value that is not empty
-abbrev pub filled : List ℕ → Option (List ℕ)
-filled [] = None
-filled (x ∷ xs) = Some (x ∷ xs)
 
 -- the value of a name in a file, unless it is absent or empty
 abbrev pub value_in : List ℕ → List ℕ → Option (List ℕ)

@@ -1,21 +1,22 @@
 -- The values of os-release: cvwatch's own profile, after os-release(5). A value stands in double quotes, in
 -- single quotes, or bare. Every other text is no value.
-use Rattle.std.specs.Prelude.{ℕ, Bool, true, false, ◌||◌, ◌==◌, if◌then◌else◌, not, List, [], ◌∷◌, ◌++◌, Option, None, Some, option_and_then}
+use Rattle.std.specs.Prelude.{ℕ, Bool, ◌||◌, ◌==◌, if◌then◌else◌, not, List, [], ◌∷◌, ◌++◌, Option, None, Some, option_and_then}
 use Rattle.std.specs.List.{list_all}
 use Rattle.std.specs.Option.{option_map}
+use Rattle.cv_base.specs.Cuts.{cut, is_blank}
+use Rattle.cv_base.specs.Texts.{is_nil}
 
+-- 34 is `"`
 abbrev pub is_double_quote : ℕ → Bool
 is_double_quote byte = byte == 34
 
+-- 39 is `'`
 abbrev pub is_single_quote : ℕ → Bool
 is_single_quote byte = byte == 39
 
+-- 92 is a backslash
 abbrev pub is_backslash : ℕ → Bool
 is_backslash byte = byte == 92
-
--- a blank is a space or a tab
-abbrev pub is_blank : ℕ → Bool
-is_blank byte = byte == 32 || byte == 9
 
 -- a byte before which a backslash is dropped: a double quote, `$`, a backslash or a backquote
 abbrev pub is_escapable : ℕ → Bool
@@ -25,11 +26,6 @@ is_escapable byte = is_double_quote byte || (byte == 36 || (is_backslash byte ||
 abbrev pub unescaped : ℕ → List ℕ
 unescaped byte = if is_escapable byte then byte ∷ [] else 92 ∷ byte ∷ []
 
--- whether a list has nothing
-abbrev pub is_nil : List ℕ → Bool
-is_nil [] = true
-is_nil (x ∷ xs) = false
-
 -- the text up to the first double quote that no backslash escapes. It is read from left to right: a backslash and the byte
 -- behind it are read together.
 abbrev pub double_quoted : List ℕ → Option (List ℕ)
@@ -38,11 +34,6 @@ double_quoted (x ∷ []) = if is_double_quote x then Some [] else None
 double_quoted (x ∷ y ∷ ys) =
     if is_double_quote x then None
     else (if is_backslash x then option_map (λ t. unescaped y ++ t) (double_quoted ys) else option_map (λ t. x ∷ t) (double_quoted (y ∷ ys)))
-
--- what stands before the first byte that passes, and what behind it
-abbrev pub cut : (ℕ → Bool) → List ℕ → Option (List ℕ × List ℕ)
-cut passes [] = None
-cut passes (x ∷ xs) = if passes x then Some ([], xs) else option_map (λ p. (x ∷ p.0, p.1)) (cut passes xs)
 
 -- what stands before a quote, with nothing behind it
 abbrev pub closed : List ℕ × List ℕ → Option (List ℕ)

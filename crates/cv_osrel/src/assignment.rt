@@ -2,8 +2,8 @@
 ghost use Rattle.std.specs.Prelude.{◌≡◌, IfOk, IsTrue};
 ghost use Rattle.cv_osrel.specs.System.{is_name, value_by};
 
-use crate::text::cut_at;
 use crate::value::value_of;
+use cv_base::cut_at;
 use cv_seq::{NoMemory, Text};
 use std::alloc::Global;
 

@@ -1,10 +1,10 @@
 //! The branches of Alpine Linux.
-ghost use Rattle.std.specs.Prelude.{◌≡◌, not};
-ghost use Rattle.std.specs.List.{position};
+ghost use Rattle.std.specs.Prelude.{◌≡◌};
 ghost use Rattle.std.specs.Option.{option_map};
-ghost use Rattle.cv_osrel.specs.Ecosystem.{after_digits, branch, digits, is_digit};
+ghost use Rattle.cv_osrel.specs.Ecosystem.{branch};
 ghost use Rattle.cv_osrel.specs.Held.{branch_text, number};
 
+use cv_order::split_digits;
 use std::str;
 
 /// A branch, as 3 and 18.
@@ -39,22 +39,4 @@ fn number(text: &[u8]) -> Option<(&str, &[u8])>
         return None;
     };
     Some((digits, rest))
-}
-
-#[tactic(auto, using(crate::proofs::Digits::front_is, crate::proofs::Digits::back_is))]
-fn split_digits(text: &[u8]) -> (&[u8], &[u8])
-    ensures digits { result.0.now ≡ digits text.now }
-    ensures rest { result.1.now ≡ after_digits text.now }
-{
-    match find_end(text) {
-        Some(end) => text.split_at(end),
-        None => (text, &[]),
-    }
-}
-
-/// The index of the first byte that is no digit.
-fn find_end(text: &[u8]) -> Option<usize>
-    ensures { result ≡ position (λ b. not (is_digit b)) text.now }
-{
-    text.iter().position(|byte| !byte.is_ascii_digit())
 }

@@ -1,6 +1,7 @@
 //! A whole file os-release.
 ghost use Rattle.std.specs.Prelude.{◌≡◌, IfOk, IsTrue, codes, unwrap_or};
-ghost use Rattle.cv_osrel.specs.System.{filled, is_name, last_value, lines, os_of, value_in};
+ghost use Rattle.cv_base.specs.Texts.{filled};
+ghost use Rattle.cv_osrel.specs.System.{is_name, last_value, lines, os_of, value_in};
 
 use crate::assignment::value_by;
 use crate::name::OsName;

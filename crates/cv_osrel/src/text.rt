@@ -1,67 +1,31 @@
-//! Pieces of texts, all of them borrowed.
-ghost use Rattle.std.specs.Prelude.{◌≡◌, ◌∷◌, ◌==◌, ◌<◌, ◌≤◌, IfSome, Some, length};
-ghost use Rattle.std.specs.List.{position};
+//! The lines of a file, all of them borrowed.
+ghost use Rattle.std.specs.Prelude.{◌≡◌, ◌∷◌, ◌≤◌, Some, length};
 ghost use Rattle.std.specs.Option.{option_map};
-ghost use Rattle.cv_osrel.specs.Held.{left_len, lines_left};
-ghost use Rattle.cv_osrel.specs.System.{is_dropped, trimmed, without_end, without_front};
-ghost use Rattle.cv_osrel.specs.Value.{cut, is_blank};
+ghost use Rattle.cv_base.specs.Cuts.{is_dropped, left_len};
+ghost use Rattle.cv_order.specs.Digits.{after_while};
+ghost use Rattle.cv_osrel.specs.Held.{lines_left};
+ghost use Rattle.cv_osrel.specs.System.{trimmed};
 
-/// What stands before the first of these bytes, and what behind it.
-#[tactic(auto, using(crate::proofs::Cuts::cut_is))]
-pub fn cut_at(text: &[u8], byte: u8) -> Option<(&[u8], &[u8])>
-    ensures parts { option_map (λ p. (p.0.now, p.1.now)) result ≡ cut (λ b. b == byte) text.now }
-    ensures shorter { IfSome result (λ p. length p.1.now < length text.now) }
-{
-    let Some(at) = find(text, byte) else {
-        return None;
-    };
-    let (front, back) = text.split_at(at);
-    let (_, rest) = back.split_at(1);
-    Some((front, rest))
-}
-
-/// The index of the first of these bytes.
-fn find(text: &[u8], byte: u8) -> Option<usize>
-    ensures { result ≡ position (λ b. b == byte) text.now }
-{
-    text.iter().position(|b| *b == byte)
-}
+use cv_base::{is_dropped, trim_line};
 
 /// The first line without what is dropped at its ends, and what stands behind its LF, if it has one.
-#[tactic(auto, using(crate::proofs::Cuts::split_cut))]
 pub fn next_line(bytes: &[u8]) -> (&[u8], Option<&[u8]>)
     ensures lines { lines_left (Some bytes.now) ≡ result.0.now ∷ lines_left (option_map (λ s. s.now) result.1) }
     ensures shorter { left_len (option_map (λ s. s.now) result.1) ≤ length bytes.now }
 {
-    match cut_at(bytes, b'\n') {
-        Some((line, rest)) => (trimmed(line), Some(rest)),
-        None => (trimmed(bytes), None),
-    }
+    let (line, rest) = cv_base::next_line(bytes);
+    (trimmed(line), rest)
 }
 
 /// A line without blanks and CRs at both ends.
 fn trimmed(line: &[u8]) -> &[u8]
     ensures { result.now ≡ trimmed line.now }
 {
-    trim_front(trim_end(line))
-}
-
-#[tactic(auto, using(crate::proofs::Ends::end_more, crate::proofs::Ends::end_done))]
-fn trim_end(text: &[u8]) -> &[u8]
-    ensures { result.now ≡ without_end is_dropped text.now }
-{
-    let mut left = text;
-    while let Some((last, front)) = left.split_last() {
-        if !is_dropped(*last) {
-            return left;
-        }
-        left = front;
-    }
-    left
+    trim_front(trim_line(line))
 }
 
 fn trim_front(text: &[u8]) -> &[u8]
-    ensures { result.now ≡ without_front is_dropped text.now }
+    ensures { result.now ≡ after_while is_dropped text.now }
 {
     let mut left = text;
     while let [first, rest @ ..] = left {
@@ -71,17 +35,4 @@ fn trim_front(text: &[u8]) -> &[u8]
         left = rest;
     }
     left
-}
-
-fn is_dropped(byte: u8) -> bool
-    ensures { result ≡ is_dropped byte }
-{
-    is_blank(byte) || byte == b'\r'
-}
-
-/// Whether a byte is a space or a tab.
-pub fn is_blank(byte: u8) -> bool
-    ensures { result ≡ is_blank byte }
-{
-    byte == b' ' || byte == b'\t'
 }

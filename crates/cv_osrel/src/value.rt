@@ -5,7 +5,7 @@ ghost use Rattle.std.specs.Option.{option_and_then, option_map};
 ghost use Rattle.cv_osrel.specs.System.{text_of};
 ghost use Rattle.cv_osrel.specs.Value.{double_quoted, is_bare, is_escapable, single_quoted, unescaped, value_of};
 
-use crate::text::{cut_at, is_blank};
+use cv_base::{cut_at, is_blank};
 use cv_seq::{NoMemory, Text};
 use std::alloc::Global;
 use std::str;
@@ -30,7 +30,7 @@ pub fn value_of(alloc: Global, text: &[u8]) -> Result<Option<Text>, NoMemory>
     }
 }
 
-#[tactic(auto, using(crate::proofs::Utf8::text_found, crate::proofs::Utf8::none_found))]
+#[tactic(auto, using(cv_seq::proofs::Utf8::text_found, cv_seq::proofs::Utf8::none_found))]
 fn text_of(alloc: Global, value: &[u8]) -> Result<Option<Text>, NoMemory>
     ensures { IfOk result (λ text. text ≡ text_of value.now) }
 {

@@ -1,18 +1,16 @@
 -- Going over the entries of a root is going over its package files.
-use Rattle.std.proofs.Common.{◌≡◌, Bool, true, false, List, [], ◌∷◌, ◌++◌, refl, sym, ◌∙◌, ap, append_assoc}
+use Rattle.std.proofs.Common.{◌≡◌, Bool, true, false, List, [], ◌∷◌, ◌++◌, refl, sym, ◌∙◌, ap}
 use Rattle.std.specs.Prelude.{⊤, MatchBool, Option, Some, None, Result, Ok, Err}
 use Rattle.std.specs.List.{cons_option, filter_map}
 use Rattle.std.specs.Option.{option_or}
+use Rattle.cv_base.specs.Lines.{as_read}
 use Rattle.cv_base.specs.Results.{◌>>=◌, onto}
 use Rattle.cv_base.specs.declared.fault.FileBad.{FileBad}
-use Rattle.cv_base.specs.declared.fault.ReadBad.{ReadBad}
 use Rattle.cv_base.specs.declared.fault.ReadBad.TheVariants.{Bad}
 use Rattle.cv_base.specs.declared.package.Package.{Package}
 use Rattle.cv_base.specs.declared.tree.TreeEntry.{TreeEntry}
 use Rattle.cv_base.proofs.Results.{onto_joined}
-use Rattle.cv_apkdb.specs.Reader as apk
 use Rattle.cv_apkdb.specs.declared.package.ApkPackage.{ApkPackage}
-use Rattle.cv_dpkg.specs.Reader as deb
 use Rattle.cv_dpkg.specs.declared.package.DebPackage.{DebPackage}
 use Rattle.cv_osrel.specs.declared.name.OsName.{OsName}
 use Rattle.cv_packages.specs.Files.{PackageFile, has_etc, package_file, package_files}
@@ -66,18 +64,11 @@ pub entries_bad : (front : List Package) (os : Option OsName) (etc : Bool) (e : 
     → onto front (read_entries os etc (e ∷ es)) ≡ whole → MatchBool (is_packages_memory bad) ⊤ (read_entry os etc e ≡ Err bad) → MatchBool (is_packages_memory bad) ⊤ (whole ≡ Err bad)
 entries_bad front os etc e es whole bad h k = bad_by front os etc e es whole bad (is_packages_memory bad) h k
 
-pub read_ok : (r : Result (List DebPackage) FileBad) (x : List DebPackage) → deb.as_read r ≡ Ok x → r ≡ Ok x
+-- what was read of a file, and what was refused
+pub read_ok : {A : Type 0} (r : Result A FileBad) (x : A) → as_read r ≡ Ok x → r ≡ Ok x
 read_ok (Ok y) x h = cc
 read_ok (Err e) x h = cc
 
-pub read_bad : (r : Result (List DebPackage) FileBad) (b : FileBad) → deb.as_read r ≡ Err (Bad b) → r ≡ Err b
+pub read_bad : {A : Type 0} (r : Result A FileBad) (b : FileBad) → as_read r ≡ Err (Bad b) → r ≡ Err b
 read_bad (Ok y) b h = cc
 read_bad (Err e) b h = cc
-
-pub installed_ok : (r : Result (List ApkPackage) FileBad) (x : List ApkPackage) → apk.as_read r ≡ Ok x → r ≡ Ok x
-installed_ok (Ok y) x h = cc
-installed_ok (Err e) x h = cc
-
-pub installed_bad : (r : Result (List ApkPackage) FileBad) (b : FileBad) → apk.as_read r ≡ Err (Bad b) → r ≡ Err b
-installed_bad (Ok y) b h = cc
-installed_bad (Err e) b h = cc

@@ -2,7 +2,7 @@
 -- in the order of their paths. A root is given as the list of its entries in the order of paths.
 --
 -- os-release(5): `/etc/os-release` takes precedence over `/usr/lib/os-release`.
-use Rattle.std.specs.Prelude.{ℕ, Bool, true, false, ◌&&◌, if◌then◌else◌, List, Option, Some, None}
+use Rattle.std.specs.Prelude.{Bool, true, false, ◌&&◌, if◌then◌else◌, List, Option, Some, None}
 use Rattle.std.specs.List.{filter_map, list_any}
 use Rattle.cv_base.specs.Path.{Path}
 use Rattle.cv_base.specs.Place.{place_of}

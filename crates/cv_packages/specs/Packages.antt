@@ -9,7 +9,6 @@ use Rattle.cv_base.specs.Path.{Path}
 use Rattle.cv_base.specs.Results.{◌>>=◌}
 use Rattle.cv_base.specs.declared.fault.FileBad.{FileBad}
 use Rattle.cv_base.specs.declared.package.Package.{Package}
-use Rattle.cv_base.specs.declared.package.PackageKind.{PackageKind}
 use Rattle.cv_base.specs.declared.package.PackageKind.TheVariants as kind
 use Rattle.cv_base.specs.declared.places.Place.{Place}
 use Rattle.cv_base.specs.declared.places.Place.TheVariants.{Status, StatusFolder, Installed, UsrInstalled, Os, UsrOs, Npm}

@@ -167,7 +167,7 @@ fn read_deb(
     }
 }
 
-#[tactic(auto, using(crate::proofs::Walks::installed_ok, crate::proofs::Walks::installed_bad))]
+#[tactic(auto, using(crate::proofs::Walks::read_ok, crate::proofs::Walks::read_bad))]
 fn read_apk(
     alloc: Global,
     os: Option<&OsName>,

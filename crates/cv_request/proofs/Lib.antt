@@ -1,3 +1,2 @@
 pub mod Few
 pub mod Layers
-pub mod Utf8

@@ -9,7 +9,7 @@ use std::alloc::Global;
 use std::str;
 
 /// Reads a line as JSON.
-#[tactic(auto, using(crate::proofs::Utf8::text_found, crate::proofs::Utf8::none_found))]
+#[tactic(auto, using(cv_seq::proofs::Utf8::text_found, cv_seq::proofs::Utf8::none_found))]
 pub fn read_json(alloc: Global, line: &[u8]) -> Result<Value, RequestError>
     ensures { Gives is_request_memory view result (json_or line.now) }
 {

@@ -9,10 +9,7 @@ use Rattle.cv_base.specs.declared.tree.TreeEntry.{TreeEntry}
 use Rattle.cv_overlay.specs.Lay.{node_at, root_of}
 use Rattle.cv_overlay.specs.Merge.{AreRising}
 use Rattle.cv_overlay.specs.declared.fault.ImageFault.{ImageFault}
-use Rattle.cv_packages.specs.Packages.{is_packages_memory}
-use Rattle.cv_packages.specs.declared.error.PackagesError.{PackagesError}
-use Rattle.cv_packages.specs.declared.error.PackagesError.TheVariants as refused
-use Rattle.cv_scan.specs.Layers.{IsBadTree, image_error, is_image_memory, refusing}
+use Rattle.cv_scan.specs.Layers.{is_image_memory, refusing}
 use Rattle.cv_scan.specs.Scan.{Scanned, as_scanned, bad_tree_from, root_findings, scan, scan_good, scan_layers, scan_of, trees_from, with_tree}
 use Rattle.cv_scan.specs.declared.error.ImageError.{ImageError}
 use Rattle.cv_scan.specs.declared.error.ImageError.TheVariants as error

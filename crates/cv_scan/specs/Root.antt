@@ -1,7 +1,7 @@
 -- The entries of an image's root: what its layers make of it, laid in order with the base first (OCI image specification
 -- 1.1, layer.md, "Applying Changesets"), as the list of all its paths with their nodes, in the order of paths (cvwatch's own
 -- form).
-use Rattle.std.specs.Prelude.{List, [], ◌∷◌, map, Option}
+use Rattle.std.specs.Prelude.{List, map, Option}
 use Rattle.std.specs.List.{filter_map, flat_map}
 use Rattle.std.specs.Option.{option_map}
 use Rattle.cv_base.specs.InOrder.{in_order}

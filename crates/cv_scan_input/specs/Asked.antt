@@ -9,6 +9,7 @@ use Rattle.cv_base.specs.Results.{◌>>=◌}
 use Rattle.cv_base.specs.Texts.{is_cons}
 use Rattle.cv_base.specs.declared.advisory.Advisory.{Advisory}
 use Rattle.cv_base.specs.declared.manifest.Manifest.{Manifest}
+use Rattle.cv_base.specs.Lines.{numbered}
 use Rattle.cv_io.specs.Lines.{Reading, Stop, Finished, LongLine, LongInput, reading_of}
 use Rattle.cv_osv.specs.Record.{advisory_of}
 use Rattle.cv_osv.specs.Records.{RecordRead, fault_behind}
@@ -22,16 +23,6 @@ abbrev pub input_of : List ℕ → Reading
 input_of bytes = reading_of 67108864 (2 ^ 36) bytes
 
 -- ---- lines
-
--- a line and its number
-pub record NumberedLine : Type 0 where
-  pub number : ℕ
-  pub text : List ℕ
-
--- lines that are numbered on from here
-abbrev pub numbered : ℕ → List (List ℕ) → List NumberedLine
-numbered number [] = []
-numbered number (line ∷ lines) = record { number = number; text = line } ∷ numbered (number + 1) lines
 
 -- the manifest that a line is, or why it is none
 abbrev pub manifest_or : List ℕ → Result Manifest RequestError

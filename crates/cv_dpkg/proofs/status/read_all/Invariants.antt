@@ -1,6 +1,7 @@
 use Rattle.std.proofs.Common.{◌≡◌, ◌≤◌, ◌+◌, Some, [], length}
 use Rattle.std.specs.Option.{option_map}
-use Rattle.cv_dpkg.specs.Held.{left_len, state_view}
+use Rattle.cv_base.specs.Cuts.{left_len}
+use Rattle.cv_dpkg.specs.Held.{state_view}
 use Rattle.cv_dpkg.specs.Reader.{lines_left, opening, told}
 use Rattle.cv_dpkg.proofs.status.read_all.Given as goal
 

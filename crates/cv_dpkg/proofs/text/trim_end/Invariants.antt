@@ -1,5 +1,5 @@
 use Rattle.std.proofs.Common.{◌≡◌, length}
-use Rattle.cv_dpkg.specs.Lines.{is_blank, without_end}
+use Rattle.cv_base.specs.Cuts.{is_blank, without_end}
 use Rattle.cv_dpkg.proofs.text.trim_end.Given as goal
 
 -- what was dropped is dropped from the whole

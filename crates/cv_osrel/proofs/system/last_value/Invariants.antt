@@ -1,6 +1,7 @@
 use Rattle.std.proofs.Common.{◌≡◌}
 use Rattle.std.specs.Option.{option_map, option_or}
-use Rattle.cv_osrel.specs.Held.{left_len, lines_left}
+use Rattle.cv_base.specs.Cuts.{left_len}
+use Rattle.cv_osrel.specs.Held.{lines_left}
 use Rattle.cv_osrel.specs.System.{last_value, lines}
 use Rattle.cv_osrel.proofs.system.last_value.Given as goal
 
