@@ -8,7 +8,7 @@ use thiserror::Error;
 pub enum RequestWhat {
     #[error("the line is no object")]
     NotObject,
-    #[error("`lane` is no number from 1 to 8")]
+    #[error("`lane` is no whole number from 0 to 7")]
     BadLane,
     #[error("`do` is no known word")]
     BadDo,
