@@ -1,7 +1,7 @@
 -- What the input of a scan asks (cvwatch's own): line 1 is the manifest of an image, and each further line that is not
 -- empty is one record of the OSV schema. Lines are numbered from 1, empty ones included, and records from 0. The first
 -- refused line is the answer; where no line is refused, how the reading stops; and else the manifest and the records.
-use Rattle.std.specs.Prelude.{ℕ, ◌+◌, ◌^◌, nat_le, if◌then◌else◌, List, [], ◌∷◌, ◌++◌, length, map, Option, Some, None, option_map, option_and_then, Result, Ok, Err}
+use Rattle.std.specs.Prelude.{ℕ, ◌^◌, nat_le, if◌then◌else◌, List, [], ◌∷◌, ◌++◌, length, map, Option, Some, None, option_map, option_and_then, Result, Ok, Err}
 use Rattle.std.specs.List.{filter, flat_map}
 use Rattle.std.specs.Option.{option_to_list}
 use Rattle.std.specs.Result.{result_ok}

@@ -15,7 +15,7 @@ pub record IsPiece (bytes : List ℕ) : Type 0 where
 abbrev pub ended_lines : List (List ℕ) → List ℕ
 ended_lines pieces = flat_map (λ piece. piece ++ LF ∷ []) pieces
 
--- what is asked is a refusal
+-- a line is refused. That there is no line yet is no refusal: the source failed before its end
 abbrev pub is_refusal : Asked → Bool
 is_refusal NoLine = false
 is_refusal (RefusedAt number error) = true

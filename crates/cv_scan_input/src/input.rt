@@ -7,6 +7,7 @@ ghost use Rattle.cv_scan_input.specs.Answer.{IsAsked, is_input_fault, refuses_me
 ghost use Rattle.cv_scan_input.specs.Asked.{asked_by, input_of};
 ghost use Rattle.cv_scan_input.specs.Left.{Begins, asked_left};
 ghost use Rattle.cv_scan_input.specs.Passed.{Begun, UnrefusedBehind};
+ghost use Rattle.cv_scan_input.specs.Taken.{IsTaken, IsTakenFrom, IsTakenTo, IsTakenWithin};
 ghost use Rattle.cv_scan_input.specs.Unrefused.{Unrefused};
 ghost use Rattle.cv_scan_input.specs.declared.error.InputError.TheVariants as error;
 
@@ -32,9 +33,11 @@ pub struct ScanInput {
 
 /// Reads the input of a scan to its end, or up to the first line that is refused. Of the records one at a time stands
 /// in memory as JSON.
-#[tactic(auto, using(crate::proofs::Passed::begun_then, crate::proofs::Passed::begun_new))]
+#[tactic(auto, using(crate::proofs::Passed::begun_then, crate::proofs::Passed::begun_new, crate::proofs::Taken::none_taken, crate::proofs::Taken::first_taken, crate::proofs::Taken::first_taken_up, crate::proofs::Taken::rest_taken, crate::proofs::Taken::rest_taken_up))]
 pub fn read_scan_input<S: Source>(alloc: Global, input: &mut S) -> Result<ScanInput, InputError>
     ensures told { IfSome (S.left input.old) (λ bytes. IsAsked (asked_by (input_of bytes)) result) }
+    ensures limit { IsTakenWithin (2 ^ 36) (S.left input.old) (S.left input.new) }
+    ensures taken { IsErrOf result error.InputTooLong → IsTaken (2 ^ 36) (S.left input.old) (S.left input.new) }
     ensures unrefused { IsErrOf result error.ReadFault → Unrefused (S.left input.old) (S.left input.new) }
     ensures ended { OnOk result (IsAtEnd (S.left input.new)) }
     ensures empty { IsErrOf result error.NoManifest → IsAtEnd (S.left input.new) }
@@ -50,7 +53,7 @@ pub fn read_scan_input<S: Source>(alloc: Global, input: &mut S) -> Result<ScanIn
 }
 
 /// Reads line 1.
-#[tactic(auto, using(crate::proofs::Going::begins_more, crate::proofs::Going::begins_refused, crate::proofs::Going::begins_end, crate::proofs::Going::begins_stopped, crate::proofs::Passed::begun_line, crate::proofs::Passed::begun_failed))]
+#[tactic(auto, using(crate::proofs::Going::begins_more, crate::proofs::Going::begins_refused, crate::proofs::Going::begins_end, crate::proofs::Going::begins_stopped, crate::proofs::Passed::begun_line, crate::proofs::Passed::begun_failed, crate::proofs::Taken::taken_next, crate::proofs::Taken::taken_within, crate::proofs::Taken::taken_up))]
 fn read_first<S: Source>(
     alloc: Global,
     reader: &mut LineReader,
@@ -59,13 +62,18 @@ fn read_first<S: Source>(
     requires going { reader.old.spent ≡ false }
     requires seen { reader.old.ended ≡ true → IsAtEnd (S.left input.old) }
     requires limit { reader.old.max_line ≡ 67108864 }
+    requires inputs { reader.old.max_input ≡ 2 ^ 36 }
     requires room { room_of reader.old ≤ 2 ^ 36 }
     ensures told { Begins (reading reader.old (S.left input.old)) (reading reader.new (S.left input.new)) result }
+    ensures taken { IsTakenTo reader.old.taken reader.new.taken (S.left input.old) (S.left input.new) }
+    ensures within { reader.new.taken ≤ 2 ^ 36 }
+    ensures full { IsErrOf result error.InputTooLong → reader.new.taken ≡ 2 ^ 36 }
     ensures begun { IfOk result (λ manifest. reader.new.ended ≡ false →
         Begun manifest reader.old reader.new (S.left input.old) (S.left input.new)) }
     ensures unrefused { IsErrOf result error.ReadFault → Unrefused (ungiven reader.old (S.left input.old)) (S.left input.new) }
     ensures going { OnOk result (reader.new.spent ≡ false) }
     ensures limit { OnOk result (reader.new.max_line ≡ 67108864) }
+    ensures inputs { OnOk result (reader.new.max_input ≡ 2 ^ 36) }
     ensures seen { reader.new.ended ≡ true → IsAtEnd (S.left input.new) }
     ensures empty { IsErrOf result error.NoManifest → IsAtEnd (S.left input.new) }
     ensures named { IfErr result (λ refused. refuses_memory refused ≡ false) }
@@ -80,7 +88,7 @@ fn read_first<S: Source>(
 }
 
 /// Reads the lines behind line 1, to the end.
-#[tactic(auto, using(crate::proofs::Going::going_first, crate::proofs::Going::going_more, crate::proofs::Going::going_refused, crate::proofs::Going::going_end, crate::proofs::Going::going_stopped, crate::proofs::Passed::passed_first, crate::proofs::Passed::passed_more, crate::proofs::Passed::passed_failed))]
+#[tactic(auto, using(crate::proofs::Going::going_first, crate::proofs::Going::going_more, crate::proofs::Going::going_refused, crate::proofs::Going::going_end, crate::proofs::Going::going_stopped, crate::proofs::Passed::passed_first, crate::proofs::Passed::passed_more, crate::proofs::Passed::passed_failed, crate::proofs::Taken::taken_first, crate::proofs::Taken::taken_more, crate::proofs::Taken::taken_within, crate::proofs::Taken::taken_up))]
 fn read_rest<S: Source>(
     alloc: Global,
     mut reader: LineReader,
@@ -90,9 +98,12 @@ fn read_rest<S: Source>(
     requires going { reader.spent ≡ false }
     requires seen { reader.ended ≡ true → IsAtEnd (S.left input.old) }
     requires limit { reader.max_line ≡ 67108864 }
+    requires inputs { reader.max_input ≡ 2 ^ 36 }
     requires room { room_of reader ≤ 2 ^ 36 }
     requires few { length manifest.layers ≤ 128 }
     ensures told { IfSome (reading reader (S.left input.old)) (λ rest. IsAsked (asked_left manifest [] 2 rest) result) }
+    ensures limit { IsTakenFrom reader.taken (S.left input.old) (S.left input.new) }
+    ensures taken { IsErrOf result error.InputTooLong → IsTakenTo reader.taken (2 ^ 36) (S.left input.old) (S.left input.new) }
     ensures before { IsErrOf result error.ReadFault → reader.ended ≡ false }
     ensures unrefused { IsErrOf result error.ReadFault → UnrefusedBehind manifest reader (S.left input.old) (S.left input.new) }
     ensures ended { OnOk result (IsAtEnd (S.left input.new)) }

@@ -1,5 +1,5 @@
 -- How the command `scan` ends, by what was printed.
-use Rattle.std.proofs.Common.{◌≡◌, ℕ, Bool, true, false, List, [], ◌∷◌, refl, ◌∙◌, ap, subst, inl, inr, ◌⊎◌}
+use Rattle.std.proofs.Common.{◌≡◌, ℕ, ◌^◌, Bool, true, false, List, [], ◌∷◌, refl, ◌∙◌, ap, subst, inl, inr, ◌⊎◌}
 use Rattle.std.specs.Prelude.{IfSome, Option, Some, None, Ok, Err, if◌then◌else◌, codes}
 use Rattle.cv_base.specs.Texts.{same}
 use Rattle.cv_base.specs.declared.«package».PackageKind.{PackageKind}
@@ -10,6 +10,7 @@ use Rattle.cv_request.specs.Line.{is_request_memory}
 use Rattle.cv_request.specs.declared.error.RequestError.{RequestError}
 use Rattle.cv_scan_input.specs.Answer.{IsRefusedBy, refuses_memory}
 use Rattle.cv_scan_input.specs.Asked.{Asked, RefusedAt, Scan, asked_by, input_of}
+use Rattle.cv_scan_input.specs.Taken.{IsTakenWithin}
 use Rattle.cv_scan_input.specs.declared.error.InputError.{InputError}
 use Rattle.cv_scan_input.specs.declared.error.InputError.TheVariants as input
 use Rattle.cv_transcript.specs.Refusal.{refusal_text}
@@ -37,7 +38,8 @@ is_scan_end status.LineTooLong = false
 is_scan_end status.InputTooLong = false
 
 module _ (trees : Trees) (before now : World) where
-  memory_ends : (ended : Status) → ended ≡ status.NoMemory → IsIdle before now ⊎ (IsCutShort before now ⊎ IsAnswered trees before now status.NoMemory) → ScanEnds trees before now ended
+  memory_ends : (ended : Status) → ended ≡ status.NoMemory
+      → (IsTakenWithin (2 ^ 36) before.left now.left × IsIdle before now) ⊎ (IsCutShort before now ⊎ IsAnswered trees before now status.NoMemory) → ScanEnds trees before now ended
   memory_ends status.NoMemory e h = h
   memory_ends status.Done e h = cc
   memory_ends status.Usage e h = cc
@@ -87,11 +89,12 @@ module _ (trees : Trees) (before now : World) where
       printed_ends (Scan manifest records) printed ended h (at, tells) (tells_end manifest records printed tells) p
 
   -- a line of the input is refused
-  pub refused_ends : (number : ℕ) (error : RequestError) (ended : Status) → IsAskedBy before.left (RefusedAt number error) → is_request_memory error ≡ false → now.counts ≡ before.counts
+  pub refused_ends : (number : ℕ) (error : RequestError) (ended : Status) → IsAskedBy before.left (RefusedAt number error) → is_request_memory error ≡ false
+      → IsTakenWithin (2 ^ 36) before.left now.left → now.counts ≡ before.counts
       → RefusalPrinted (refusal_text number error) before.written now.written ended → ScanEnds trees before now ended
-  refused_ends number error ended h named unasked (inl (e, p)) = memory_ends ended e (inl (p, unasked))
-  refused_ends number error ended h named unasked (inr p) =
-      printed_ends (RefusedAt number error) (record { text = refusal_text number error; ended = status.Refused }) ended h (named, unasked, refl) refl p
+  refused_ends number error ended h named taken unasked (inl (e, p)) = memory_ends ended e (inl (taken, (p, unasked)))
+  refused_ends number error ended h named taken unasked (inr p) =
+      printed_ends (RefusedAt number error) (record { text = refusal_text number error; ended = status.Refused }) ended h (named, taken, unasked, refl) refl p
 
 -- a refusal is what is asked
 pub refused_asked : (left : Option (List ℕ)) (e : InputError) (number : ℕ) (error : RequestError) → e ≡ input.Refused number error

@@ -34,8 +34,8 @@ abbrev pub feeds_of : List Advisory → List (List ℕ × List Advisory)
 feeds_of records = (codes "scan", records) ∷ []
 
 -- what came of an image with these records, by the trees that the desk's type names, where it names those of all layers,
--- and by what the desk counted: each distinct layer was listed once, or they were listed up to the one at which a fault was
--- counted
+-- and by what the desk counted: there was one listing for each distinct layer, or as many as up to the one at which a fault
+-- was counted
 abbrev pub HasOutcome : Trees → Manifest → List Advisory → Counts → Counts → Outcome → Type 0
 HasOutcome trees manifest records before now (Told scanned) =
     IfSome (stored_layers trees manifest.layers) (λ stored. scan (whole_layers stored) (feeds_of records) ≡ scanned)
@@ -47,6 +47,8 @@ HasOutcome trees manifest records before now (Failed layer) =
 abbrev pub TellsOutcome : Trees → Manifest → List Advisory → Counts → Counts → Printed → Type 0
 TellsOutcome trees manifest records before now printed =
     (outcome : Outcome) × HasOutcome trees manifest records before now outcome × (printed ≡ outcome_printed manifest.hash outcome)
+
+-- The parts of it, as the code has them.
 
 -- an answer of the code
 abbrev pub printed_of : Answer → Printed

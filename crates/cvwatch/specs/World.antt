@@ -11,6 +11,7 @@ pub record Counts : Type 0 where
   pub listings : ℕ
   pub faults : ℕ
 
+-- the counts of a desk, by what tells them
 abbrev pub counts_of : {D : Type 0} → (D → ℕ) → (D → ℕ) → D → Counts
 counts_of listings faults desk = record { listings = listings desk; faults = faults desk }
 

@@ -23,9 +23,9 @@ pub fn run<S: Source, K: Sink, D: Desk>(
     requires some { 1 ≤ length desks.old.items }
     requires few { length desks.old.items ≤ 8 }
     requires room { All (λ desk. D.listings desk < 2 ^ 62) desks.old.items }
-    ensures told { RunEnds D.tree (counts_of D.listings D.faults) (map (λ word. string_bytes word) words.now)
-        (record { left = S.left input.old; written = K.contents output.old; desks = desks.old.items })
-        (record { left = S.left input.new; written = K.contents output.new; desks = desks.new.items })
+    ensures told { RunEnds D.tree S.left (counts_of D.listings D.faults) (map (λ word. string_bytes word) words.now)
+        (record { input = input.old; written = K.contents output.old; desks = desks.old.items })
+        (record { input = input.new; written = K.contents output.new; desks = desks.new.items })
         result }
     ensures read_fault { result ≡ Status.ReadFault → Rose (S.faults input.old) (S.faults input.new) }
     ensures write_fault { result ≡ Status.WriteFault → Rose (K.faults output.old) (K.faults output.new) }

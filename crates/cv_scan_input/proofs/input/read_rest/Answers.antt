@@ -1,8 +1,9 @@
--- A refused line is what the whole asks.
+-- A refused line is what the whole asks, and the last call took within the limit too.
 use Rattle.std.specs.Prelude.{Ok}
-use Rattle.std.proofs.Common.{subst}
+use Rattle.std.proofs.Common.{◌∙◌, subst}
 use Rattle.cv_io.specs.Reader.{Reads, reading}
 use Rattle.cv_scan_input.proofs.Going.{going_refused, going_handed}
+use Rattle.cv_scan_input.proofs.Taken.{taken_from}
 use Rattle.cv_scan_input.proofs.input.read_rest.Goals as goal
 
 pub returns-in_err-records-clause-told : goal.returns-in_err-records-clause-told
@@ -17,3 +18,18 @@ returns-in_err-records-clause-told g c =
     (going_refused c.args.manifest whole before now c.loop-records.records _ c.in-Text.text error c.loop-records.invariant.told read
     (rw (← c.as_slice.ensures) c.in_err-records.ensures.told))
     c.from_residual-in_err-records.ensures.1
+
+pub returns-in_err-text-clause-limit : goal.returns-in_err-text-clause-limit
+returns-in_err-text-clause-limit g c =
+    taken_from c.args.reader.taken c.loop-records.reader c.next.new.self _ _ _ c.next.result c.loop-records.invariant.taken c.next.ensures.step
+    (c.next.ensures.max_input ∙ c.loop-records.invariant.inputs)
+
+pub returns-in_err-records-clause-limit : goal.returns-in_err-records-clause-limit
+returns-in_err-records-clause-limit g c =
+    taken_from c.args.reader.taken c.loop-records.reader c.next.new.self _ _ _ c.next.result c.loop-records.invariant.taken c.next.ensures.step
+    (c.next.ensures.max_input ∙ c.loop-records.invariant.inputs)
+
+pub returns-clause-limit : goal.returns-clause-limit
+returns-clause-limit g c =
+    taken_from c.args.reader.taken c.loop-records.reader c.next.new.self _ _ _ c.next.result c.loop-records.invariant.taken c.next.ensures.step
+    (c.next.ensures.max_input ∙ c.loop-records.invariant.inputs)

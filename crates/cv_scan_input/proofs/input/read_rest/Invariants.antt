@@ -3,6 +3,7 @@ use Rattle.std.specs.Prelude.{◌≡◌, ◌+◌, ◌^◌, ◌≤◌, true, fals
 use Rattle.std.specs.Io.KnownBytes.{IsAtEnd}
 use Rattle.cv_io.specs.Reader.{reading, room_of}
 use Rattle.cv_scan_input.specs.Passed.{Passed}
+use Rattle.cv_scan_input.specs.Taken.{IsTakenTo}
 use Rattle.cv_scan_input.proofs.Going.{Going}
 use Rattle.cv_scan_input.proofs.input.read_rest.Given as goal
 
@@ -13,6 +14,8 @@ invariant-loop-records g l = record {
   before : l.reader.ended ≡ false → l.fn.reader.ended ≡ false;
   passed : l.reader.ended ≡ false → Passed l.fn.manifest l.fn.reader l.reader l.records (l.number + 1) (g.S.Source.left l.fn.input) (g.S.Source.left l.input);
   limit : l.reader.max_line ≡ 67108864;
+  inputs : l.reader.max_input ≡ 2 ^ 36;
+  taken : IsTakenTo l.fn.reader.taken l.reader.taken (g.S.Source.left l.fn.input) (g.S.Source.left l.input);
   seen : l.reader.ended ≡ true → IsAtEnd (g.S.Source.left l.input);
   room : l.number + room_of l.reader ≤ 2 ^ 36 + 1;
   later : g.S.Source.faults l.fn.input ≤ g.S.Source.faults l.input;

@@ -9,4 +9,5 @@ returns-in-Ok-clause-told g c =
 pub returns-in-Err-Refused-clause-told : goal.returns-in-Err-Refused-clause-told
 returns-in-Err-Refused-clause-told g c =
     refused_ends g.D.Desk.tree _ _ c.in-Err-Refused.line c.in-Err-Refused.error c.print_refusal.result
-    (refused_asked _ c.in-Err-Refused.field-0 c.in-Err-Refused.line c.in-Err-Refused.error c.in-Err-Refused.field-0-is c.in-Err-Refused.ensures.told) (refused_named c.in-Err-Refused.field-0 c.in-Err-Refused.line c.in-Err-Refused.error c.in-Err-Refused.field-0-is c.in-Err-Refused.ensures.named) refl c.print_refusal.ensures.told
+    (refused_asked _ c.in-Err-Refused.field-0 c.in-Err-Refused.line c.in-Err-Refused.error c.in-Err-Refused.field-0-is c.in-Err-Refused.ensures.told) (refused_named c.in-Err-Refused.field-0 c.in-Err-Refused.line c.in-Err-Refused.error c.in-Err-Refused.field-0-is c.in-Err-Refused.ensures.named)
+    c.in-Err-Refused.ensures.limit refl c.print_refusal.ensures.told
