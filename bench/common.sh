@@ -14,6 +14,17 @@ build() {
     echo "$top/crates/$1/out/$1"
 }
 
+# scans the image of the folder of examples/ that $1 stands in: its layers lie under layers/sha256, and input.jsonl has its manifest
+# and the OSV records. The answer is to be expected.jsonl, which is then printed
+example() {
+    local program
+    program=$(build cvwatch)
+    cd "$(dirname "$1")" || return
+    "$program" scan <input.jsonl | diff - expected.jsonl
+    echo "the answer is expected.jsonl:"
+    cat expected.jsonl
+}
+
 # makes the folder of bench/data/ for what the script NAME generates, and says where it is
 data_folder() { mkdir -p "$top/bench/data/$1" && echo "$top/bench/data/$1"; }
 

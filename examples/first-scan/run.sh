@@ -1,9 +1,8 @@
 #!/usr/bin/env bash
-# Builds cvwatch with the kit's `rt` and scans the image of this folder: its one layer lies under layers/sha256, and the lines of
-# input.jsonl are the image's manifest and one OSV record. The first build proves what it builds, which takes some minutes.
+# Builds cvwatch with the kit's `rt`, scans the image of this folder, and compares what it answers with expected.jsonl. The image
+# has one layer under layers/sha256, a Debian 12 with two packages, libssl3 (built from openssl 3.0.9-1) and zlib1g. The one record,
+# DSA-5532-1 (openssl), finds libssl3 below its fix.
 set -euo pipefail
 # shellcheck source=bench/common.sh
 . "$(dirname "$0")/../../bench/common.sh"
-program=$(build cvwatch)
-cd "$(dirname "$0")"
-exec "$program" scan <input.jsonl
+example "$0"

@@ -14,7 +14,4 @@
 set -euo pipefail
 # shellcheck source=bench/common.sh
 . "$(dirname "$0")/../../bench/common.sh"
-program=$(build cvwatch)
-cd "$(dirname "$0")"
-"$program" scan <input.jsonl | diff - expected.jsonl
-echo "the answer is expected.jsonl"
+example "$0"

@@ -4,9 +4,9 @@ use Rattle.std.specs.List.{flat_map, onto_first, slice_split}
 use Rattle.std.specs.Option.{is_some, option_map_or, option_or}
 use Rattle.cv_base.specs.Answer.{Gives}
 use Rattle.cv_base.specs.Cuts.{is_lf, split_left}
-use Rattle.cv_base.specs.Lines.{Line, answer, as_read, at, bad, given, is_gap, last_number, line_faults, numbered}
+use Rattle.cv_base.specs.Lines.{Line, as_read, at, bad, given, is_gap, last_number, line_faults, numbered}
 use Rattle.cv_base.specs.Reading.{is_read_memory}
-use Rattle.cv_base.specs.Results.{◌>>=◌}
+use Rattle.cv_base.specs.Results.{◌>>=◌, or_first_fault}
 use Rattle.cv_base.specs.declared.fault.FileBad.{FileBad}
 use Rattle.cv_base.specs.declared.fault.ReadBad.{ReadBad}
 use Rattle.cv_base.specs.declared.fault.ReadBad.TheVariants.{Bad, NoMemory}
@@ -69,33 +69,33 @@ line_given p l = entry_given l.number (facts p) (entry_of l.text) ∙ ap (given 
 
 -- the answer, where these packages are left
 abbrev pub answer_all : List ApkPackage → List (List Line) → Result (List ApkPackage) ReadBad
-answer_all found ps = as_read (answer (flat_map faults ps) (found ++ flat_map packages ps))
+answer_all found ps = as_read (or_first_fault (flat_map faults ps) (found ++ flat_map packages ps))
 
 -- the end of a package
 ended_by : (n : ℕ) (w : Option What) (found made : List ApkPackage) (fs : List FileBad) (rest : List ApkPackage)
-    → as_read (answer (at n w ++ fs) (found ++ (made ++ rest))) ≡ (given n w (found ++ made) >>= λ o. as_read (answer fs (o ++ rest)))
-ended_by n None found made fs rest = ap (λ r. as_read (answer fs r)) (sym (append_assoc found made rest))
+    → as_read (or_first_fault (at n w ++ fs) (found ++ (made ++ rest))) ≡ (given n w (found ++ made) >>= λ o. as_read (or_first_fault fs (o ++ rest)))
+ended_by n None found made fs rest = ap (λ r. as_read (or_first_fault fs r)) (sym (append_assoc found made rest))
 ended_by n (Some w) found made fs rest = refl
 
 ended : (o : Option ℕ) (n : ℕ) (w : Option What) (found made : List ApkPackage) (fs : List FileBad) (rest : List ApkPackage)
-    → as_read (answer (option_map_or (λ m. at m w) (option_or o (Some n)) [] ++ fs) (found ++ (made ++ rest)))
-    ≡ (option_map_or (λ m. given m w (found ++ made)) (option_or o (Some n)) (Ok found) >>= λ o. as_read (answer fs (o ++ rest)))
+    → as_read (or_first_fault (option_map_or (λ m. at m w) (option_or o (Some n)) [] ++ fs) (found ++ (made ++ rest)))
+    ≡ (option_map_or (λ m. given m w (found ++ made)) (option_or o (Some n)) (Ok found) >>= λ o. as_read (or_first_fault fs (o ++ rest)))
 ended None n w found made fs rest = ended_by n w found made fs rest
 ended (Some m) n w found made fs rest = ended_by m w found made fs rest
 
-closed : (found : List ApkPackage) (p : List Line) (ps : List (List Line)) → as_read (answer (end_faults p ++ flat_map faults ps) (found ++ (packages p ++ flat_map packages ps)))
+closed : (found : List ApkPackage) (p : List Line) (ps : List (List Line)) → as_read (or_first_fault (end_faults p ++ flat_map faults ps) (found ++ (packages p ++ flat_map packages ps)))
     ≡ (close (state_of p) found >>= λ o. answer_all o ps)
 closed found [] ps = refl
 closed found (l ∷ ls) ps = ended (last_number ls) l.number (whole_fault (facts (l ∷ ls))) found (packages (l ∷ ls)) (flat_map faults ps) (flat_map packages ps)
 
 answer_cons : (found : List ApkPackage) (p : List Line) (ps : List (List Line)) → line_faults line_fault [] p ≡ [] → answer_all found (p ∷ ps) ≡ (close (state_of p) found >>= λ o. answer_all o ps)
-answer_cons found p ps e = ap (λ r. as_read (answer ((r ++ end_faults p) ++ flat_map faults ps) (found ++ (packages p ++ flat_map packages ps)))) e ∙ closed found p ps
+answer_cons found p ps e = ap (λ r. as_read (or_first_fault ((r ++ end_faults p) ++ flat_map faults ps) (found ++ (packages p ++ flat_map packages ps)))) e ∙ closed found p ps
 
 -- a line with a fault
 faulty : (found : List ApkPackage) (p : List Line) (l : Line) (h : List Line) (ps : List (List Line)) (w : What) → line_faults line_fault [] p ≡ [] → line_fault p l.text ≡ Some w
     → answer_all found ((p ++ l ∷ h) ∷ ps) ≡ bad l.number w
 faulty found p l h ps w e f =
-    ap (λ r. as_read (answer ((r ++ end_faults (p ++ l ∷ h)) ++ flat_map faults ps) (found ++ (packages (p ++ l ∷ h) ++ flat_map packages ps))))
+    ap (λ r. as_read (or_first_fault ((r ++ end_faults (p ++ l ∷ h)) ++ flat_map faults ps) (found ++ (packages (p ++ l ∷ h) ++ flat_map packages ps))))
     (first_fault line_fault p l h e ∙ ap (λ o. at l.number o ++ line_faults line_fault (p ++ l ∷ []) h) f)
 
 -- The whole file.

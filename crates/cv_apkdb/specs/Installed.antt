@@ -7,12 +7,13 @@
 use Rattle.std.specs.Prelude.{ℕ, ◌&&◌, if◌then◌else◌, not, List, [], ◌++◌, Option, None, Some, Result}
 use Rattle.std.specs.List.{flat_map, list_all}
 use Rattle.std.specs.Option.{is_some, option_map_or}
-use Rattle.cv_base.specs.Lines.{Line, answer, at, last_number, line_faults, unless}
+use Rattle.cv_base.specs.Lines.{Line, at, last_number, line_faults, unless}
 use Rattle.cv_base.specs.Printing.{is_printing}
 use Rattle.cv_base.specs.Texts.{is_nil}
 use Rattle.cv_base.specs.declared.fault.FileBad.{FileBad}
 use Rattle.cv_base.specs.declared.fault.What.{What}
 use Rattle.cv_base.specs.declared.fault.What.TheVariants.{NoColon, NoVersion, BadValue, NoName, Repeated}
+use Rattle.cv_base.specs.Results.{or_first_fault}
 use Rattle.cv_apkdb.specs.Lines.{blocks}
 use Rattle.cv_apkdb.specs.Package.{Entry, Facts, entry_of, facts, package_in, value_in}
 use Rattle.cv_apkdb.specs.declared.letter.Letter.{Letter}
@@ -54,4 +55,4 @@ packages p = package_in (facts p)
 
 -- the packages of an installed database, or its first fault
 abbrev pub installed : List ℕ → Result (List ApkPackage) FileBad
-installed bytes = answer (flat_map faults (blocks bytes)) (flat_map packages (blocks bytes))
+installed bytes = or_first_fault (flat_map faults (blocks bytes)) (flat_map packages (blocks bytes))

@@ -61,10 +61,7 @@ impl<'a> Block<'a> {
         };
         match self.facts.fault() {
             Some(what) => Err(ReadBad::at(line, what)),
-            None => match self.facts.push_package(alloc, found) {
-                Ok(()) => Ok(()),
-                Err(_) => Err(ReadBad::NoMemory),
-            },
+            None => Ok(self.facts.push_package(alloc, found)?),
         }
     }
 }

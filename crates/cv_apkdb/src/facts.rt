@@ -122,10 +122,7 @@ impl<'a> Facts<'a> {
             return Ok(());
         };
         let package = self.package(alloc, name, version)?;
-        match found.push(package) {
-            Ok(()) => Ok(()),
-            Err(_) => Err(NoMemory),
-        }
+        Ok(found.push(package)?)
     }
 
     fn package(&self, alloc: Global, name: &str, version: &str) -> Result<ApkPackage, NoMemory>

@@ -20,10 +20,7 @@ use std::alloc::Global;
 pub fn read_installed(alloc: Global, bytes: &[u8]) -> Result<Seq<ApkPackage>, ReadBad>
     ensures { Gives is_read_memory (λ packages. packages) result (as_read (installed bytes.now)) }
 {
-    match read_all(alloc, bytes) {
-        Ok(found) => Ok(Seq::of(found)),
-        Err(bad) => Err(bad),
-    }
+    Ok(Seq::of(read_all(alloc, bytes)?))
 }
 
 #[tactic(auto, using(crate::proofs::Told::stopped))]

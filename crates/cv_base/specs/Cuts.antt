@@ -20,7 +20,7 @@ is_blank byte = byte == 32 || byte == 9
 abbrev pub is_dropped : ℕ → Bool
 is_dropped byte = is_blank byte || byte == 13
 
--- a byte before what is left of the text behind it
+-- a byte before what is kept behind it; it is dropped where nothing is kept behind it and it is to be dropped
 abbrev pub keep : (ℕ → Bool) → ℕ → List ℕ → List ℕ
 keep drops x [] = if drops x then [] else x ∷ []
 keep drops x (y ∷ ys) = x ∷ y ∷ ys
@@ -29,6 +29,8 @@ keep drops x (y ∷ ys) = x ∷ y ∷ ys
 abbrev pub without_end : (ℕ → Bool) → List ℕ → List ℕ
 without_end drops [] = []
 without_end drops (x ∷ xs) = keep drops x (without_end drops xs)
+
+-- The parts of it, as the code has them.
 
 -- the parts of what is left of a text, which lie between the bytes that pass
 abbrev pub parts_left : (ℕ → Bool) → Option (List ℕ) → List (List ℕ)

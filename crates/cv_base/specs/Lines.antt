@@ -41,11 +41,6 @@ abbrev pub line_faults : (List Line → List ℕ → Option What) → List Line 
 line_faults fault before [] = []
 line_faults fault before (l ∷ ls) = at l.number (fault before l.text) ++ line_faults fault (before ++ l ∷ []) ls
 
--- the first fault of a list, and without one what was found
-abbrev pub answer : {A : Type 0} → List FileBad → A → Result A FileBad
-answer [] found = Ok found
-answer (f ∷ fs) found = Err f
-
 -- the answer of a call that reads
 abbrev pub as_read : {A : Type 0} → Result A FileBad → Result A ReadBad
 as_read (Ok x) = Ok x

@@ -1,5 +1,5 @@
 -- Reading by parts, of which the first refusal is the answer (cvwatch's own).
-use Rattle.std.specs.Prelude.{List, ◌++◌, Result, Ok, Err}
+use Rattle.std.specs.Prelude.{List, [], ◌∷◌, ◌++◌, Result, Ok, Err}
 
 -- what is read, and then what follows from it; the first refusal is the answer
 infixl 10 ◌>>=◌
@@ -11,3 +11,8 @@ abbrev pub ◌>>=◌ : {A B E : Type 0} → Result A E → (A → Result B E) �
 abbrev pub onto : {A E : Type 0} → List A → Result (List A) E → Result (List A) E
 onto front (Ok xs) = Ok (front ++ xs)
 onto front (Err e) = Err e
+
+-- what was found, or the first fault of a list
+abbrev pub or_first_fault : {A E : Type 0} → List E → A → Result A E
+or_first_fault [] found = Ok found
+or_first_fault (e ∷ es) found = Err e

@@ -17,7 +17,7 @@ abbrev pub is_nil : {A : Type 0} → List A → Bool
 is_nil [] = true
 is_nil (x ∷ xs) = false
 
--- a text that is not empty
+-- the text, where it is not empty
 abbrev pub filled : List ℕ → Option (List ℕ)
 filled [] = None
 filled (x ∷ xs) = Some (x ∷ xs)

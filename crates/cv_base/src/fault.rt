@@ -1,18 +1,32 @@
+ghost use Rattle.std.specs.Prelude.{◌≡◌};
+ghost use Rattle.cv_base.specs.declared.fault.ReadBad.TheVariants as error;
+
 use cv_seq::NoMemory;
 use thiserror::Error;
 
-/// What is wrong with a line of a package database.
+/// What is wrong with a line of a package database: dpkg's status (deb-control(5), dpkg(1)) or apk's installed database.
 #[derive(Clone, Copy, Debug, PartialEq, Eq, PartialOrd, Ord)]
 pub enum What {
+    /// No colon stands behind the name of a field.
     NoColon,
+    /// The name of a field is empty, begins with `#` or `-`, or has a byte that does not print.
     BadField,
+    /// The field stood in this paragraph before.
     RepeatedField,
+    /// A line that goes on with a field is the first one of its paragraph.
     LooseContinuation,
+    /// A paragraph has no field Package. Told at its last line.
     NoPackage,
+    /// A package that counts has no version. Told at its last line.
     NoVersion,
+    /// A status is not three words of which the third is a known state, or is wanting. What is wanting is told at the
+    /// last line of the paragraph.
     BadStatus,
+    /// A value that is used is empty, has a byte that does not print, or is not of its form.
     BadValue,
+    /// A package of apk has no name. Told at its last line.
     NoName,
+    /// The letter stood in this package of apk before.
     Repeated,
 }
 
@@ -32,10 +46,16 @@ pub enum ReadBad {
     NoMemory,
 }
 
-impl From<NoMemory> for ReadBad {
-    ghost use Rattle.std.specs.Prelude.{◌≡◌};
-    ghost use Rattle.cv_base.specs.declared.fault.ReadBad.TheVariants as error;
+impl ReadBad {
+    /// The fault of a line.
+    pub fn at(line: u64, what: What) -> ReadBad
+        ensures { result ≡ error.Bad (record { line = line; what = what }) }
+    {
+        ReadBad::Bad(FileBad { line, what })
+    }
+}
 
+impl From<NoMemory> for ReadBad {
     ghost from_gives = { λ _ e. e ≡ error.NoMemory };
 
     fn from(_error: NoMemory) -> ReadBad {

@@ -8,7 +8,6 @@
 
 mod advisory;
 mod ascii;
-mod bad_line;
 mod digest;
 mod fault;
 mod finding;

@@ -1,11 +1,18 @@
 /// A place of a package file.
 #[derive(Clone, Copy, Debug, PartialEq, Eq, PartialOrd, Ord)]
 pub enum Place {
+    /// `var/lib/dpkg/status` (dpkg(1), FILES).
     Status,
+    /// A file of `var/lib/dpkg/status.d/` that is no list of checksums, as images without dpkg have them.
     StatusFolder,
+    /// `lib/apk/db/installed` (apk(8)).
     Installed,
+    /// `usr/lib/apk/db/installed` (apk(8)).
     UsrInstalled,
+    /// `etc/os-release` (os-release(5)).
     Os,
+    /// `usr/lib/os-release` (os-release(5)).
     UsrOs,
+    /// The `package.json` of a package below a folder `node_modules` (npm's folders).
     Npm,
 }

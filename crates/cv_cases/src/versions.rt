@@ -16,7 +16,7 @@ fn ordering(alloc: Global, a: &str, b: &str) -> Result<Option<Ordering>, NoMemor
 }
 
 #[test]
-fn long_numbers_of_semantic_versions(rt: HostRuntime) -> Result<(), Fail> {
+fn numbers_above_64_bits_stand_in_pre_releases_alone(rt: HostRuntime) -> Result<(), Fail> {
     let alloc = rt.alloc();
     for (a, b, want) in [
         ("18446744073709551616.0.0", "1.0.0", None),

@@ -61,14 +61,16 @@ pub trait Desk {
     /// How often a layer was listed.
     ghost listings: { Self → ℕ };
 
-    /// Lists a layer's entries in order, or says that there is no such layer.
+    /// Lists a layer's entries in order; `None` says that there is no such layer. `Failed` says that what is behind the
+    /// desk failed, which is counted.
     fn list(&mut self, alloc: Global, layer: &Digest) -> Result<Option<Seq<ListEntry>>, DeskFault>
         requires room { listings self.old < 2 ^ 63 + 2 ^ 62 }
         ensures entries { IfSome (tree layer.now) (λ t. IfOk result (λ found. found ≡ option_map (map listed) t)) }
         ensures cause { CausedBy (faults self.old) (faults self.new) (is_failed result) }
         ensures counted { listings self.new ≡ listings self.old + 1 };
 
-    /// Reads a file of a layer, if it has at most `limit` bytes.
+    /// Reads a file of a layer: its bytes, if there are at most `limit` of them, and else `TooLarge`. A path at which there
+    /// is no file is `NotFile`. `Failed` says that what is behind the desk failed, which is counted.
     fn read(
         &mut self,
         alloc: Global,

@@ -13,8 +13,8 @@ use cv_base::{
 use cv_seq::{NoMemory, Seq};
 use std::alloc::Global;
 
-/// Loads a layer: lists it once, and reads its package files, up to their limit. A file that is gone in
-/// the meantime is `Other`.
+/// Loads a layer: lists it once, and reads its package files, up to their limit. A path at which the desk no longer tells
+/// a file is `Other`.
 pub fn load<D: Desk>(alloc: Global, desk: &mut D, layer: &Digest) -> Result<Option<Tree>, DeskFault>
     requires room { D.listings desk.old < 2 ^ 63 + 2 ^ 62 }
     ensures tree { IfSome (D.tree layer.now) (λ t. IfOk result (λ found. option_map (λ tree. tree.entries) found ≡ option_map (map loaded) t)) }

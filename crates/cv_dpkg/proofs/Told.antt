@@ -3,9 +3,9 @@ use Rattle.std.proofs.Common.{◌≡◌, ℕ, ◌+◌, Bool, true, false, ◌||�
 use Rattle.std.specs.Bool.{MatchBool, ⊤}
 use Rattle.std.specs.List.{flat_map, onto_first, slice_split}
 use Rattle.std.specs.Option.{is_some, option_map_or, option_or}
-use Rattle.cv_base.specs.Lines.{Line, answer, as_read, at, bad, given, is_gap, last_number, line_faults, numbered}
+use Rattle.cv_base.specs.Lines.{Line, as_read, at, bad, given, is_gap, last_number, line_faults, numbered}
 use Rattle.cv_base.specs.Reading.{is_read_memory}
-use Rattle.cv_base.specs.Results.{◌>>=◌}
+use Rattle.cv_base.specs.Results.{◌>>=◌, or_first_fault}
 use Rattle.cv_base.specs.Texts.{is_nil}
 use Rattle.cv_base.specs.declared.fault.FileBad.{FileBad}
 use Rattle.cv_base.specs.declared.fault.ReadBad.{ReadBad}
@@ -115,27 +115,27 @@ line_given p l = by (is_continuation l.text) ∙ ap (given l.number (line_fault 
 
 -- the answer, where these paragraphs are left
 abbrev pub answer_all : StatusRule → List DebPackage → List (List Line) → Result (List DebPackage) ReadBad
-answer_all rule found ps = as_read (answer (flat_map (faults rule) ps) (found ++ flat_map packages ps))
+answer_all rule found ps = as_read (or_first_fault (flat_map (faults rule) ps) (found ++ flat_map packages ps))
 
 closed_by : (w : Option What) (o : Option ℕ) (found ps : List DebPackage) → is_some o ≡ true
-    → option_map_or (λ n. given n w ps) o (Ok found) ≡ as_read (answer (option_map_or (λ n. at n w) o []) ps)
+    → option_map_or (λ n. given n w ps) o (Ok found) ≡ as_read (or_first_fault (option_map_or (λ n. at n w) o []) ps)
 closed_by w None found ps h = cc
 closed_by None (Some n) found ps h = refl
 closed_by (Some w) (Some n) found ps h = refl
 
 -- the end of a paragraph answers its own fault, or adds its package
-closed : (rule : StatusRule) (p : List Line) (found : List DebPackage) → close rule (state_of p) found ≡ as_read (answer (end_faults rule p) (found ++ packages p))
+closed : (rule : StatusRule) (p : List Line) (found : List DebPackage) → close rule (state_of p) found ≡ as_read (or_first_fault (end_faults rule p) (found ++ packages p))
 closed rule [] found = ap Ok (sym (append-nil found))
 closed rule (l ∷ ls) found = closed_by (whole_fault rule (facts (l ∷ ls))) (last_number (l ∷ ls)) found (found ++ packages (l ∷ ls)) (some_or (last_number ls) l.number)
 
-joint : (e f : List FileBad) (found q ps : List DebPackage) → as_read (answer (e ++ f) (found ++ (q ++ ps))) ≡ (as_read (answer e (found ++ q)) >>= λ o. as_read (answer f (o ++ ps)))
-joint [] f found q ps = ap (λ o. as_read (answer f o)) (sym (append_assoc found q ps))
+joint : (e f : List FileBad) (found q ps : List DebPackage) → as_read (or_first_fault (e ++ f) (found ++ (q ++ ps))) ≡ (as_read (or_first_fault e (found ++ q)) >>= λ o. as_read (or_first_fault f (o ++ ps)))
+joint [] f found q ps = ap (λ o. as_read (or_first_fault f o)) (sym (append_assoc found q ps))
 joint (x ∷ e) f found q ps = refl
 
 -- a paragraph whose lines have no fault is ended, and then the next ones are answered
 answer_cons : (rule : StatusRule) (p : List Line) (found : List DebPackage) (ps : List (List Line)) → line_faults line_fault [] p ≡ []
     → answer_all rule found (p ∷ ps) ≡ (close rule (state_of p) found >>= λ o. answer_all rule o ps)
-answer_cons rule p found ps e = ap (λ f. as_read (answer ((f ++ end_faults rule p) ++ flat_map (faults rule) ps) (found ++ (packages p ++ flat_map packages ps)))) e
+answer_cons rule p found ps e = ap (λ f. as_read (or_first_fault ((f ++ end_faults rule p) ++ flat_map (faults rule) ps) (found ++ (packages p ++ flat_map packages ps)))) e
     ∙ joint (end_faults rule p) (flat_map (faults rule) ps) found (packages p) (flat_map packages ps)
     ∙ ap (λ r. r >>= λ o. answer_all rule o ps) (sym (closed rule p found))
 
@@ -147,7 +147,7 @@ answer_end rule (Err e) = refl
 -- the first fault of a line is answered
 answer_bad : (rule : StatusRule) (p : List Line) (found : List DebPackage) (ps : List (List Line)) (f : FileBad) (fs : List FileBad) → line_faults line_fault [] p ≡ f ∷ fs
     → answer_all rule found (p ∷ ps) ≡ Err (Bad f)
-answer_bad rule p found ps f fs e = ap (λ g. as_read (answer ((g ++ end_faults rule p) ++ flat_map (faults rule) ps) (found ++ (packages p ++ flat_map packages ps)))) e
+answer_bad rule p found ps f fs e = ap (λ g. as_read (or_first_fault ((g ++ end_faults rule p) ++ flat_map (faults rule) ps) (found ++ (packages p ++ flat_map packages ps)))) e
 
 -- a line without a fault leaves the lines so far without one
 none_yet : (p : List Line) (l : Line) → line_faults line_fault [] p ≡ [] → line_fault p l.text ≡ None → line_faults line_fault [] (p ++ l ∷ []) ≡ []

@@ -7,12 +7,13 @@
 use Rattle.std.specs.Prelude.{ℕ, Bool, true, false, ◌&&◌, ◌||◌, if◌then◌else◌, not, List, [], ◌∷◌, ◌++◌, codes, Option, None, Some, Result, unwrap_or}
 use Rattle.std.specs.List.{flat_map, list_all, list_any}
 use Rattle.std.specs.Option.{is_some, option_map_or}
-use Rattle.cv_base.specs.Lines.{Line, answer, at, last_number, line_faults, unless}
+use Rattle.cv_base.specs.Lines.{Line, at, last_number, line_faults, unless}
 use Rattle.cv_base.specs.Printing.{is_printing}
 use Rattle.cv_base.specs.Texts.{is_nil, same}
 use Rattle.cv_base.specs.declared.fault.FileBad.{FileBad}
 use Rattle.cv_base.specs.declared.fault.What.{What}
 use Rattle.cv_base.specs.declared.fault.What.TheVariants.{NoColon, BadField, RepeatedField, LooseContinuation, NoPackage, NoVersion, BadStatus, BadValue}
+use Rattle.cv_base.specs.Results.{or_first_fault}
 use Rattle.cv_dpkg.specs.Fields.{Facts, Pair, field_of, is_name, join, named, nothing, origin_of, same_name, state_of, told_by}
 use Rattle.cv_dpkg.specs.Lines.{is_continuation, paragraphs}
 use Rattle.cv_dpkg.specs.declared.field.Field.{Field}
@@ -112,4 +113,4 @@ packages p = package_in (facts p)
 
 -- the packages of a status file, or its first fault
 abbrev pub status : List ℕ → StatusRule → Result (List DebPackage) FileBad
-status bytes rule = answer (flat_map (faults rule) (paragraphs bytes)) (flat_map packages (paragraphs bytes))
+status bytes rule = or_first_fault (flat_map (faults rule) (paragraphs bytes)) (flat_map packages (paragraphs bytes))

@@ -1,5 +1,5 @@
 -- Runs of decimal digits of any length, compared as the numbers that they write: a version's numbers have no greatest one
--- (Debian Policy 5.6.12; apk's versions and PEP 440 alike).
+-- (Debian Policy 5.6.12; apk's versions alike).
 use Rattle.std.specs.Prelude.{ℕ, Bool, List, [], ◌∷◌, length, if◌then◌else◌, ◌==◌}
 use Rattle.std.specs.Char.{is_ascii_digit}
 use Rattle.std.specs.declared.cmp.Ordering.{Ordering}

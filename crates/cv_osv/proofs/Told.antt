@@ -4,12 +4,12 @@ use Rattle.std.specs.List.{position_from}
 use Rattle.std.specs.Option.{option_to_list}
 use Rattle.std.proofs.Common.{◌∙◌, sym, ap, append_assoc, le-ltb, lt-ltb}
 use Rattle.std.proofs.lemmas.List.{append-nil, length-map, map-append}
-use Rattle.cv_base.specs.Results.{◌>>=◌}
+use Rattle.cv_base.specs.Results.{◌>>=◌, or_first_fault}
 use Rattle.cv_base.specs.Texts.{same}
 use Rattle.cv_base.specs.declared.advisory.Advisory.{Advisory}
 use Rattle.cv_osv.specs.Json.{items_list}
 use Rattle.cv_osv.specs.Record.{advisory_of}
-use Rattle.cv_osv.specs.Records.{RecordRead, fault_behind, faults_behind, has_id, listed, one_more, reads_of, records_in, records_of, unless}
+use Rattle.cv_osv.specs.Records.{RecordRead, fault_behind, faults_behind, has_id, listed, one_more, reads_of, records_in, records_of}
 use Rattle.cv_osv.specs.Told.{index_of, pushed, put, told}
 use Rattle.cv_osv.specs.declared.error.OsvError.{OsvError}
 use Rattle.cv_osv.specs.declared.error.OsvError.TheVariants.{BadAdvisory, DuplicateId, NotList, TooMany}
@@ -28,7 +28,7 @@ count_is records = length-map records (λ here. Ok here)
 
 -- a record put behind others, by the index of its id
 put_by : (records : List Advisory) (here : Advisory) (found : Option ℕ)
-    → pushed records here found ≡ unless (option_to_list (option_map (λ first. DuplicateId first (length records)) found)) (records ++ here ∷ [])
+    → pushed records here found ≡ or_first_fault (option_to_list (option_map (λ first. DuplicateId first (length records)) found)) (records ++ here ∷ [])
 put_by records here None = refl
 put_by records here (Some first) = refl
 
@@ -37,30 +37,30 @@ pub put_is : (records : List Advisory) (reading : RecordRead) → put records re
 put_is records (Err what) = ap (λ n. Err (BadAdvisory n what)) (sym (count_is records))
 put_is records (Ok here) =
     put_by records here (index_of here.id records)
-    ∙ ap (λ n. unless (option_to_list (option_map (λ first. DuplicateId first n) (index_of here.id records))) (records ++ here ∷ [])) (sym (count_is records))
-    ∙ ap (λ found. unless (option_to_list (option_map (λ first. DuplicateId first (length (reads_of records))) found)) (records ++ here ∷ [])) (sym (index_is here.id 0 records))
+    ∙ ap (λ n. or_first_fault (option_to_list (option_map (λ first. DuplicateId first n) (index_of here.id records))) (records ++ here ∷ [])) (sym (count_is records))
+    ∙ ap (λ found. or_first_fault (option_to_list (option_map (λ first. DuplicateId first (length (reads_of records))) found)) (records ++ here ∷ [])) (sym (index_is here.id 0 records))
 
 -- a record comes behind the others, or something stands at its index
 told_at : (records : List Advisory) (here : Advisory) (rest : List RecordRead) (ds : List Data) (fault : Option OsvError)
-    → ((more : List Advisory) → told more ds ≡ unless (faults_behind (reads_of more) rest) (more ++ records_in rest))
-    → (unless (option_to_list fault) (records ++ here ∷ []) >>= λ more. told more ds)
-    ≡ unless (option_to_list fault ++ faults_behind (reads_of records ++ Ok here ∷ []) rest) (records ++ here ∷ records_in rest)
+    → ((more : List Advisory) → told more ds ≡ or_first_fault (faults_behind (reads_of more) rest) (more ++ records_in rest))
+    → (or_first_fault (option_to_list fault) (records ++ here ∷ []) >>= λ more. told more ds)
+    ≡ or_first_fault (option_to_list fault ++ faults_behind (reads_of records ++ Ok here ∷ []) rest) (records ++ here ∷ records_in rest)
 told_at records here rest ds (Some bad) left = refl
 told_at records here rest ds None left =
     left (records ++ here ∷ [])
-    ∙ ap (λ before. unless (faults_behind before rest) ((records ++ here ∷ []) ++ records_in rest)) (map-append (λ x. Ok x) records (here ∷ []))
-    ∙ ap (λ all. unless (faults_behind (reads_of records ++ Ok here ∷ []) rest) all) (append_assoc records (here ∷ []) (records_in rest))
+    ∙ ap (λ before. or_first_fault (faults_behind before rest) ((records ++ here ∷ []) ++ records_in rest)) (map-append (λ x. Ok x) records (here ∷ []))
+    ∙ ap (λ all. or_first_fault (faults_behind (reads_of records ++ Ok here ∷ []) rest) all) (append_assoc records (here ∷ []) (records_in rest))
 
 -- one more reading
 told_by : (records : List Advisory) (reading : RecordRead) (rest : List RecordRead) (ds : List Data)
-    → ((more : List Advisory) → told more ds ≡ unless (faults_behind (reads_of more) rest) (more ++ records_in rest))
+    → ((more : List Advisory) → told more ds ≡ or_first_fault (faults_behind (reads_of more) rest) (more ++ records_in rest))
     → (one_more records reading >>= λ more. told more ds)
-    ≡ unless (faults_behind (reads_of records) (reading ∷ rest)) (records ++ records_in (reading ∷ rest))
+    ≡ or_first_fault (faults_behind (reads_of records) (reading ∷ rest)) (records ++ records_in (reading ∷ rest))
 told_by records (Err what) rest ds left = refl
 told_by records (Ok here) rest ds left = told_at records here rest ds (fault_behind (reads_of records) (Ok here)) left
 
 -- the values that are left, behind the records
-told_is : (ds : List Data) (records : List Advisory) → told records ds ≡ unless (faults_behind (reads_of records) (map advisory_of ds)) (records ++ records_in (map advisory_of ds))
+told_is : (ds : List Data) (records : List Advisory) → told records ds ≡ or_first_fault (faults_behind (reads_of records) (map advisory_of ds)) (records ++ records_in (map advisory_of ds))
 told_is [] records = ap Ok (sym (append-nil records))
 told_is (d ∷ ds) records = told_by records (advisory_of d) (map advisory_of ds) ds (told_is ds)
 

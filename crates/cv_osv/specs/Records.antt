@@ -5,7 +5,7 @@ use Rattle.std.specs.Prelude.{ℕ, Bool, false, nat_lt, if◌then◌else◌, Lis
 use Rattle.std.specs.List.{IsDistinct, flat_map, position_from}
 use Rattle.std.specs.Option.{ok_or, option_to_list}
 use Rattle.std.specs.Result.{result_ok}
-use Rattle.cv_base.specs.Results.{◌>>=◌}
+use Rattle.cv_base.specs.Results.{◌>>=◌, or_first_fault}
 use Rattle.cv_base.specs.Texts.{same}
 use Rattle.cv_base.specs.declared.advisory.Advisory.{Advisory}
 use Rattle.cv_osv.specs.Json.{items_list}
@@ -39,14 +39,9 @@ faults_behind before (r ∷ rs) = option_to_list (fault_behind before r) ++ faul
 abbrev pub records_in : List RecordRead → List Advisory
 records_in rs = flat_map (λ r. option_to_list (result_ok r)) rs
 
--- a value, or the first of the faults
-abbrev pub unless : {A E : Type 0} → List E → A → Result A E
-unless [] x = Ok x
-unless (e ∷ es) x = Err e
-
 -- the records of a list, where nothing stands at any index
 abbrev pub listed : List Data → Result (List Advisory) OsvError
-listed ds = unless (faults_behind [] (map advisory_of ds)) (records_in (map advisory_of ds))
+listed ds = or_first_fault (faults_behind [] (map advisory_of ds)) (records_in (map advisory_of ds))
 
 -- a list of at most 200,000 records
 unfoldable pub records_of : Data → Result (List Advisory) OsvError
@@ -66,4 +61,4 @@ reads_of records = map (λ here. Ok here) records
 
 -- one more reading behind records: what stands at its index, or else the records with its own behind them
 abbrev pub one_more : List Advisory → RecordRead → Result (List Advisory) OsvError
-one_more records reading = unless (option_to_list (fault_behind (reads_of records) reading)) (records ++ option_to_list (result_ok reading))
+one_more records reading = or_first_fault (option_to_list (fault_behind (reads_of records) reading)) (records ++ option_to_list (result_ok reading))

@@ -11,8 +11,9 @@ use cv_base::{Advisory, Seq};
 use serde_json::Value;
 use std::alloc::Global;
 
-/// Reads a list of records, each as `read_advisory` does, with distinct ids. What stands at the first index at which
-/// something stands is told: the record's own fault, or an id that an earlier record has.
+/// Reads a list of records, each as `read_advisory` does, with distinct ids. `NotList` where the value is no list, and
+/// `TooMany` where it has more than 200,000 items; then the first fault of a record, or the first id that an earlier record
+/// has, whichever stands first.
 #[tactic(auto, using(crate::proofs::Told::records_none, crate::proofs::Told::records_over, crate::proofs::Told::records_told))]
 pub fn read_records(alloc: Global, value: &Value) -> Result<Seq<Advisory>, OsvError>
     ensures value { Gives is_osv_memory (λ records. records) result (records_of (view value.now)) }

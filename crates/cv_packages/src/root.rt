@@ -22,7 +22,7 @@ use cv_seq::{NoMemory, Seq};
 use std::alloc::Global;
 
 /// Reads the packages of a root, whose entries stand in the order of their paths. The first package file that is above
-/// the limit, or that its reader refuses, is told. No file at a place of package files may be left unread.
+/// the limit, or that its reader refuses, is told. A file there that was left unread is told as too large.
 #[tactic(auto, using(crate::proofs::Walks::whole_root))]
 pub fn read_packages(alloc: Global, entries: &[TreeEntry]) -> Result<Seq<Package>, PackagesError>
     ensures { Gives is_packages_memory (λ packages. packages) result (packages entries.now) }

@@ -8,7 +8,7 @@ use serde_json::Value;
 use std::alloc::Global;
 use std::str;
 
-/// Reads a line as JSON.
+/// Reads a line as JSON (RFC 8259, as serde_json reads it). `BadJson` where it is not UTF-8 or no JSON.
 #[tactic(auto, using(cv_seq::proofs::Utf8::text_found, cv_seq::proofs::Utf8::none_found))]
 pub fn read_json(alloc: Global, line: &[u8]) -> Result<Value, RequestError>
     ensures { Gives is_request_memory view result (json_or line.now) }

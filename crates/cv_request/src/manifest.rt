@@ -14,8 +14,9 @@ use std::alloc::Global;
 /// The most layers of an image.
 const MAX_LAYERS: usize = 128;
 
-/// Reads the manifest of an image: its digest, and those of its layers. `uri`, `headers` and unknown members
-/// are passed over.
+/// Reads the manifest of an image, as Clair v4 takes it: its digest, and those of its 1 to 128 layers. `uri`, `headers`
+/// and unknown members are passed over. What is refused first is told, in this order: the object, `hash`, the list
+/// `layers`, the count of its items, and each of them from the first on.
 #[tactic(auto, unfolding(crate::specs::Manifest::manifest_of), using(crate::proofs::Layers::manifest_fails))]
 pub fn read_manifest(alloc: Global, value: &Value) -> Result<Manifest, RequestError>
     ensures told { Gives is_request_memory (λ manifest. manifest) result (refusing (manifest_of (view value.now))) }

@@ -34,7 +34,7 @@ stored_layers trees (layer ∷ layers) = with_stored (trees layer) (stored_layer
 abbrev pub whole_layers : List (Option (List Stored)) → List (Option (List TreeEntry))
 whole_layers layers = map (option_map (map whole)) layers
 
--- the layer that a desk failed at: the distinct layer of this number, where so many were listed before it
+-- the layer that a desk failed at is the k-th of these, from 0, where the listings rose by k + 1
 abbrev pub IsFailed : List (List ℕ) → ℕ → ℕ → List ℕ → Type 0
 IsFailed layers before now layer = (k : ℕ) × (now ≡ before + k + 1) × (slice_get layers k ≡ Some layer)
 
@@ -45,13 +45,22 @@ IsScanned (Err (error.Bad bad)) scanned = scanned ≡ Err bad
 IsScanned (Err (error.Desk layer)) scanned = Unit {0}
 IsScanned (Err error.NoMemory) scanned = Unit {0}
 
--- how often layers were listed: each distinct one once where the image was scanned, up to the one that the desk failed at,
--- and no more than each distinct one once where memory was wanting
+-- how many listings there were: one for each distinct layer where the image was scanned, as many as up to the one that the
+-- desk failed at, and no more than distinct layers where memory was wanting
 abbrev pub AreListed : List (List ℕ) → ℕ → ℕ → Result (List Finding) ImageError → Type 0
 AreListed layers before now (Ok found) = now ≡ before + length (distinct layers)
 AreListed layers before now (Err (error.Bad bad)) = now ≡ before + length (distinct layers)
 AreListed layers before now (Err (error.Desk layer)) = IsFailed (distinct layers) before now layer
 AreListed layers before now (Err error.NoMemory) = now ≤ before + length (distinct layers)
+
+-- the answer is that the desk failed
+abbrev pub is_desk_fault : {A : Type 0} → Result A ImageError → Bool
+is_desk_fault (Ok x) = false
+is_desk_fault (Err (error.Bad bad)) = false
+is_desk_fault (Err (error.Desk layer)) = true
+is_desk_fault (Err error.NoMemory) = false
+
+-- The parts of it, as the code has them.
 
 -- a layer was loaded as the desk's type names it, where it tells
 abbrev pub IsTold : (List ℕ → Option (Option (List Stored))) → LoadedLayer → Type 0
@@ -96,10 +105,3 @@ IsBadTree wanted error.NoMemory = Unit {0}
 abbrev pub refusing : {A : Type 0} → Result A ImageFault → Result A ImageError
 refusing (Ok x) = Ok x
 refusing (Err bad) = Err (error.Bad bad)
-
--- the answer is that the desk failed
-abbrev pub is_desk_fault : {A : Type 0} → Result A ImageError → Bool
-is_desk_fault (Ok x) = false
-is_desk_fault (Err (error.Bad bad)) = false
-is_desk_fault (Err (error.Desk layer)) = true
-is_desk_fault (Err error.NoMemory) = false

@@ -8,6 +8,7 @@
 mod error;
 mod find;
 mod index;
+mod laws;
 mod layers;
 mod order;
 mod scan;
@@ -15,5 +16,6 @@ mod scan;
 pub use cv_packages::PackagesError as ScanError;
 pub use error::ImageError;
 pub use find::find_all;
+pub use laws::root_laws;
 pub use order::in_order;
 pub use scan::{scan_image, scan_root};

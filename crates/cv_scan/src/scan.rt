@@ -18,7 +18,9 @@ use cv_seq::Seq;
 use std::alloc::Global;
 
 /// Scans an image: loads each distinct layer once, in the order of the image, and finds what the records of the feed say of
-/// the packages of its root. Layers are given with the base first, and numbered from 0.
+/// the packages of its root. Layers are given with the base first, and numbered from 0. `Bad` comes where all layers were
+/// loaded and the image cannot be scanned: a layer is not there, a tree is not good, or a package file is refused. `Desk`
+/// names the layer that the desk failed at, and `NoMemory` says that memory was wanting; neither says a thing of the image.
 #[tactic(auto, using(crate::proofs::Scanned::failed_told, crate::proofs::Scanned::failed_listed, crate::proofs::Scanned::listed_then))]
 pub fn scan_image<D: Desk>(
     alloc: Global,

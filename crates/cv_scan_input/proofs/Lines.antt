@@ -4,12 +4,12 @@ use Rattle.std.specs.Option.{ok_or, option_to_list}
 use Rattle.std.specs.Result.{result_ok}
 use Rattle.std.proofs.Common.{◌∙◌, sym, ap, subst, append_assoc}
 use Rattle.std.proofs.lemmas.List.{length-map, map-append}
-use Rattle.cv_base.specs.Results.{◌>>=◌}
+use Rattle.cv_base.specs.Results.{◌>>=◌, or_first_fault}
 use Rattle.cv_base.specs.declared.advisory.Advisory.{Advisory}
 use Rattle.cv_base.specs.declared.manifest.Manifest.{Manifest}
 use Rattle.cv_io.specs.Lines.{Reading, Stop, line_then}
 use Rattle.cv_osv.specs.Record.{advisory_of}
-use Rattle.cv_osv.specs.Records.{RecordRead, fault_behind, one_more, reads_of, unless}
+use Rattle.cv_osv.specs.Records.{RecordRead, fault_behind, one_more, reads_of}
 use Rattle.cv_osv.specs.declared.error.OsvError.{OsvError}
 use Rattle.cv_osv.specs.declared.error.RecordWhat.{RecordWhat}
 use Rattle.cv_request.specs.Line.{json_of, requested, requesting}
@@ -40,7 +40,7 @@ then_lines manifest stop number lines (Err error) = RefusedAt number error
 -- a record behind others, or what stands at its index
 new_record : (manifest : Manifest) (stop : Stop) (number : ℕ) (lines : List RecordLine) (records : List Advisory) (here : Advisory) (is_full : Bool) (fault : Option OsvError)
     → with_line manifest stop number lines records (Some (Ok here)) (cond is_full (Some TooManyAdvisories) (option_map requested fault))
-    ≡ then_lines manifest stop number lines (cond is_full (Err TooManyAdvisories) (requesting (unless (option_to_list fault) (records ++ here ∷ []))))
+    ≡ then_lines manifest stop number lines (cond is_full (Err TooManyAdvisories) (requesting (or_first_fault (option_to_list fault) (records ++ here ∷ []))))
 new_record manifest stop number lines records here true fault = refl
 new_record manifest stop number lines records here false (Some bad) = refl
 new_record manifest stop number lines records here false None =

@@ -3,7 +3,7 @@
 //!
 //! ```text
 //! let names: Seq<Text> = Seq::of(vec![in alloc; Text::of(alloc, "curl")?]?);
-//! let shared = names.as_slice()[0].share();
+//! let copy = names.as_slice()[0].clone()?;
 //! ```
 #![tactic(auto)]
 

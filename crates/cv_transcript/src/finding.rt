@@ -4,7 +4,7 @@ ghost use Rattle.serde_json.specs.View.{view};
 ghost use Rattle.cv_transcript.specs.Finding.{finding_data, findings_data, fixed_data, kind_text};
 
 use crate::object::Object;
-use cv_base::{Finding, NoMemory, Package, PackageKind, Text};
+use cv_base::{Finding, NoMemory, PackageKind, Text};
 use serde_json::Value;
 use std::alloc::Global;
 
@@ -23,7 +23,7 @@ pub fn findings_value(alloc: Global, findings: &[Finding]) -> Result<Value, NoMe
 pub fn finding_value(alloc: Global, finding: &Finding) -> Result<Value, NoMemory>
     ensures { IfOk result (λ value. view value ≡ finding_data finding.now) }
 {
-    let package: &Package = &finding.package;
+    let package = &finding.package;
     Ok(
         Object::new(alloc)
             .text(alloc, "advisory", finding.advisory.as_str())?

@@ -1,11 +1,11 @@
 ghost use Rattle.std.specs.Prelude.{◌≡◌, IfOk, string_bytes};
 ghost use Rattle.serde_json.specs.View.{view};
+ghost use Rattle.cv_transcript.specs.Scan.{line_data, refused_text};
 ghost use Rattle.cv_transcript.specs.Refusal.{bad_advisory_data, bad_layer_data, bad_request_data, duplicate_data, named_data, no_manifest_text, refusal_data, refusal_text};
 
 use crate::line::line_of;
 use crate::names::{record_name, request_name};
 use crate::object::Object;
-use crate::scan::{line_value, refused_line};
 use cv_base::NoMemory;
 use cv_osv::RecordWhat;
 use cv_request::{RequestError, RequestWhat};
@@ -26,6 +26,26 @@ pub fn no_manifest_line(alloc: Global) -> Result<String, NoMemory>
     ensures { IfOk result (λ text. string_bytes text ≡ no_manifest_text) }
 {
     refused_line(alloc, 1, "no_manifest")
+}
+
+/// The line of a refusal by a word alone: `{"line":1,"refused":"no_manifest"}`. Lines are numbered from 1.
+#[tactic(auto, unfolding(crate::specs::Scan::refused_text))]
+fn refused_line(alloc: Global, line: u64, word: &str) -> Result<String, NoMemory>
+    ensures { IfOk result (λ text. string_bytes text ≡ refused_text line word.now) }
+{
+    let value = line_value(alloc, line, word)?;
+    line_of(alloc, &value)
+}
+
+fn line_value(alloc: Global, line: u64, word: &str) -> Result<Value, NoMemory>
+    ensures { IfOk result (λ value. view value ≡ line_data line word.now) }
+{
+    Ok(
+        Object::new(alloc)
+            .value(alloc, "line", Value::from(line))?
+            .text(alloc, "refused", word)?
+            .done(),
+    )
 }
 
 fn refusal_value(alloc: Global, line: u64, error: &RequestError) -> Result<Value, NoMemory>

@@ -1,5 +1,5 @@
 ghost use Rattle.std.specs.Prelude.{◌≡◌, IfOk, string_bytes};
-ghost use Rattle.cv_transcript.specs.Scan.{desk_fault_text, good_data, good_text, layer_data, line_data, refused_text};
+ghost use Rattle.cv_transcript.specs.Scan.{desk_fault_text, good_data, good_text, layer_data};
 ghost use Rattle.serde_json.specs.View.{view};
 
 use crate::finding::findings_value;
@@ -26,26 +26,6 @@ fn good_value(alloc: Global, image: &Digest, findings: &[Finding]) -> Result<Val
             .value(alloc, "findings", findings_value(alloc, findings)?)?
             .text(alloc, "image", image.text(alloc)?.as_str())?
             .text(alloc, "reply", "good")?
-            .done(),
-    )
-}
-
-/// The line of a refusal by a word alone: `{"line":1,"refused":"no_manifest"}`. Lines are numbered from 1.
-#[tactic(auto, unfolding(crate::specs::Scan::refused_text))]
-pub(crate) fn refused_line(alloc: Global, line: u64, word: &str) -> Result<String, NoMemory>
-    ensures { IfOk result (λ text. string_bytes text ≡ refused_text line word.now) }
-{
-    let value = line_value(alloc, line, word)?;
-    line_of(alloc, &value)
-}
-
-pub(crate) fn line_value(alloc: Global, line: u64, word: &str) -> Result<Value, NoMemory>
-    ensures { IfOk result (λ value. view value ≡ line_data line word.now) }
-{
-    Ok(
-        Object::new(alloc)
-            .value(alloc, "line", Value::from(line))?
-            .text(alloc, "refused", word)?
             .done(),
     )
 }

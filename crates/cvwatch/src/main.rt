@@ -1,7 +1,7 @@
 //! Tells which container images hold packages with known vulnerabilities.
 //!
 //! ```text
-//! cvwatch scan < examples/first-scan/input.jsonl
+//! cd examples/first-scan && cvwatch scan < input.jsonl
 //! ```
 #![tactic(auto)]
 

@@ -51,7 +51,7 @@ fn an_ordinary_package_is_read(rt: HostRuntime) -> Result<(), Fail> {
 }
 
 #[test]
-fn files_with_one_package(rt: HostRuntime) -> Result<(), Fail> {
+fn used_letters_are_read_in_any_order_and_others_ignored(rt: HostRuntime) -> Result<(), Fail> {
     let alloc = rt.alloc();
     for (text, want) in [
         (

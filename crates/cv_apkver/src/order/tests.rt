@@ -61,7 +61,7 @@ const EQUAL: [(&str, &str); 12] = [
 ];
 
 #[test]
-fn orders_by_every_part(rt: HostRuntime) -> Result<(), Fail> {
+fn versions_compare_by_numbers_letter_suffixes_and_build(rt: HostRuntime) -> Result<(), Fail> {
     for (i, a) in SUFFIXES.iter().enumerate() {
         for (j, b) in SUFFIXES.iter().enumerate() {
             assert_eq!(rt;

@@ -103,7 +103,7 @@ fn a_package_that_is_not_installed_needs_no_version(rt: HostRuntime) -> Result<(
 }
 
 #[test]
-fn texts_that_tell_one_package(rt: HostRuntime) -> Result<(), Fail> {
+fn used_fields_are_read_and_what_is_not_installed_ignored(rt: HostRuntime) -> Result<(), Fail> {
     let alloc = rt.alloc();
     let texts = [
         // Names in any case, CRs at the ends of lines, blanks around values, several empty lines, no LF at the end.

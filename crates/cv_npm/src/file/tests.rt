@@ -2,7 +2,7 @@ use super::*;
 use std::test::Fail;
 
 #[test]
-fn packages_are_read(rt: HostRuntime) -> Result<(), Fail> {
+fn name_and_version_are_read(rt: HostRuntime) -> Result<(), Fail> {
     let alloc = rt.alloc();
     for (text, name, version) in [
         ("{\"name\":\"x\",\"version\":\"1.0.0\"}", "x", "1.0.0"),

@@ -20,7 +20,7 @@ HOME_URL=\"https://www.debian.org/\"
 ";
 
 #[test]
-fn systems_are_read(rt: HostRuntime) -> Result<(), Fail> {
+fn the_id_and_version_are_read_and_bad_lines_passed_over(rt: HostRuntime) -> Result<(), Fail> {
     let alloc = rt.alloc();
     for (text, id, version) in [
         (DEBIAN, "debian", Some("12")),

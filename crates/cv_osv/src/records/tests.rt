@@ -11,7 +11,7 @@ fn refusal_of(alloc: Global, value: &Value) -> Result<Option<OsvError>, Fail> {
 }
 
 #[test]
-fn the_first_thing_that_stands_is_told(rt: HostRuntime) -> Result<(), Fail> {
+fn the_first_fault_or_repeated_id_is_told(rt: HostRuntime) -> Result<(), Fail> {
     let alloc = rt.alloc();
     let a = "{\"id\":\"A\",\"modified\":\"m\"}";
     let b = "{\"id\":\"B\",\"modified\":\"m\"}";
