@@ -26,6 +26,7 @@ mod within;
 
 pub use answer::{FixedAt, Hit};
 pub use asking::{affects, fixed_text};
+pub use key::{family, key_name};
 pub use laws::findings_laws;
 pub use ready::{ReadyAdvisory, ReadyPackage, prepare, prepare_package};
 pub use semantic::{SemanticVersion, semantic_order_laws};

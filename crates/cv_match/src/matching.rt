@@ -1,15 +1,15 @@
-ghost use Rattle.std.specs.Prelude.{◌≡◌, ◌<◌, ◌==◌, IfSome, length, map, option_map};
-ghost use Rattle.std.specs.List.{list_any, position, position_from, slice_get};
+ghost use Rattle.std.specs.Prelude.{◌≡◌, map, option_map};
+ghost use Rattle.std.specs.List.{list_any, position_from, slice_get};
 ghost use Rattle.std.specs.Option.{option_and_then};
 ghost use Rattle.cv_base.specs.Texts.{same};
-ghost use Rattle.cv_match.specs.Affects.{family, matches_ecosystem};
+ghost use Rattle.cv_match.specs.Affects.{matches_ecosystem};
 ghost use Rattle.cv_match.specs.Hit.{entry_holds, entry_lists, fix_in, fixed_at, fixed_in, hit_listed, hit_of, hit_within, key_matches, range_holds};
 ghost use Rattle.cv_match.specs.Order.{version_cmp_of};
 ghost use Rattle.cv_match.specs.Ready.{entry_text, range_text};
 
 use crate::answer::{FixedAt, Hit};
 use crate::entry::ReadyEntry;
-use crate::key::PackageKey;
+use crate::key::{PackageKey, family};
 use crate::placed::Placed;
 use crate::version::Version;
 use crate::within::{holds, least_fix};
@@ -211,23 +211,5 @@ fn key_matches(package: &Option<PackageName>, key: &PackageKey) -> bool
 fn matches_ecosystem(of_record: &Text, of_package: &Text) -> bool
     ensures { result ≡ matches_ecosystem of_record.now of_package.now }
 {
-    *of_record == *of_package
-        || of_record.as_str().as_bytes() == family(of_package.as_str().as_bytes())
-}
-
-/// What stands before the first colon, or all.
-fn family(ecosystem: &[u8]) -> &[u8]
-    ensures { result.now ≡ family ecosystem.now }
-{
-    match colon(ecosystem) {
-        Some(place) => &ecosystem[..place],
-        None => ecosystem,
-    }
-}
-
-fn colon(ecosystem: &[u8]) -> Option<usize>
-    ensures place { result ≡ position (λ byte. byte == 58) ecosystem.now }
-    ensures bound { IfSome result (λ place. place < length ecosystem.now) }
-{
-    ecosystem.iter().position(|byte| *byte == b':')
+    *of_record == *of_package || of_record.as_str() == family(of_package.as_str())
 }

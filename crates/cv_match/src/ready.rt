@@ -8,7 +8,7 @@ ghost use Rattle.cv_match.specs.Ready.{ready_entry};
 
 use crate::answer::Hit;
 use crate::entry::{ReadyEntries, ReadyVersion};
-use crate::key::PackageKey;
+use crate::key::{PackageKey, key_name};
 use crate::matching::hit;
 use crate::reading::ready_entries;
 use crate::semantic::SemanticVersion;
@@ -61,7 +61,8 @@ impl Model for ReadyPackage {
     ghost invariant = { λ p. (version_kind p.version ≡ p.source.value.kind) × (p.key ≡ key_of p.source.value) × (version_text p.version ≡ version_in p.source.value.kind (matched_version p.source.value)) };
 }
 
-/// Reads the versions of a record once, for one kind of package.
+/// Reads the versions of a record once, for one kind of package. All entries and versions of the record are read, those of
+/// other packages too.
 pub fn prepare(
     alloc: Global,
     advisory: &Advisory,
@@ -106,13 +107,13 @@ pub fn prepare_package(alloc: Global, package: &Package) -> Result<ReadyPackage,
 fn key_of(package: &Package) -> Result<PackageKey, NoMemory>
     ensures { IfOk result (λ key. key ≡ key_of «package».now) }
 {
-    let (name, version) = match package.kind {
-        PackageKind::Deb | PackageKind::Apk => (&package.source, &package.source_version),
-        PackageKind::Npm => (&package.name, &package.version),
+    let version = match package.kind {
+        PackageKind::Deb | PackageKind::Apk => &package.source_version,
+        PackageKind::Npm => &package.version,
     };
     Ok(PackageKey {
         ecosystem: package.ecosystem.clone()?,
-        name: name.clone()?,
+        name: key_name(package).clone()?,
         version: version.clone()?,
     })
 }

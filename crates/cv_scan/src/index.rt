@@ -3,10 +3,11 @@ ghost use Rattle.std.specs.BTreeMap.{get};
 ghost use Rattle.std.specs.Ordering.{is_eq};
 ghost use Rattle.cv_base.specs.declared.advisory.Advisory.{Advisory};
 ghost use Rattle.cv_base.specs.declared.package.PackageName.{PackageName};
-ghost use Rattle.cv_match.specs.Affects.{family, key_name};
+ghost use Rattle.cv_match.specs.Affects.{family};
 ghost use Rattle.cv_scan.specs.Index.{Indexes, added, is_about, merged, name_cmp, numbers_from, numbers_in, once};
 
-use cv_base::{Advisory, NoMemory, Package, PackageKind, PackageName, Text};
+use cv_base::{Advisory, NoMemory, Package, PackageName, Text};
+use cv_match::{family, key_name};
 use std::alloc::Global;
 use std::cmp::Ordering;
 use std::collections::BTreeMap;
@@ -68,30 +69,16 @@ pub(crate) fn numbers_for(
         name: key_name(package).clone()?,
     };
     let family = PackageName {
-        ecosystem: family(alloc, &package.ecosystem)?,
+        ecosystem: family_text(alloc, &package.ecosystem)?,
         name: key_name(package).clone()?,
     };
     merge(alloc, numbers_of(index, &whole), numbers_of(index, &family))
 }
 
-/// The name under which records have a package.
-fn key_name(package: &Package) -> &Text
-    ensures { result.now ≡ key_name «package».now }
-{
-    match package.kind {
-        PackageKind::Deb | PackageKind::Apk => &package.source,
-        PackageKind::Npm => &package.name,
-    }
-}
-
-/// What stands before the first colon of an ecosystem, or all.
-fn family(alloc: Global, ecosystem: &Text) -> Result<Text, NoMemory>
+fn family_text(alloc: Global, ecosystem: &Text) -> Result<Text, NoMemory>
     ensures { IfOk result (λ text. text ≡ family ecosystem.now) }
 {
-    match ecosystem.as_str().split_once(':') {
-        Some((front, _)) => Text::of(alloc, front),
-        None => Ok(ecosystem.clone()?),
-    }
+    Text::of(alloc, family(ecosystem.as_str()))
 }
 
 /// The numbers of the records that name this package.
