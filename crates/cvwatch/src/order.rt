@@ -1,14 +1,15 @@
-ghost use Rattle.std.specs.Prelude.{◌≡◌, IfOk, map, string_bytes};
+ghost use Rattle.std.specs.Prelude.{◌≡◌, true, IfOk, map, string_bytes};
 ghost use Rattle.cv_base.specs.declared.«package».PackageKind.TheVariants as kind;
 ghost use Rattle.cv_match.specs.Order.{version_in};
 ghost use Rattle.cv_seq.specs.Cause.{Rose};
-ghost use Rattle.cvwatch.specs.Order.{compared_as, compared_printed, compared_text, kind_of, order_of, order_printed};
-ghost use Rattle.cvwatch.specs.Printed.{IsPrinted};
+ghost use Rattle.cvwatch.specs.Order.{compared_as, compared_printed, compared_status, compared_text, kind_of, order_of, order_printed};
+ghost use Rattle.cvwatch.specs.Printed.{IsPrinted, is_end};
 
+use crate::print::print;
 use crate::status::Status;
 use crate::usage::print_usage;
 use cv_base::{NoMemory, PackageKind, Text};
-use cv_io::{Sink, WriteError, write_all};
+use cv_io::Sink;
 use cv_match::SemanticVersion;
 use std::alloc::Global;
 use std::cmp::Ordering;
@@ -133,13 +134,17 @@ fn print_compared<K: Sink>(output: &mut K, compared: Compared) -> Status
     ensures told { IsPrinted (compared_printed compared) (K.contents output.old) (K.contents output.new) result }
     ensures write_fault { result ≡ Status.WriteFault → Rose (K.faults output.old) (K.faults output.new) }
 {
-    match write_all(output, compared_text(compared).as_bytes()) {
-        Ok(()) => match compared {
-            Compared::Ordered(_) => Status::Done,
-            Compared::NotFirst | Compared::NotSecond => Status::Refused,
-        },
-        Err(WriteError::WriteFault) => Status::WriteFault,
-        Err(WriteError::NoMemory) => Status::NoMemory,
+    print(output, compared_text(compared), compared_status(compared))
+}
+
+/// How the command ends once the line was printed.
+fn compared_status(compared: Compared) -> Status
+    ensures value { result ≡ compared_status compared }
+    ensures end { is_end result ≡ true }
+{
+    match compared {
+        Compared::Ordered(_) => Status::Done,
+        Compared::NotFirst | Compared::NotSecond => Status::Refused,
     }
 }
 

@@ -2,8 +2,9 @@ ghost use Rattle.std.specs.Prelude.{◌≡◌};
 ghost use Rattle.cv_seq.specs.Cause.{Rose};
 ghost use Rattle.cvwatch.specs.Printed.{IsPrinted, usage};
 
+use crate::print::print;
 use crate::status::Status;
-use cv_io::{Sink, WriteError, write_all};
+use cv_io::Sink;
 
 /// What is printed where the words are no command.
 const USAGE: &str = "usage: cvwatch serve|scan|order|drill\n";
@@ -13,9 +14,5 @@ pub fn print_usage<K: Sink>(output: &mut K) -> Status
     ensures told { IsPrinted usage (K.contents output.old) (K.contents output.new) result }
     ensures write_fault { result ≡ Status.WriteFault → Rose (K.faults output.old) (K.faults output.new) }
 {
-    match write_all(output, USAGE.as_bytes()) {
-        Ok(()) => Status::Usage,
-        Err(WriteError::WriteFault) => Status::WriteFault,
-        Err(WriteError::NoMemory) => Status::NoMemory,
-    }
+    print(output, USAGE, Status::Usage)
 }
