@@ -1,6 +1,5 @@
 -- The layers that the tests scan (cvwatch's own), as plain data.
 use Rattle.std.specs.Prelude.{ℕ, ◌==◌, if◌then◌else◌, List, [], ◌∷◌, codes, Option, Some, None}
-use Rattle.std.specs.List.{list_all}
 use Rattle.cv_base.specs.declared.tree.Kind.TheVariants as kind
 use Rattle.cv_desk.specs.Row.{Row}
 
@@ -73,7 +72,7 @@ alpine =
 abbrev pub broken : List Row
 broken = with_dpkg (status_file (codes "Package: a\nStatus: install ok installed\nnocolon\n") ∷ [])
 
--- the rows of the digest whose bytes are all this one, if it has a layer
+-- the rows of the digests that begin with this byte, if they have a layer
 abbrev pub rows_by : ℕ → Option (List Row)
 rows_by byte =
     if byte == 170 then Some (debian old_status)
@@ -89,7 +88,7 @@ rows_by byte =
     else (if byte == 119 then Some (debian short_status)
     else None))))))))))
 
--- the rows of a digest: one with two different bytes has no layer
+-- the rows of a digest, by its first byte
 abbrev pub rows_of : List ℕ → Option (List Row)
 rows_of [] = None
-rows_of (byte ∷ bytes) = if list_all (λ other. other == byte) (byte ∷ bytes) then rows_by byte else None
+rows_of (byte ∷ bytes) = rows_by byte

@@ -242,18 +242,14 @@ static MARKED: [TableEntry; 1] = [TableEntry {
     bytes: b"",
 }];
 
-/// Layers by the one byte that their digests repeat. No other digest has a layer.
+/// Layers by the first byte of their digests.
 pub struct Layers;
 
 impl Table for Layers {
     ghost rows = { rows_of };
 
     fn layer(digest: &Digest) -> Option<&'static [TableEntry]> {
-        let bytes = digest.bytes();
-        let [byte, ..] = bytes;
-        if !bytes.iter().all(|&other| other == byte) {
-            return None;
-        }
+        let [byte, ..] = digest.bytes();
         match byte {
             0xaa => Some(&OLD),
             0xbb => Some(&WITHOUT),
