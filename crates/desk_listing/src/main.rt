@@ -3,10 +3,8 @@
 //! `data/`, which no contract can.
 #![tactic(auto)]
 
-mod command;
 mod show;
 
-use crate::command::{Command, command};
 use crate::show::{show_listing, show_read, show_tree};
 use cv_base::{Digest, RelPath};
 use cv_desk::{Desk, FolderDesk, load};
@@ -19,14 +17,23 @@ fn main(rt: HostRuntime) -> io::Result<()> {
     Ok(())
 }
 
-/// Runs one command.
+/// Runs the command of a line.
 fn answer(rt: &HostRuntime, line: &str) -> io::Result<()> {
     println!(rt; "> {line}")?;
-    match command(line) {
-        None => println!(rt; "no such command"),
-        Some(Command::List(layer)) => list(rt, &layer),
-        Some(Command::Load(layer)) => load_layer(rt, &layer),
-        Some(Command::Read { layer, limit, path }) => read(rt, &layer, limit, path),
+    let (name, rest) = line.split_once(' ').unwrap_or((line, ""));
+    let (layer, arguments) = rest.split_once(' ').unwrap_or((rest, ""));
+    match Digest::read(layer.as_bytes()) {
+        Ok(layer) => run(rt, name, &layer, arguments),
+        Err(error) => println!(rt; "{error}"),
+    }
+}
+
+fn run(rt: &HostRuntime, name: &str, layer: &Digest, arguments: &str) -> io::Result<()> {
+    match name {
+        "list" => list(rt, layer),
+        "load" => load_layer(rt, layer),
+        "read" => read(rt, layer, arguments),
+        _ => println!(rt; "no such command"),
     }
 }
 
@@ -46,7 +53,12 @@ fn load_layer(rt: &HostRuntime, layer: &Digest) -> io::Result<()> {
     }
 }
 
-fn read(rt: &HostRuntime, layer: &Digest, limit: u32, path: &str) -> io::Result<()> {
+/// Reads the file of a limit and a path.
+fn read(rt: &HostRuntime, layer: &Digest, arguments: &str) -> io::Result<()> {
+    let (limit, path) = arguments.split_once(' ').unwrap_or((arguments, ""));
+    let Ok(limit) = limit.parse::<u32>() else {
+        return println!(rt; "not a limit");
+    };
     let Ok(path) = RelPath::read(rt.alloc(), path) else {
         return println!(rt; "not a path");
     };
