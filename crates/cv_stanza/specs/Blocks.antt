@@ -3,7 +3,7 @@
 --
 -- `read_blocks rules lines` takes the rules of a format and the lines of a file. It gives what the blocks are read into, in
 -- order, or the first fault of the file. It lists all faults of all blocks, by line, and stops at none.
-use Rattle.std.specs.Prelude.{ℕ, ◌+◌, Bool, List, [], ◌∷◌, ◌++◌, map, Option, None, Some, Result}
+use Rattle.std.specs.Prelude.{ℕ, ◌+◌, Bool, true, false, List, [], ◌∷◌, ◌++◌, map, Option, None, Some, Result}
 use Rattle.std.specs.List.{flat_map, slice_split}
 use Rattle.std.specs.Option.{option_map_or, option_or}
 use Rattle.cv_base.specs.Results.{or_first_fault}
@@ -39,6 +39,11 @@ blocks lines = slice_split is_gap (numbered 1 lines)
 -- the texts of lines
 abbrev pub texts : List Line → List (List ℕ)
 texts = map (λ l. l.text)
+
+-- a fault unless the test holds
+abbrev pub unless : Bool → What → Option What
+unless true w = None
+unless false w = Some w
 
 -- a fault with its line, if there is one
 abbrev pub at : ℕ → Option What → List FileBad

@@ -1,8 +1,8 @@
 //! What a format has to say of its blocks.
 ghost use Rattle.std.specs.Prelude.{◌≡◌, ℕ, List};
-ghost use Rattle.cv_base.specs.Answer.{Gives};
+ghost use Rattle.cv_base.specs.Answer.{Yields};
 ghost use Rattle.cv_stanza.specs.Blocks.{BlockRules};
-ghost use Rattle.cv_stanza.specs.code.Steps.{Agrees, BlockSteps, closed, is_line_memory};
+ghost use Rattle.cv_stanza.specs.code.Steps.{Agrees, BlockSteps, closed, line_fault};
 
 use crate::line_error::LineError;
 use std::alloc::Global;
@@ -36,7 +36,7 @@ pub trait BlockFormat<'a> {
     ghost agrees: { (format : Self) → Agrees (rules format) (steps format) kept };
 
     /// A line without what does not count at its ends.
-    fn trim(line: &[u8]) -> &[u8]
+    fn trim(line: &'a [u8]) -> &'a [u8]
         ensures { result.now ≡ trimmed line.now };
 
     /// A block of which no line was read.
@@ -45,7 +45,7 @@ pub trait BlockFormat<'a> {
 
     /// Takes one more line, which is not empty.
     fn take(&self, block: &mut Self::Block, line: &'a [u8]) -> Result<(), LineError>
-        ensures { Gives is_line_memory (λ _. state block.new) result ((steps self.now).step (state block.old) line.now) };
+        ensures { Yields line_fault (λ _. state block.new) result ((steps self.now).step (state block.old) line.now) };
 
     /// Ends a block of one line or more: adds what it is read into.
     fn close(
@@ -54,5 +54,5 @@ pub trait BlockFormat<'a> {
         block: &Self::Block,
         found: &mut Vec<Self::Item>,
     ) -> Result<(), LineError>
-        ensures { Gives is_line_memory (λ _. found.new.items) result (closed (steps self.now) (state block.now) found.old.items) };
+        ensures { Yields line_fault (λ _. found.new.items) result (closed (steps self.now) (state block.now) found.old.items) };
 }

@@ -1,5 +1,7 @@
 ghost use Rattle.std.specs.Prelude.{◌≡◌};
-ghost use Rattle.cv_stanza.specs.code.Steps.{read_error};
+ghost use Rattle.std.specs.Option.{option_map};
+ghost use Rattle.cv_base.specs.Reading.{read_fault};
+ghost use Rattle.cv_stanza.specs.code.Steps.{line_fault};
 
 use cv_base::{ReadBad, What};
 use cv_seq::NoMemory;
@@ -17,7 +19,7 @@ pub enum LineError {
 impl LineError {
     /// The error of a file with this line.
     pub fn at(self, line: u64) -> ReadBad
-        ensures { result ≡ read_error line self }
+        ensures { read_fault result ≡ option_map (λ what. record { line = line; what = what }) (line_fault self) }
     {
         match self {
             LineError::Bad(what) => ReadBad::at(line, what),
@@ -34,5 +36,16 @@ impl From<NoMemory> for LineError {
 
     fn from(_error: NoMemory) -> LineError {
         LineError::NoMemory
+    }
+}
+
+impl From<What> for LineError {
+    ghost use Rattle.std.specs.Prelude.{◌≡◌};
+    ghost use Rattle.cv_stanza.specs.declared.line_error.LineError.TheVariants as error;
+
+    ghost from_gives = { λ what e. e ≡ error.Bad what };
+
+    fn from(what: What) -> LineError {
+        LineError::Bad(what)
     }
 }

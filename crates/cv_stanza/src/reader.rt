@@ -2,12 +2,11 @@
 ghost use Rattle.std.specs.Prelude.{◌≡◌, ◌∷◌, ◌≤◌, Some, [], false, length, map};
 ghost use Rattle.std.specs.List.{slice_split};
 ghost use Rattle.std.specs.Option.{option_map};
-ghost use Rattle.cv_base.specs.Answer.{Gives};
+ghost use Rattle.cv_base.specs.Answer.{Yields};
 ghost use Rattle.cv_base.specs.Cuts.{is_lf, left_len};
-ghost use Rattle.cv_base.specs.Lines.{as_read};
-ghost use Rattle.cv_base.specs.Reading.{is_read_memory};
+ghost use Rattle.cv_base.specs.Reading.{read_fault};
 ghost use Rattle.cv_stanza.specs.Blocks.{read_blocks};
-ghost use Rattle.cv_stanza.specs.code.Steps.{at_line, ended, is_line_memory, lines_left, read_on};
+ghost use Rattle.cv_stanza.specs.code.Steps.{at_line, ended, remaining_lines, read_on};
 
 use crate::format::BlockFormat;
 use crate::line_error::LineError;
@@ -22,7 +21,7 @@ pub fn read_blocks<'a, F: BlockFormat<'a>>(
     format: &F,
     bytes: &'a [u8],
 ) -> Result<Vec<F::Item>, ReadBad>
-    ensures { Gives is_read_memory (λ items. items.items) result (as_read (read_blocks (F.rules format.now) (map F.trimmed (slice_split is_lf bytes.now)))) }
+    ensures { Yields read_fault (λ items. items.items) result (read_blocks (F.rules format.now) (map F.trimmed (slice_split is_lf bytes.now))) }
 {
     read_all(alloc, format, bytes)
 }
@@ -33,7 +32,7 @@ fn read_all<'a, F: BlockFormat<'a>>(
     format: &F,
     bytes: &'a [u8],
 ) -> Result<Vec<F::Item>, ReadBad>
-    ensures { Gives is_read_memory (λ items. items.items) result (read_on (F.steps format.now) 0 false (F.steps format.now).opening [] (lines_left F.trimmed (Some bytes.now))) }
+    ensures { Yields read_fault (λ items. items.items) result (read_on (F.steps format.now) 0 false (F.steps format.now).opening [] (remaining_lines F.trimmed (Some bytes.now))) }
 {
     let mut found = Vec::new(alloc);
     let mut block = format.open(alloc);
@@ -64,7 +63,7 @@ fn take_line<'a, F: BlockFormat<'a>>(
     line: &'a [u8],
     number: u64,
 ) -> Result<(), ReadBad>
-    ensures { Gives is_read_memory (λ _. F.state block.new) result (at_line number ((F.steps format.now).step (F.state block.old) line.now)) }
+    ensures { Yields read_fault (λ _. F.state block.new) result (at_line number ((F.steps format.now).step (F.state block.old) line.now)) }
 {
     format.take(block, line).map_err(|error| error.at(number))
 }
@@ -78,7 +77,7 @@ fn end_block<'a, F: BlockFormat<'a>>(
     block: &F::Block,
     found: &mut Vec<F::Item>,
 ) -> Result<(), ReadBad>
-    ensures { Gives is_read_memory (λ _. found.new.items) result (ended (F.steps format.now) number begun (F.state block.now) found.old.items) }
+    ensures { Yields read_fault (λ _. found.new.items) result (ended (F.steps format.now) number begun (F.state block.now) found.old.items) }
 {
     if !begun {
         return Ok(());
@@ -91,7 +90,7 @@ fn end_block<'a, F: BlockFormat<'a>>(
 
 /// The first line as it counts, and what stands after its LF, if it has one.
 fn next_line<'a, F: BlockFormat<'a>>(bytes: &'a [u8]) -> (&'a [u8], Option<&'a [u8]>)
-    ensures lines { lines_left F.trimmed (Some bytes.now) ≡ result.0.now ∷ lines_left F.trimmed (option_map (λ s. s.now) result.1) }
+    ensures lines { remaining_lines F.trimmed (Some bytes.now) ≡ result.0.now ∷ remaining_lines F.trimmed (option_map (λ s. s.now) result.1) }
     ensures shorter { left_len (option_map (λ s. s.now) result.1) ≤ length bytes.now }
 {
     let (line, rest) = cv_base::next_line(bytes);

@@ -3,42 +3,36 @@ use Rattle.std.specs.Prelude.{◌≡◌, ℕ, ◌+◌, Bool, true, false, if◌t
 use Rattle.cv_base.specs.Cuts.{split_left}
 use Rattle.cv_base.specs.Results.{◌>>=◌}
 use Rattle.cv_base.specs.Texts.{is_nil}
-use Rattle.cv_base.specs.declared.fault.ReadBad.{ReadBad}
-use Rattle.cv_base.specs.declared.fault.ReadBad.TheVariants as read
+use Rattle.cv_base.specs.declared.fault.FileBad.{FileBad}
 use Rattle.cv_base.specs.declared.fault.What.{What}
 use Rattle.cv_stanza.specs.Blocks.{BlockRules}
 use Rattle.cv_stanza.specs.declared.line_error.LineError.{LineError}
 use Rattle.cv_stanza.specs.declared.line_error.LineError.TheVariants as error
 
--- a line was not read because of memory
-abbrev pub is_line_memory : LineError → Bool
-is_line_memory (error.Bad what) = false
-is_line_memory error.NoMemory = true
+-- the fault of a line, and none where memory ran out
+abbrev pub line_fault : LineError → Option What
+line_fault (error.Bad what) = Some what
+line_fault error.NoMemory = None
 
 -- a value, or else a fault
-abbrev pub or_fault : {A : Type 0} → Option What → A → Result A LineError
+abbrev pub or_fault : {A : Type 0} → Option What → A → Result A What
 or_fault None x = Ok x
-or_fault (Some w) x = Err (error.Bad w)
-
--- the error of a file whose line n is refused
-abbrev pub read_error : ℕ → LineError → ReadBad
-read_error n (error.Bad w) = read.Bad (record { line = n; what = w })
-read_error n error.NoMemory = read.NoMemory
+or_fault (Some w) x = Err w
 
 -- a fault gets the number of its line
-abbrev pub at_line : {A : Type 0} → ℕ → Result A LineError → Result A ReadBad
+abbrev pub at_line : {A : Type 0} → ℕ → Result A What → Result A FileBad
 at_line n (Ok x) = Ok x
-at_line n (Err e) = Err (read_error n e)
+at_line n (Err w) = Err (record { line = n; what = w })
 
 -- a block line by line: what is kept before its first line and after one more, its fault at its end, and what it is read into
 pub record BlockSteps (S A : Type 0) : Type 0 where
   pub opening : S
-  pub step : S → List ℕ → Result S LineError
+  pub step : S → List ℕ → Result S What
   pub fault : S → Option What
   pub items : S → List A
 
 -- the end of a block of one line or more
-abbrev pub closed : {S A : Type 0} → BlockSteps S A → S → List A → Result (List A) LineError
+abbrev pub closed : {S A : Type 0} → BlockSteps S A → S → List A → Result (List A) What
 closed steps s found = or_fault (steps.fault s) (found ++ steps.items s)
 
 -- the steps read what the rules say, where this is kept of lines
@@ -50,16 +44,16 @@ pub record Agrees {S A : Type 0} (rules : BlockRules A) (steps : BlockSteps S A)
   pub none : rules.items [] ≡ []
 
 -- a block ends after line n, if it has begun
-abbrev pub ended : {S A : Type 0} → BlockSteps S A → ℕ → Bool → S → List A → Result (List A) ReadBad
+abbrev pub ended : {S A : Type 0} → BlockSteps S A → ℕ → Bool → S → List A → Result (List A) FileBad
 ended steps n begun s found = if begun then at_line n (closed steps s found) else Ok found
 
 -- the remaining lines are read, after n lines
-abbrev pub read_on : {S A : Type 0} → BlockSteps S A → ℕ → Bool → S → List A → List (List ℕ) → Result (List A) ReadBad
+abbrev pub read_on : {S A : Type 0} → BlockSteps S A → ℕ → Bool → S → List A → List (List ℕ) → Result (List A) FileBad
 read_on steps n begun s found [] = ended steps n begun s found
 read_on steps n begun s found (t ∷ ts) =
     if is_nil t then (ended steps n begun s found >>= λ o. read_on steps (n + 1) false steps.opening o ts)
     else (at_line (n + 1) (steps.step s t) >>= λ k. read_on steps (n + 1) true k found ts)
 
 -- the lines of the remaining bytes, as they count
-abbrev pub lines_left : (List ℕ → List ℕ) → Option (List ℕ) → List (List ℕ)
-lines_left trimmed remaining = map trimmed (split_left remaining)
+abbrev pub remaining_lines : (List ℕ → List ℕ) → Option (List ℕ) → List (List ℕ)
+remaining_lines trimmed remaining = map trimmed (split_left remaining)
