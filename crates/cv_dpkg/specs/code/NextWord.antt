@@ -1,10 +1,8 @@
--- The words of a text one after the other, as the code reads them. It is shown in `proofs/` that these are the words of
--- `Fields.antt`.
+-- The words of a text one after the other, as the code reads them. `proofs/` shows that these are the words of `Fields.antt`.
 use Rattle.std.specs.Prelude.{ℕ, ◌&&◌, if◌then◌else◌, not, List, [], ◌∷◌, Option, None, Some}
 use Rattle.std.specs.Option.{is_some, option_and_then}
 use Rattle.cv_base.specs.Cuts.{cut, is_blank}
-use Rattle.cv_dpkg.specs.Fields.{is_state}
-use Rattle.cv_dpkg.specs.Lines.{without_front}
+use Rattle.cv_dpkg.specs.Fields.{is_state, without_front}
 
 -- a word up to a blank or to the end
 abbrev pub word_by : List ℕ → Option (List ℕ × List ℕ) → List ℕ × List ℕ
@@ -16,7 +14,7 @@ abbrev pub word_at : List ℕ → Option (List ℕ × List ℕ)
 word_at [] = None
 word_at (x ∷ xs) = Some (word_by (x ∷ xs) (cut is_blank (x ∷ xs)))
 
--- the first word, and what stands behind it
+-- the first word, and what stands after it
 abbrev pub next_word : List ℕ → Option (List ℕ × List ℕ)
 next_word text = word_at (without_front text)
 

@@ -5,7 +5,7 @@ use Rattle.std.specs.Cmp.{IsTotalOrder, on_total}
 use Rattle.std.specs.Cmp.Lexicographic.{nat_list_cmp_total}
 use Rattle.std.specs.Ordering.{on}
 use Rattle.std.specs.declared.cmp.Ordering.{Ordering}
-use Rattle.cv_dpkg.specs.Names.{name_cmp}
+use Rattle.cv_dpkg.specs.code.Names.{name_cmp}
 use Rattle.cv_dpkg.specs.declared.names.FieldName.{FieldName}
 
 -- names as the code holds them, by what they read

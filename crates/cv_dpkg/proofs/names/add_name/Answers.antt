@@ -1,8 +1,7 @@
 use Rattle.std.proofs.Common.{◌≡◌, ◌∙◌, ℕ, List, ap, cond, true}
-use Rattle.cv_dpkg.specs.Held.{stood_in}
-use Rattle.cv_dpkg.specs.Reader.{with_name}
+use Rattle.cv_dpkg.specs.code.Steps.{stood_in, with_name}
 use Rattle.cv_dpkg.proofs.SameNames.{same_by_order}
-use Rattle.cv_dpkg.proofs.names.note.Goals as goal
+use Rattle.cv_dpkg.proofs.names.add_name.Goals as goal
 
 pub returns-clause-kept : goal.returns-clause-kept
 returns-clause-kept c =
