@@ -1,11 +1,11 @@
 //! A whole file.
-ghost use Rattle.std.specs.Prelude.{◌≡◌, ◌∷◌, ◌≤◌, Some, [], false, length, map};
+ghost use Rattle.std.specs.Prelude.{◌≡◌, ◌∷◌, ◌≤◌, IfErr, IfSome, Some, [], false, length, map};
 ghost use Rattle.std.specs.List.{slice_split};
 ghost use Rattle.std.specs.Option.{option_map};
 ghost use Rattle.cv_base.specs.Answer.{Yields};
 ghost use Rattle.cv_base.specs.Cuts.{is_lf, left_len};
 ghost use Rattle.cv_base.specs.Reading.{read_fault};
-ghost use Rattle.cv_stanza.specs.Blocks.{read_blocks};
+ghost use Rattle.cv_stanza.specs.Blocks.{IsFirstBad, read_blocks};
 ghost use Rattle.cv_stanza.specs.code.Steps.{at_line, ended, remaining_lines, read_on};
 
 use crate::format::BlockFormat;
@@ -21,7 +21,8 @@ pub fn read_blocks<'a, F: BlockFormat<'a>>(
     format: &F,
     bytes: &'a [u8],
 ) -> Result<Vec<F::Item>, ReadBad>
-    ensures { Yields read_fault (λ items. items.items) result (read_blocks (F.rules format.now) (map F.trimmed (slice_split is_lf bytes.now))) }
+    ensures answer { Yields read_fault (λ items. items.items) result (read_blocks (F.rules format.now) (map F.trimmed (slice_split is_lf bytes.now))) }
+    ensures first { IfErr result (λ error. IfSome (read_fault error) (IsFirstBad (F.rules format.now) (map F.trimmed (slice_split is_lf bytes.now)))) }
 {
     read_all(alloc, format, bytes)
 }
