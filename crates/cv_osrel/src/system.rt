@@ -52,7 +52,7 @@ fn filled(value: Text) -> Option<Text>
 }
 
 /// The value of the last assignment of a name.
-#[tactic(auto, using(cv_stanza::proofs::Values::last_value_more))]
+#[tactic(auto, using(crate::proofs::Lasts::last_more))]
 fn last_value(alloc: Global, name: &[u8], bytes: &[u8]) -> Result<Option<Text>, NoMemory>
     requires { IsTrue (is_name name.now) }
     ensures { IfOk result (λ value. value ≡ last_value (value_by name.now) (lines bytes.now)) }
