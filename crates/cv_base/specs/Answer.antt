@@ -1,5 +1,5 @@
 -- What a call that may run out of memory returns (forms of a contract, defined by this project).
-use Rattle.std.specs.Prelude.{◌≡◌, Bool, ⊤, MatchBool, MatchOption, Option, Result, Ok, Err}
+use Rattle.std.specs.Prelude.{◌≡◌, Bool, ⊤, MatchBool, IfSome, Option, Result, Ok, Err}
 
 -- a call gives what a definition says, its value seen by `view`, or runs out of memory
 abbrev pub Gives : {X Y E : Type 0} → (E → Bool) → (X → Y) → Result X E → Result Y E → Type 0
@@ -10,4 +10,4 @@ Gives is_memory view (Err e) wanted = MatchBool (is_memory e) ⊤ (wanted ≡ Er
 -- None where the call ran out of memory
 abbrev pub Yields : {X Y E F : Type 0} → (E → Option F) → (X → Y) → Result X E → Result Y F → Type 0
 Yields fault view (Ok x) wanted = wanted ≡ Ok (view x)
-Yields fault view (Err e) wanted = MatchOption (fault e) ⊤ (λ f. wanted ≡ Err f)
+Yields fault view (Err e) wanted = IfSome (fault e) (λ f. wanted ≡ Err f)
