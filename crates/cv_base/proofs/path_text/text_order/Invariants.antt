@@ -1,6 +1,6 @@
 use Rattle.std.proofs.Common.{◌≡◌, length}
-use Rattle.cv_base.specs.PathText.{text_cmp}
-use Rattle.cv_base.proofs.path.text_order.Given as goal
+use Rattle.cv_base.specs.code.PathText.{text_cmp}
+use Rattle.cv_base.proofs.path_text.text_order.Given as goal
 
 -- what is left compares as the whole does
 abbrev pub invariant-loop-left : goal.invariant-loop-left

@@ -1,6 +1,6 @@
--- Paths told by their texts, as the code walks them. It is shown in `proofs/` that these are the words of
+-- Paths by their texts, as the code walks them. It is shown in `proofs/` that these are the definitions of
 -- `Path.antt`.
-use Rattle.std.specs.Prelude.{ℕ, ◌<◌, Bool, true, false, ◌&&◌, ◌==◌, if◌then◌else◌, List, [], ◌∷◌, map}
+use Rattle.std.specs.Prelude.{ℕ, ◌<◌, ◌-◌, Bool, true, false, ◌&&◌, ◌==◌, if◌then◌else◌, List, [], ◌∷◌, ◌++◌, map}
 use Rattle.std.specs.Cmp.Lexicographic.{slice_cmp}
 use Rattle.std.specs.List.{AllByRecursion}
 use Rattle.std.specs.Ordering.{nat_cmp}
@@ -31,3 +31,21 @@ is_above_text (x ∷ xs) u = goes_on (x ∷ xs) u
 -- no byte is a NUL: a slash is then the least of the ranks, and of no other byte
 abbrev pub HasNoNul : List ℕ → Type 0
 HasNoNul t = AllByRecursion (λ b. 0 < b) t
+
+-- a byte is the slash at which a front ends that has this many slashes more
+abbrev pub is_end : ℕ → ℕ → Bool
+is_end byte slashes = is_slash byte && (slashes == 0)
+
+-- how many slashes more a front has after a byte of it
+abbrev pub slashes_after : ℕ → ℕ → ℕ
+slashes_after byte slashes = if is_slash byte then slashes - 1 else slashes
+
+-- the front of a text that ends before the slash with this index, or all of a text that has no such slash
+abbrev pub front_text : ℕ → List ℕ → List ℕ
+front_text slashes [] = []
+front_text slashes (x ∷ xs) = if is_end x slashes then [] else x ∷ front_text (slashes_after x slashes) xs
+
+-- a directory's text and a name with a slash between them, or the name alone at the top
+abbrev pub joined : List ℕ → List ℕ → List ℕ
+joined [] name = name
+joined (b ∷ bs) name = (b ∷ bs) ++ 47 ∷ name

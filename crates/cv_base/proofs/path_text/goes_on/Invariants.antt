@@ -1,6 +1,6 @@
 use Rattle.std.proofs.Common.{◌≡◌, length}
-use Rattle.cv_base.specs.PathText.{goes_on}
-use Rattle.cv_base.proofs.path.goes_on.Given as goal
+use Rattle.cv_base.specs.code.PathText.{goes_on}
+use Rattle.cv_base.proofs.path_text.goes_on.Given as goal
 
 -- what is left goes on as the whole does
 abbrev pub invariant-loop-left : goal.invariant-loop-left
