@@ -42,7 +42,7 @@ alike : (p p' q q' : Pair) (ps ps' qs qs' : List Pair) → p ≡ p' → q ≡ q'
     → ordering_then (pair_cmp p q) (filled_cmp pair_cmp (of [] []) ps qs) ≡ ordering_then (pair_cmp p' q') (filled_cmp pair_cmp (of [] []) ps' qs')
 alike p p' q q' ps ps' qs qs' e f g h = rw (e, f, g, h) refl
 
--- two parts are compared by the words at their fronts, the digits behind those, and what comes after
+-- two parts are compared by the words at their fronts, the digits after those, and what comes after
 pub part_cmp_pair : (a b : List ℕ) → part_cmp a b ≡ ordering_then (word_cmp (front_word a) (front_word b)) (ordering_then (number_cmp (front_digits (after_word a)) (front_digits (after_word b))) (part_cmp (after_pair a) (after_pair b)))
 part_cmp_pair a b =
     let p = pairs_are a in let q = pairs_are b in

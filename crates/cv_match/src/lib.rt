@@ -1,4 +1,4 @@
-//! Tells which packages an advisory affects, and which version has the fix, after the evaluation of the OSV schema 1.6.
+//! Which packages an advisory affects, and which version has the fix, after the evaluation of the OSV schema 1.6.
 //!
 //! ```text
 //! let record = prepare(alloc, &advisory, PackageKind::Deb)?;

@@ -7,7 +7,7 @@ abbrev pub first_suffix : List (List ℕ) → Suffix
 first_suffix [] = suffix_end
 first_suffix (part ∷ parts) = suffix_of part
 
--- how much is left to read of a text, if there is one
-abbrev pub left_len : Option (List ℕ) → ℕ
-left_len None = 0
-left_len (Some text) = length text + 1
+-- how much remains to read of a text, if there is one
+abbrev pub remaining_len : Option (List ℕ) → ℕ
+remaining_len None = 0
+remaining_len (Some text) = length text + 1
