@@ -5,7 +5,7 @@ use Rattle.cv_base.specs.declared.advisory.Turn.TheVariants as turn
 use Rattle.cv_osv.specs.declared.range.EventMember.{EventMember}
 use Rattle.cv_osv.specs.declared.range.EventMember.TheVariants.{Introduced, Fixed, LastAffected, Limit}
 
--- how a member is written
+-- the name of a member
 abbrev pub name_of : EventMember → List ℕ
 name_of Introduced = codes "introduced"
 name_of Fixed = codes "fixed"

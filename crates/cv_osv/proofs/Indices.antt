@@ -1,4 +1,4 @@
--- The index of each id, as records come behind others.
+-- The index of each id, as records are appended.
 use Rattle.std.specs.Prelude.{◌≡◌, ℕ, ◌+◌, Bool, true, false, cond, List, [], ◌∷◌, ◌++◌, length, map, Option, Some, None, refl}
 use Rattle.std.specs.BTreeMap.{BTreeMap, get}
 use Rattle.std.specs.Cmp.Lexicographic.{bytes_decides, nat_list_eq_equiv, slice_cmp, texts_ties}
@@ -10,9 +10,9 @@ use Rattle.std.proofs.lemmas.Option.{none-some}
 use Rattle.cv_base.specs.Texts.{same}
 use Rattle.cv_base.specs.declared.advisory.Advisory.{Advisory}
 use Rattle.cv_osv.specs.Records.{HasDistinctIds}
-use Rattle.cv_osv.specs.Told.{index_of, Indexes}
+use Rattle.cv_osv.specs.code.Appended.{index_of, Indexes}
 
--- an item behind the others is found where none of them was
+-- an appended item is found if no earlier one is
 position_snoc : {X : Type 0} (p : X → Bool) (i : ℕ) (xs : List X) (x : X) → position_from p i (xs ++ x ∷ []) ≡ option_or (position_from p i xs) (cond (p x) (Some (i + length xs)) None)
 position_snoc p i [] x = ap (λ n. cond (p x) (Some n) None) (omega arith)
 position_snoc p i (y ∷ ys) x = by_test (p y) (position_snoc p (i + 1) ys x)
@@ -49,17 +49,17 @@ distinct_more i (first ∷ records) here distinct fresh = by_test (same here.id 
 found_by_order : (x y : List ℕ) → is_eq (slice_cmp nat_cmp x y) ≡ same y x
 found_by_order x y = sym (texts_ties x y) ∙ nat_list_eq_equiv.symm x y
 
--- where no record had the id of the new one, a map that has it at the new index tells all indices
-pub indexes_more : (places more : BTreeMap (List ℕ) ℕ) (records : List Advisory) (here : Advisory)
-    → Indexes places records → get (slice_cmp nat_cmp) places here.id ≡ None
-    → ((id : List ℕ) → get (slice_cmp nat_cmp) more id ≡ cond (is_eq (slice_cmp nat_cmp here.id id)) (Some (length records)) (get (slice_cmp nat_cmp) places id))
+-- if no record had the id of the new one, a map that has it at the new index has all indices
+pub indexes_more : (indices more : BTreeMap (List ℕ) ℕ) (records : List Advisory) (here : Advisory)
+    → Indexes indices records → get (slice_cmp nat_cmp) indices here.id ≡ None
+    → ((id : List ℕ) → get (slice_cmp nat_cmp) more id ≡ cond (is_eq (slice_cmp nat_cmp here.id id)) (Some (length records)) (get (slice_cmp nat_cmp) indices id))
     → Indexes more (records ++ here ∷ [])
-indexes_more places more records here indexed fresh updated id =
-    updated id ∙ ap (λ found. cond found (Some (length records)) (get (slice_cmp nat_cmp) places id)) (found_by_order here.id id)
+indexes_more indices more records here indexed fresh updated id =
+    updated id ∙ ap (λ found. cond found (Some (length records)) (get (slice_cmp nat_cmp) indices id)) (found_by_order here.id id)
     ∙ by_same (same id here.id) refl ∙ sym (position_snoc (λ there. same id there.id) 0 records here)
   where
     by_same : (found : Bool) → same id here.id ≡ found
-        → cond found (Some (length records)) (get (slice_cmp nat_cmp) places id) ≡ option_or (index_of id records) (cond found (Some (0 + length records)) None)
+        → cond found (Some (length records)) (get (slice_cmp nat_cmp) indices id) ≡ option_or (index_of id records) (cond found (Some (0 + length records)) None)
     by_same true e =
         let none : index_of id records ≡ None = ap (λ t. index_of t records) ((bytes_decides id here.id).0 e) ∙ sym (indexed here.id) ∙ fresh in
         rw none (ap Some (omega arith))
