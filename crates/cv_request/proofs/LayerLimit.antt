@@ -1,11 +1,12 @@
--- A manifest has at most 128 layers.
+-- A manifest has at most `MAX_LAYERS` layers.
 use Rattle.std.proofs.Common.{◌≡◌, ◌≤◌, ℕ, ◌+◌, Bool, true, false, List, [], ◌∷◌, length, refl, ap, sym, ◌∙◌, arith}
 use Rattle.std.proofs.lemmas.Bool.Decides.{nat_tests}
 use Rattle.std.specs.Prelude.{◌==◌, nat_lt, cond, Result, Ok, Err, Option}
 use Rattle.serde_json.specs.Data.{Data, Items, no_items, item}
 use Rattle.cv_base.specs.Results.{◌>>=◌}
+use Rattle.cv_base.specs.declared.limits.TheConstants.{MAX_LAYERS}
 use Rattle.cv_request.specs.Manifest.{checked_layers, count, layer_of, layers_from, layers_in, list_or}
-use Rattle.cv_request.specs.Line.{refusing}
+use Rattle.cv_request.specs.Fault.{refusing}
 use Rattle.cv_request.specs.declared.error.RequestWhat.{RequestWhat}
 use Rattle.cv_request.specs.declared.error.RequestWhat.TheVariants.{BadLayers, NoLayers, TooManyLayers}
 
@@ -24,21 +25,21 @@ layers_many n (item d ds) layers h =
     let many = layers_many (n + 1) ds later.0 later.1 in
     rw (← k, many) (omega arith)
 
-checked_by : (items : Items) (layers : List (List ℕ)) (is_none is_many : Bool) → nat_lt 128 (count items) ≡ is_many
-    → cond is_none (Err NoLayers) (cond is_many (Err TooManyLayers) (layers_from 0 items)) ≡ Ok layers → length layers ≤ 128
+checked_by : (items : Items) (layers : List (List ℕ)) (is_none is_many : Bool) → nat_lt MAX_LAYERS (count items) ≡ is_many
+    → cond is_none (Err NoLayers) (cond is_many (Err TooManyLayers) (layers_from 0 items)) ≡ Ok layers → length layers ≤ MAX_LAYERS
 checked_by items layers true is_many e h = absurd (cc)
 checked_by items layers false true e h = absurd (cc)
 checked_by items layers false false e h = let many = layers_many 0 items layers h in grind (arith, nat_tests)
 
-layers_few : (found : Option Data) (layers : List (List ℕ)) → layers_in found ≡ Ok layers → length layers ≤ 128
-layers_few found layers h =
+layers_within : (found : Option Data) (layers : List (List ℕ)) → layers_in found ≡ Ok layers → length layers ≤ MAX_LAYERS
+layers_within found layers h =
     let listed = bind_ok (list_or BadLayers found) checked_layers layers h in
-    checked_by listed.0 layers (count listed.0 == 0) (nat_lt 128 (count listed.0)) refl listed.2
+    checked_by listed.0 layers (count listed.0 == 0) (nat_lt MAX_LAYERS (count listed.0)) refl listed.2
 
--- layers that a call reads
-pub told_few : (found : Option Data) (layers : List (List ℕ)) → refusing (layers_in found) ≡ Ok layers → length layers ≤ 128
-told_few found layers h = by_read (layers_in found) refl h
+-- the same by what a call answers
+pub read_within : (found : Option Data) (layers : List (List ℕ)) → refusing (layers_in found) ≡ Ok layers → length layers ≤ MAX_LAYERS
+read_within found layers h = by_read (layers_in found) refl h
   where
-    by_read : (r : Result (List (List ℕ)) RequestWhat) → layers_in found ≡ r → refusing r ≡ Ok layers → length layers ≤ 128
-    by_read (Ok xs) e k = let same : xs ≡ layers = cc (k) in layers_few found layers (e ∙ ap Ok same)
+    by_read : (r : Result (List (List ℕ)) RequestWhat) → layers_in found ≡ r → refusing r ≡ Ok layers → length layers ≤ MAX_LAYERS
+    by_read (Ok xs) e k = let same : xs ≡ layers = cc (k) in layers_within found layers (e ∙ ap Ok same)
     by_read (Err what) e k = absurd (cc)

@@ -1,4 +1,4 @@
--- The whole lines that were taken, where the source fails behind them.
+-- The whole lines that were accepted before the source failed.
 use Rattle.std.specs.Prelude.{◌≡◌, ℕ, ◌+◌, ◌-◌, ◌<◌, ◌≤◌, ◌^◌, Bool, true, false, if◌then◌else◌, List, [], ◌∷◌, ◌++◌, length, map, Option, None, Some, Result, Ok, Err, IfSome, IsSomeAnd, refl}
 use Rattle.std.specs.List.{AllByRecursion}
 use Rattle.std.specs.Io.KnownBytes.{Consumes, prepend_known}
@@ -12,14 +12,14 @@ use Rattle.cv_io.specs.declared.line.LineError.TheVariants as line
 use Rattle.cv_io.specs.Lines.{LF, HasNoLineEnd, Reading, Finished, line_then, lines_then, stopped, text_of}
 use Rattle.cv_io.specs.Reader.{Reader, Step, progress_of, room_of, ungiven}
 use Rattle.cv_io.specs.Takes.{Takes}
-use Rattle.cv_request.specs.declared.error.RequestError.{RequestError}
-use Rattle.cv_scan_input.specs.Asked.{asked_behind, manifest_or, record_lines}
-use Rattle.cv_scan_input.specs.Left.{asked_left, line_behind, refused_at}
-use Rattle.cv_scan_input.specs.Passed.{Begun, IsBegun, IsPassed, IsUnrefusedBehind, Passed, UnrefusedBehind}
+use Rattle.cv_request.specs.declared.error.RequestFault.{RequestFault}
+use Rattle.cv_scan_input.specs.Request.{request_after, manifest_or, record_lines}
+use Rattle.cv_scan_input.specs.code.Remaining.{remaining_request, line_after, refused_at}
+use Rattle.cv_scan_input.specs.code.Accepted.{Begun, IsBegun, IsAccepted, IsUnrefusedAfter, Accepted, UnrefusedAfter}
 use Rattle.cv_scan_input.specs.Unrefused.{IsPiece, IsUnrefused, Unrefused, ended_lines, is_refusal}
 use Rattle.cv_scan_input.proofs.Lines.{line_taken}
 
--- what a call took, and what the source has left behind it
+-- what a call took, and the bytes that remain of the source after it
 tail_by : (was is : Bool) (held more bytes : List ℕ) (l m : Option (List ℕ)) → bytes ≡ held ++ more → Consumes l m more → (was ≡ true → (more ≡ []) × (is ≡ true)) → is ≡ false
     → IfSome (if was then Some held else prepend_known held l) (λ whole. IsSomeAnd m (λ tail. whole ≡ bytes ++ tail))
 tail_by true is held more bytes l m join took over going = absurd (false≢true (sym going ∙ (over refl).1))
@@ -92,9 +92,9 @@ module _ (before now : Reader) (l m : Option (List ℕ)) (inputs : now.max_input
             (tail_by before.ended now.ended before.held s.takes.more s.bytes l m s.takes.joined s.takes.consumed s.takes.over x.going);
       }
 
--- ---- lines behind line 1
+-- ---- lines after line 1
 
--- one more line behind lines
+-- one more line after lines
 ended_snoc : (pieces : List (List ℕ)) (piece rest : List ℕ) → ended_lines (pieces ++ piece ∷ []) ++ rest ≡ ended_lines pieces ++ (piece ++ LF ∷ rest)
 ended_snoc [] piece rest = append_assoc (piece ++ LF ∷ []) [] rest ∙ append_assoc piece (LF ∷ []) rest
 ended_snoc (first ∷ pieces) piece rest =
@@ -117,33 +117,33 @@ all_snoc [] piece all last = (last, tt)
 all_snoc (first ∷ pieces) piece all last = (all.0, all_snoc pieces piece all.1 last)
 
 -- no line was taken
-pub passed_first : (manifest : Manifest) (reader : Reader) (l : Option (List ℕ)) → Passed manifest reader reader [] 2 l l
-passed_first manifest reader l = by (ungiven reader l)
+pub accepted_first : (manifest : Manifest) (reader : Reader) (l : Option (List ℕ)) → Accepted manifest reader reader [] 2 l l
+accepted_first manifest reader l = by (ungiven reader l)
   where
-    by : (u : Option (List ℕ)) → IfSome u (λ bytes. IsSomeAnd u (IsPassed manifest reader reader [] 2 bytes))
+    by : (u : Option (List ℕ)) → IfSome u (λ bytes. IsSomeAnd u (IsAccepted manifest reader reader [] 2 bytes))
     by None = tt
-    by (Some bytes) = record { pieces = []; lines = tt; joined = refl; room = omega arith; asked = λ more. refl }
+    by (Some bytes) = record { pieces = []; lines = tt; joined = refl; room = omega arith; request = λ more. refl }
 
 module _ (manifest : Manifest) (first before now : Reader) (inputs : now.max_input ≡ before.max_input) (limit : now.max_line ≡ 67108864) (l0 l m : Option (List ℕ)) where
   -- one more line was taken
-  pub passed_more : (records more : List Advisory) (number : ℕ) (text : List ℕ) → Passed manifest first before records number l0 l → Step before now l m (Ok (Text text)) → now.ended ≡ false
-      → line_behind number records text ≡ Ok more → Passed manifest first now more (number + 1) l0 m
-  passed_more records more number text h s going taken = by (ungiven first l0) (ungiven before l) (ungiven now m) h e.parts
+  pub accepted_more : (records more : List Advisory) (number : ℕ) (text : List ℕ) → Accepted manifest first before records number l0 l → Step before now l m (Ok (Text text)) → now.ended ≡ false
+      → line_after number records text ≡ Ok more → Accepted manifest first now more (number + 1) l0 m
+  accepted_more records more number text h s going taken = by (ungiven first l0) (ungiven before l) (ungiven now m) h e.parts
     where
       e : IsEnded before now l m inputs limit text
       e = ended_line before now l m inputs limit text s going
 
-      asked_more : (pieces : List (List ℕ)) → ((rest : Reading) → asked_left manifest [] 2 (lines_then (map text_of pieces) rest) ≡ asked_left manifest records number rest)
-          → (rest : Reading) → asked_left manifest [] 2 (lines_then (map text_of (pieces ++ e.piece ∷ [])) rest) ≡ asked_left manifest more (number + 1) rest
-      asked_more pieces asked rest =
+      request_more : (pieces : List (List ℕ)) → ((rest : Reading) → remaining_request manifest [] 2 (lines_then (map text_of pieces) rest) ≡ remaining_request manifest records number rest)
+          → (rest : Reading) → remaining_request manifest [] 2 (lines_then (map text_of (pieces ++ e.piece ∷ [])) rest) ≡ remaining_request manifest more (number + 1) rest
+      request_more pieces request rest =
           let texts : map text_of (pieces ++ e.piece ∷ []) ++ rest.lines ≡ map text_of pieces ++ text_of e.piece ∷ rest.lines =
           ap (λ v. v ++ rest.lines) (map-append text_of pieces (e.piece ∷ [])) ∙ append_assoc (map text_of pieces) (text_of e.piece ∷ []) rest.lines in
-          ap (λ (v : List (List ℕ)). asked_left manifest [] 2 (record { lines = v; stop = rest.stop })) texts
-          ∙ asked (line_then (text_of e.piece) rest)
-          ∙ line_taken manifest records more number (text_of e.piece) rest (subst (λ v. line_behind number records v ≡ Ok more) e.text taken)
+          ap (λ (v : List (List ℕ)). remaining_request manifest [] 2 (record { lines = v; stop = rest.stop })) texts
+          ∙ request (line_then (text_of e.piece) rest)
+          ∙ line_taken manifest records more number (text_of e.piece) rest (subst (λ v. line_after number records v ≡ Ok more) e.text taken)
 
-      by : (u v w : Option (List ℕ)) → IfSome u (λ bytes. IsSomeAnd v (IsPassed manifest first before records number bytes)) → IfSome v (λ bytes. IsSomeAnd w (λ rest. bytes ≡ e.piece ++ LF ∷ rest))
-          → IfSome u (λ bytes. IsSomeAnd w (IsPassed manifest first now more (number + 1) bytes))
+      by : (u v w : Option (List ℕ)) → IfSome u (λ bytes. IsSomeAnd v (IsAccepted manifest first before records number bytes)) → IfSome v (λ bytes. IsSomeAnd w (λ rest. bytes ≡ e.piece ++ LF ∷ rest))
+          → IfSome u (λ bytes. IsSomeAnd w (IsAccepted manifest first now more (number + 1) bytes))
       by None v w p parts = tt
       by (Some bytes) None w p parts = absurd p
       by (Some bytes) (Some rest) None p parts = absurd parts
@@ -152,18 +152,18 @@ module _ (manifest : Manifest) (first before now : Reader) (inputs : now.max_inp
         lines = all_snoc p.pieces e.piece p.lines e.whole;
         joined = p.joined ∙ ap (λ v. ended_lines p.pieces ++ v) parts ∙ sym (ended_snoc p.pieces e.piece later);
         room = omega (arith, p.room, e.room, ended_length p.pieces e.piece);
-        asked = asked_more p.pieces p.asked;
+        request = request_more p.pieces p.request;
       }
 
-  -- the source failed behind the lines
-  pub passed_failed : (records : List Advisory) (number : ℕ) → Passed manifest first before records number l0 l → Step before now l m (Err line.ReadFault) → UnrefusedBehind manifest first l0 m
-  passed_failed records number h s = by (ungiven first l0) (ungiven before l) m h f.parts
+  -- the source failed after the lines
+  pub accepted_failed : (records : List Advisory) (number : ℕ) → Accepted manifest first before records number l0 l → Step before now l m (Err line.ReadFault) → UnrefusedAfter manifest first l0 m
+  accepted_failed records number h s = by (ungiven first l0) (ungiven before l) m h f.parts
     where
       f : IsFailed before now l m inputs limit
       f = failed before now l m inputs limit s
 
-      by : (u v w : Option (List ℕ)) → IfSome u (λ bytes. IsSomeAnd v (IsPassed manifest first before records number bytes)) → IfSome v (λ bytes. IsSomeAnd w (λ rest. bytes ≡ now.held ++ rest))
-          → IfSome u (λ bytes. IsSomeAnd w (IsUnrefusedBehind manifest first bytes))
+      by : (u v w : Option (List ℕ)) → IfSome u (λ bytes. IsSomeAnd v (IsAccepted manifest first before records number bytes)) → IfSome v (λ bytes. IsSomeAnd w (λ rest. bytes ≡ now.held ++ rest))
+          → IfSome u (λ bytes. IsSomeAnd w (IsUnrefusedAfter manifest first bytes))
       by None v w p parts = tt
       by (Some bytes) None w p parts = absurd p
       by (Some bytes) (Some rest) None p parts = absurd parts
@@ -174,7 +174,7 @@ module _ (manifest : Manifest) (first before now : Reader) (inputs : now.max_inp
         lines = p.lines;
         last = f.held;
         within = omega (arith, length-append (ended_lines p.pieces) now.held, p.room, f.room);
-        none = ap is_refusal (ap (λ (v : List (List ℕ)). asked_left manifest [] 2 (record { lines = v; stop = Finished })) (sym (append-nil (map text_of p.pieces))) ∙ p.asked (stopped Finished));
+        none = ap is_refusal (ap (λ (v : List (List ℕ)). remaining_request manifest [] 2 (record { lines = v; stop = Finished })) (sym (append-nil (map text_of p.pieces))) ∙ p.request (stopped Finished));
       }
 
 -- ---- line 1
@@ -187,7 +187,7 @@ module _ (before now : Reader) (inputs : now.max_input ≡ before.max_input) (li
       e : IsEnded before now l m inputs limit text
       e = ended_line before now l m inputs limit text s going
 
-      read_by : (answer : Result Manifest RequestError) → refused_at 1 answer ≡ Ok manifest → answer ≡ Ok manifest
+      read_by : (answer : Result Manifest RequestFault) → refused_at 1 answer ≡ Ok manifest → answer ≡ Ok manifest
       read_by (Ok there) h = ap Ok (cc)
       read_by (Err error) h = absurd (cc)
 
@@ -204,7 +204,7 @@ module _ (before now : Reader) (inputs : now.max_input ≡ before.max_input) (li
 
   -- the source failed before it ended
   pub begun_failed : room_of before ≤ 2 ^ 36 → Step before now l m (Err line.ReadFault) → Unrefused (ungiven before l) m
-  begun_failed few s = by (ungiven before l) m f.parts
+  begun_failed within s = by (ungiven before l) m f.parts
     where
       f : IsFailed before now l m inputs limit
       f = failed before now l m inputs limit s
@@ -218,16 +218,16 @@ module _ (before now : Reader) (inputs : now.max_input ≡ before.max_input) (li
         joined = parts;
         lines = tt;
         last = f.held;
-        within = omega (arith, f.room, few);
+        within = omega (arith, f.room, within);
         none = refl;
       }
 
--- the source failed behind line 1
-pub begun_then : (manifest : Manifest) (before now : Reader) (l m k : Option (List ℕ)) → room_of before ≤ 2 ^ 36 → Begun manifest before now l m → UnrefusedBehind manifest now m k
+-- the source failed after line 1
+pub begun_then : (manifest : Manifest) (before now : Reader) (l m k : Option (List ℕ)) → room_of before ≤ 2 ^ 36 → Begun manifest before now l m → UnrefusedAfter manifest now m k
     → Unrefused (ungiven before l) k
-begun_then manifest before now l m k few = by (ungiven before l) (ungiven now m) k
+begun_then manifest before now l m k within_limit = by (ungiven before l) (ungiven now m) k
   where
-    by : (u v w : Option (List ℕ)) → IfSome u (λ bytes. IsSomeAnd v (IsBegun manifest before now bytes)) → IfSome v (λ bytes. IsSomeAnd w (IsUnrefusedBehind manifest now bytes))
+    by : (u v w : Option (List ℕ)) → IfSome u (λ bytes. IsSomeAnd v (IsBegun manifest before now bytes)) → IfSome v (λ bytes. IsSomeAnd w (IsUnrefusedAfter manifest now bytes))
         → IfSome u (λ bytes. IsSomeAnd w (IsUnrefused bytes))
     by None v w b r = tt
     by (Some bytes) None w b r = absurd b
@@ -246,7 +246,7 @@ begun_then manifest before now l m k few = by (ungiven before l) (ungiven now m)
           last = r.last;
           within = omega (
             arith,
-            few,
+            within_limit,
             b.room,
             r.within,
             length-append (ended_lines (b.piece ∷ r.pieces)) r.begun,
@@ -254,7 +254,7 @@ begun_then manifest before now l m k few = by (ungiven before l) (ungiven now m)
             length-append b.piece (LF ∷ []),
             length-append (ended_lines r.pieces) r.begun,
           );
-          none = ap (λ answer. is_refusal (asked_behind answer (record_lines 2 (map text_of r.pieces)) Finished)) b.read ∙ r.none;
+          none = ap (λ answer. is_refusal (request_after answer (record_lines 2 (map text_of r.pieces)) Finished)) b.read ∙ r.none;
         }
 
 -- a reader that took nothing holds nothing

@@ -1,45 +1,53 @@
--- An input read line by line, as the code goes. It is shown in `proofs/` that this is `asked_by` of `Asked.antt`.
-use Rattle.std.specs.Prelude.{◌≡◌, ℕ, nat_le, if◌then◌else◌, List, [], ◌∷◌, ◌++◌, length, Option, Result, Ok, Err, IfSome, IsSomeAnd}
+-- An input that is read line by line, as the code does it. It is shown in `proofs/` that this is `scan_request_of` of
+-- `Request.antt`.
+use Rattle.std.specs.Prelude.{◌≡◌, ℕ, nat_le, if◌then◌else◌, List, [], ◌∷◌, ◌++◌, length, Option, None, Some, Result, Ok, Err, IfSome, IsSomeAnd}
 use Rattle.cv_base.specs.Results.{◌>>=◌}
 use Rattle.cv_base.specs.declared.advisory.Advisory.{Advisory}
+use Rattle.cv_base.specs.declared.limits.TheConstants.{MAX_ADVISORIES}
 use Rattle.cv_base.specs.declared.manifest.Manifest.{Manifest}
 use Rattle.cv_io.specs.Lines.{Reading}
 use Rattle.cv_osv.specs.Record.{advisory_of}
-use Rattle.cv_osv.specs.Records.{one_more, reads_of}
-use Rattle.cv_request.specs.Line.{json_or, requesting}
-use Rattle.cv_request.specs.declared.error.RequestError.{RequestError}
-use Rattle.cv_request.specs.declared.error.RequestError.TheVariants.{TooManyAdvisories}
+use Rattle.cv_osv.specs.Records.{appended, reads_of}
+use Rattle.cv_request.specs.Fault.{listing}
+use Rattle.cv_request.specs.Line.{json_or}
+use Rattle.cv_request.specs.declared.error.RequestFault.{RequestFault}
+use Rattle.cv_request.specs.declared.error.RequestFault.TheVariants.{TooManyAdvisories}
 use Rattle.cv_scan_input.specs.Answer.{IsRefusedBy}
-use Rattle.cv_scan_input.specs.Asked.{Asked, Scan, asked_by, at_stop, first_or, line_records, record_lines, refused_behind}
+use Rattle.cv_scan_input.specs.Request.{ScanRequest, Scan, scan_request_of, at_stop, first_or, line_records, record_lines, refused_after}
 use Rattle.cv_scan_input.specs.declared.error.InputError.{InputError}
-use Rattle.cv_scan_input.specs.declared.error.InputError.TheVariants.{Refused}
+use Rattle.cv_scan_input.specs.declared.error.InputError.TheVariants.{NoMemory, Refused}
 use Rattle.serde_json.specs.Data.{Data}
 
--- a value read as a record behind the records
-abbrev pub record_behind : List Advisory → Data → Result (List Advisory) RequestError
-record_behind records d = if nat_le 200000 (length records) then Err TooManyAdvisories else requesting (one_more records (advisory_of d))
+-- a value that is read as a record and appended
+abbrev pub record_after : List Advisory → Data → Result (List Advisory) RequestFault
+record_after records d = if nat_le MAX_ADVISORIES (length records) then Err TooManyAdvisories else listing (appended records (advisory_of d))
 
--- a text read as a record behind the records
-abbrev pub text_behind : List Advisory → List ℕ → Result (List Advisory) RequestError
-text_behind records text = json_or text >>= record_behind records
+-- a text that is read as a record and appended
+abbrev pub text_after : List Advisory → List ℕ → Result (List Advisory) RequestFault
+text_after records text = json_or text >>= record_after records
 
 -- a refusal at its line
-abbrev pub refused_at : {A : Type 0} → ℕ → Result A RequestError → Result A InputError
+abbrev pub refused_at : {A : Type 0} → ℕ → Result A RequestFault → Result A InputError
 refused_at number (Ok x) = Ok x
-refused_at number (Err error) = Err (Refused number error)
+refused_at number (Err fault) = Err (Refused number fault)
 
--- a line behind the records: an empty one is none
-abbrev pub line_behind : ℕ → List Advisory → List ℕ → Result (List Advisory) InputError
-line_behind number records [] = Ok records
-line_behind number records (byte ∷ bytes) = refused_at number (text_behind records (byte ∷ bytes))
+-- the error of a refused line, or out of memory
+abbrev pub refusal_at : ℕ → Option RequestFault → InputError
+refusal_at number None = NoMemory
+refusal_at number (Some fault) = Refused number fault
 
--- what the rest of an input asks, whose lines are numbered on from here, behind the manifest and the records
-abbrev pub asked_left : Manifest → List Advisory → ℕ → Reading → Asked
-asked_left manifest records number rest =
-    first_or (refused_behind (reads_of records) (record_lines number rest.lines))
+-- a line after the records: an empty one is not a record
+abbrev pub line_after : ℕ → List Advisory → List ℕ → Result (List Advisory) InputError
+line_after number records [] = Ok records
+line_after number records (byte ∷ bytes) = refused_at number (text_after records (byte ∷ bytes))
+
+-- the request of the rest of an input, whose lines have numbers from this one on, after the manifest and the records
+abbrev pub remaining_request : Manifest → List Advisory → ℕ → Reading → ScanRequest
+remaining_request manifest records number rest =
+    first_or (refused_after (reads_of records) (record_lines number rest.lines))
     (at_stop rest.stop (Scan manifest (records ++ line_records (record_lines number rest.lines))))
 
--- what the whole asks is what the rest asks behind the manifest, or its refusal
+-- the request of the whole is that of the rest after the manifest, or the refusal of line 1
 abbrev pub Begins : Option Reading → Option Reading → Result Manifest InputError → Type 0
-Begins before now (Ok manifest) = IfSome before (λ whole. IsSomeAnd now (λ rest. asked_by whole ≡ asked_left manifest [] 2 rest))
-Begins before now (Err error) = IfSome before (λ whole. IsRefusedBy (asked_by whole) error)
+Begins before now (Ok manifest) = IfSome before (λ whole. IsSomeAnd now (λ rest. scan_request_of whole ≡ remaining_request manifest [] 2 rest))
+Begins before now (Err error) = IfSome before (λ whole. IsRefusedBy (scan_request_of whole) error)

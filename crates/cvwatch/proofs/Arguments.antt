@@ -1,4 +1,4 @@
--- Which words a list of three has.
+-- The items of a list of three.
 use Rattle.std.proofs.Common.{◌≡◌, ◌≤◌, ◌<◌, List, [], ◌∷◌, length, arith}
 use Rattle.std.proofs.Math.ListN.{get_or}
 

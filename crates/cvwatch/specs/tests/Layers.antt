@@ -1,4 +1,4 @@
--- The layers that the tests scan (cvwatch's own), as plain data.
+-- The layers that the tests scan, as plain data.
 use Rattle.std.specs.Prelude.{ℕ, ◌==◌, if◌then◌else◌, List, [], ◌∷◌, codes, Option, Some, None}
 use Rattle.cv_base.specs.declared.tree.Kind.TheVariants as kind
 use Rattle.cv_desk.specs.Row.{Row}
@@ -19,7 +19,7 @@ with_dpkg files = dir (codes "var") ∷ dir (codes "var/lib") ∷ dir (codes "va
 abbrev pub status_file : List ℕ → Row
 status_file bytes = file (codes "var/lib/dpkg/status") bytes
 
--- the mark that takes the status file away
+-- the mark that hides the status file
 abbrev pub no_status : Row
 no_status = file (codes "var/lib/dpkg/.wh.status") []
 
@@ -57,7 +57,7 @@ modules =
     ∷ dir (codes "srv") ∷ dir (codes "srv/node_modules") ∷ dir (codes "srv/node_modules/y")
     ∷ file (codes "srv/node_modules/y/package.json") (codes "{\"name\":\"y\",\"version\":\"1.0.0\"}") ∷ [])
 
--- the mark that takes all below one of their folders away
+-- the mark that hides all below one of their folders
 abbrev pub opaque : List Row
 opaque = in_app (file (codes "app/node_modules/.wh..wh..opq") [] ∷ [])
 
