@@ -44,6 +44,8 @@ fn empty_lines_are_ignored(rt: HostRuntime) -> Result<(), Fail> {
     assert_eq!(rt; first.id.as_str(), "X-1");
     assert_eq!(rt; second.id.as_str(), "X-2");
     assert!(rt; second.withdrawn && !first.withdrawn);
+    shared(request);
+    shared(InputError::NoManifest);
     Ok(())
 }
 
@@ -103,8 +105,3 @@ fn a_failing_source_is_blamed(rt: HostRuntime) -> Result<(), Fail> {
 
 /// Takes what may go to another thread and be shared.
 fn shared<T: Send + Sync + Drop>(_value: T) {}
-
-#[test]
-fn threads_may_share_a_refusal() {
-    shared(InputError::NoManifest);
-}
