@@ -66,8 +66,8 @@ progress_refused manifest (Some whole) (Some rest) (Some later) records number t
 pub progress_handed : (manifest : Manifest) (before : Option Reading) (error : InputError) (result : Result ScanInput InputError)
     → IfSome before (λ whole. IsRefusedBy (remaining_request manifest [] 2 whole) error) → IsErrAnd result (λ e. e ≡ error) → IfSome before (λ whole. IsRequest (remaining_request manifest [] 2 whole) result)
 progress_handed manifest None error result refused e = tt
-progress_handed manifest (Some whole) error (Ok request) refused_by e = absurd e
-progress_handed manifest (Some whole) error (Err given) refused_by e = subst (λ x. IsRefusedBy (remaining_request manifest [] 2 whole) x) (sym e) refused
+progress_handed manifest (Some whole) error (Ok request) refused e = absurd e
+progress_handed manifest (Some whole) error (Err given) refused e = subst (λ x. IsRefusedBy (remaining_request manifest [] 2 whole) x) (sym e) refused
 
 -- the input ended
 pub progress_end : (manifest : Manifest) (before now next : Option Reading) (records : List Advisory) (number : ℕ) → Progress manifest before now records number → Reads now next (Ok End)

@@ -6,8 +6,7 @@
 #![tactic(auto)]
 
 ghost use Rattle.std.specs.Prelude.{◌≡◌, ◌+◌, ◌^◌, ◌<◌, length, All, IfOk, OnOk};
-ghost use Rattle.std.specs.Process.{exit_status};
-ghost use Rattle.cvwatch.specs.Status.{status_code};
+ghost use Rattle.cvwatch.specs.Status.{IsStatusCode};
 
 mod command;
 mod order;
@@ -30,7 +29,7 @@ use std::{env, io};
 const DESKS: usize = 8;
 
 fn main(rt: HostRuntime) -> ExitCode
-    ensures code { (status : Status) × (exit_status result ≡ status_code status) }
+    ensures { IsStatusCode result }
 {
     start(&rt).unwrap_or(Status::NoMemory).exit_code()
 }

@@ -219,7 +219,12 @@ fn a_stream_that_fails_is_blamed(rt: HostRuntime) -> Result<(), Fail> {
     for (read, write, want, bytes) in [
         (1, 9, Status::ReadFault, b"".as_slice()),
         (9, 2, Status::WriteFault, b"{\"lin".as_slice()),
-        (9, 9, Status::Refused, b"{\"line\":1,\"refused\":\"no_manifest\"}\n".as_slice()),
+        (
+            9,
+            9,
+            Status::Refused,
+            b"{\"line\":1,\"refused\":\"no_manifest\"}\n".as_slice(),
+        ),
     ] {
         let nothing = Seq::of(Vec::new(rt.alloc()));
         let mut source = MemSource::new(nothing, 7, Seq::of(vec![in rt.alloc(); read]?));

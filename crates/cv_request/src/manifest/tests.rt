@@ -34,7 +34,10 @@ fn an_image_has_1_to_128_layers(rt: HostRuntime) -> Result<(), Fail> {
         (0, Err(RequestError::BadRequest(RequestWhat::NoLayers))),
         (1, Ok(1)),
         (128, Ok(128)),
-        (129, Err(RequestError::BadRequest(RequestWhat::TooManyLayers))),
+        (
+            129,
+            Err(RequestError::BadRequest(RequestWhat::TooManyLayers)),
+        ),
     ] {
         let text = manifest_of(rt.alloc(), layers)?;
         assert_eq!(rt; count(rt.alloc(), text.as_str()), want, "{layers} layers");
@@ -47,7 +50,10 @@ fn the_first_fault_of_a_manifest_is_the_answer(rt: HostRuntime) -> Result<(), Fa
     for (text, want) in [
         ("[]", RequestWhat::BadManifest),
         ("{\"hash\":null,\"layers\":null}", RequestWhat::BadHash),
-        ("{\"hash\":\"sha256:aa\",\"layers\":[]}", RequestWhat::BadHash),
+        (
+            "{\"hash\":\"sha256:aa\",\"layers\":[]}",
+            RequestWhat::BadHash,
+        ),
         (
             "{\"hash\":\"sha256:aaaaaaaaaaaaaaaaaaaaaaaaaaaaaaaaaaaaaaaaaaaaaaaaaaaaaaaaaaaaaaaa\"}",
             RequestWhat::BadLayers,
