@@ -1,2 +1,2 @@
-pub mod Refusals
-pub mod Walks
+pub mod FileLemmas
+pub mod ReadLemmas

@@ -1,4 +1,5 @@
+pub mod Answer
+pub mod Faults
 pub mod Files
-pub mod Held
+pub mod Found
 pub mod Packages
-pub mod Walk
