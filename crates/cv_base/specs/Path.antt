@@ -7,6 +7,7 @@ use Rattle.std.specs.List.{list_all, list_any, slice_split}
 use Rattle.std.specs.Ordering.{nat_cmp}
 use Rattle.std.specs.declared.cmp.Ordering.{Ordering}
 use Rattle.cv_base.specs.Texts.{same}
+use Rattle.cv_base.specs.declared.limits.TheConstants.{MAX_PATH_LEN}
 use Rattle.cv_base.specs.declared.path.PathError.{PathError}
 use Rattle.cv_base.specs.declared.path.PathError.TheVariants.{Empty, TooLong, BadComponent}
 
@@ -39,7 +40,7 @@ is_component text = not (is_special text) && not (list_any (λ b. b == 0) text)
 abbrev pub path_of : List ℕ → Result Path PathError
 path_of [] = Err Empty
 path_of (b ∷ bs) =
-    if nat_lt 4096 (length (b ∷ bs)) then Err TooLong
+    if nat_lt MAX_PATH_LEN (length (b ∷ bs)) then Err TooLong
     else (if list_all is_component (components (b ∷ bs)) then Ok (components (b ∷ bs)) else Err BadComponent)
 
 -- a path is above another one where it is a proper prefix of it

@@ -5,15 +5,13 @@ ghost use Rattle.cv_base.specs.Path.{components, is_above, is_component, is_slas
 ghost use Rattle.cv_base.specs.PathText.{goes_on, rank, text_cmp, HasNoNul, is_above_text};
 ghost use Rattle.cv_base.specs.Reading.{is_path_memory};
 
+use crate::limits::MAX_PATH_LEN;
 use cv_seq::{NoMemory, Text};
 use std::alloc::{AllocError, Global};
 use std::cmp::Ordering;
 use std::fmt;
 use std::marker::Model;
 use thiserror::Error;
-
-/// The most bytes of a path.
-pub const MAX_PATH_LEN: usize = 4096;
 
 /// Why a text is no path.
 #[derive(Clone, Copy, Debug, PartialEq, Eq, Error)]
