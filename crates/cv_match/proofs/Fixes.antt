@@ -11,7 +11,7 @@ use Rattle.cv_match.specs.declared.placed.Placed.{Placed}
 use Rattle.cv_match.specs.declared.placed.Placed.TheVariants.{Introduced, Fixed, LastAffected, Limit}
 use Rattle.cv_match.specs.Affects.{is_fix_between, is_least_fix}
 use Rattle.cv_match.specs.Within.{bound_cmp, bound_total, le, lt}
-use Rattle.cv_match.specs.Walk.{least_place, lesser_of}
+use Rattle.cv_match.specs.code.Walk.{least_place, lesser_of}
 use Rattle.cv_match.proofs.Introductions.{any_more, weaker, le_other, lt_to}
 
 -- two tests that agree on a list find the same place

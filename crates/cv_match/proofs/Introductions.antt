@@ -11,7 +11,7 @@ use Rattle.cv_match.specs.declared.placed.Bound.TheVariants.{At}
 use Rattle.cv_match.specs.declared.placed.Placed.{Placed}
 use Rattle.cv_match.specs.declared.placed.Placed.TheVariants.{Introduced, Fixed, LastAffected, Limit}
 use Rattle.cv_match.specs.Within.{bound_cmp, bound_total, brings, ends, le, lt}
-use Rattle.cv_match.specs.Walk.{lasts, last_start, later_of, later_start}
+use Rattle.cv_match.specs.code.Walk.{lasts, last_start, later_of, later_start}
 
 -- ---- orders, by their answers
 

@@ -1,5 +1,5 @@
 use Rattle.std.proofs.Common.{◌≡◌, length, map}
-use Rattle.cv_match.specs.Ready.{event_text, onto, read_events}
+use Rattle.cv_match.specs.code.Reading.{event_text, onto, read_events}
 use Rattle.cv_match.proofs.reading.read_events.Given as goal
 
 -- what was read, before what is read of those that are left, is what is read of all

@@ -2,7 +2,7 @@ use Rattle.std.proofs.Common.{◌≡◌, None, length}
 use Rattle.std.specs.Option.{option_copied}
 use Rattle.std.specs.Ordering.{on}
 use Rattle.cv_match.specs.Order.{version_cmp_of}
-use Rattle.cv_match.specs.Walk.{last_start}
+use Rattle.cv_match.specs.code.Walk.{last_start}
 use Rattle.cv_match.proofs.within.last_start.Given as goal
 
 -- the best so far, with those that are left, gives the latest of all

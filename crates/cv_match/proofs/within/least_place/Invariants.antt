@@ -1,7 +1,7 @@
 use Rattle.std.proofs.Common.{◌≡◌, None, drop, option_map}
 use Rattle.std.specs.Ordering.{on}
 use Rattle.cv_match.specs.Order.{version_cmp_of}
-use Rattle.cv_match.specs.Walk.{least_place, numbered}
+use Rattle.cv_match.specs.code.Walk.{least_place, numbered}
 use Rattle.cv_match.proofs.within.least_place.Given as goal
 
 -- the least so far, with those that are left, gives the least of all

@@ -3,7 +3,7 @@ ghost use Rattle.std.specs.Option.{option_copied};
 ghost use Rattle.cv_match.specs.Answer.{Answers, text_at};
 
 use crate::answer::{FixedAt, Hit};
-use crate::ready::{ReadyAdvisory, ReadyPackage};
+use crate::prepared::{ReadyAdvisory, ReadyPackage};
 use cv_base::{Advisory, Steps, Turn};
 use std::sync::ledger::Ledger;
 

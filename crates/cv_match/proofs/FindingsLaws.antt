@@ -12,16 +12,16 @@ use Rattle.cv_match.specs.Findings.{finding_cmp, finding_total, findings, is_of_
 abbrev Feeds : Type 0
 Feeds = List (List ℕ × List Advisory)
 
-pub rises : (packages : List Package) (feeds : Feeds) → IsStrictlySortedBy finding_cmp (findings packages feeds)
+pub sorted : (packages : List Package) (feeds : Feeds) → IsStrictlySortedBy finding_cmp (findings packages feeds)
 unfolding findings
-rises packages feeds = order_rises finding_total (pair_findings packages feeds)
+sorted packages feeds = order_rises finding_total (pair_findings packages feeds)
 
-pub told : (packages : List Package) (feeds : Feeds) (f : Finding)
+pub complete : (packages : List Package) (feeds : Feeds) (f : Finding)
     → list_any (is_of_pair f) (findings packages feeds) ≡ list_any (is_of_pair f) (pair_findings packages feeds)
 unfolding findings
-told packages feeds f = any_order (is_of_pair f) (λ p q e. ap is_eq (finding_total.congr p q f e)) (pair_findings packages feeds)
+complete packages feeds f = any_order (is_of_pair f) (λ p q e. ap is_eq (finding_total.congr p q f e)) (pair_findings packages feeds)
 
-pub holds_of_all : (packages : List Package) (feeds : Feeds) (test : Finding → Bool)
+pub sound : (packages : List Package) (feeds : Feeds) (test : Finding → Bool)
     → All (λ f. test f ≡ true) (pair_findings packages feeds) → All (λ f. test f ≡ true) (findings packages feeds)
 unfolding findings
-holds_of_all packages feeds test = all_order finding_cmp (λ f. test f ≡ true) (pair_findings packages feeds)
+sound packages feeds test = all_order finding_cmp (λ f. test f ≡ true) (pair_findings packages feeds)

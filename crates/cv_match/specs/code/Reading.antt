@@ -4,7 +4,7 @@ use Rattle.cv_base.specs.declared.«package».PackageKind.{PackageKind}
 use Rattle.cv_base.specs.declared.advisory.Affected.{Affected}
 use Rattle.cv_base.specs.declared.advisory.Range.{Range}
 use Rattle.cv_base.specs.declared.advisory.Turn.{Turn}
-use Rattle.cv_match.specs.declared.entry.ReadyEntry.{ReadyEntry}
+use Rattle.cv_match.specs.declared.entry.PreparedEntry.{PreparedEntry}
 use Rattle.cv_match.specs.declared.placed.Bound.{Bound}
 use Rattle.cv_match.specs.declared.placed.Bound.TheVariants.{Start, At, End}
 use Rattle.cv_match.specs.declared.placed.Placed.{Placed}
@@ -29,7 +29,7 @@ abbrev pub range_text : {V : Type 0} → (V → List ℕ) → Option (List (Plac
 range_text text range = option_map (map (event_text text)) range
 
 -- an entry by the texts of its versions
-abbrev pub entry_text : {V : Type 0} → (V → List ℕ) → ReadyEntry V → ReadyEntry (List ℕ)
+abbrev pub entry_text : {V : Type 0} → (V → List ℕ) → PreparedEntry V → PreparedEntry (List ℕ)
 entry_text text entry = record { «package» = entry.«package»; ranges = map (range_text text) entry.ranges; versions = entry.versions }
 
 -- a bound, where it can be read
@@ -59,5 +59,5 @@ abbrev pub events_of : PackageKind → Range → Option (List (Placed (List ℕ)
 events_of kind range = if is_range_of kind range then Some (map placed range.turns) else None
 
 -- an entry, read
-abbrev pub ready_entry : PackageKind → Affected → ReadyEntry (List ℕ)
-ready_entry kind entry = record { «package» = entry.«package»; ranges = map (events_of kind) entry.ranges; versions = entry.versions }
+abbrev pub prepared_entry : PackageKind → Affected → PreparedEntry (List ℕ)
+prepared_entry kind entry = record { «package» = entry.«package»; ranges = map (events_of kind) entry.ranges; versions = entry.versions }
