@@ -3,6 +3,7 @@
 -- and npm, each read by its own crate.)
 use Rattle.std.specs.Prelude.{ℕ, nat_lt, if◌then◌else◌, List, length, Result, Ok, Err}
 use Rattle.cv_base.specs.declared.fault.FileBad.{FileBad}
+use Rattle.cv_base.specs.declared.limits.TheConstants.{PACKAGE_FILE_LIMIT}
 use Rattle.cv_base.specs.declared.places.Place.{Place}
 use Rattle.cv_base.specs.declared.places.Place.TheVariants.{Status, StatusFolder, Installed, UsrInstalled, Os, UsrOs, Npm}
 use Rattle.cv_base.specs.declared.tree.Content.{Content}
@@ -16,10 +17,6 @@ use Rattle.cv_npm.specs.Npm.{npm}
 use Rattle.cv_osrel.specs.System.{os_of}
 use Rattle.cv_packages.specs.declared.found.Found.{Found}
 use Rattle.cv_packages.specs.declared.found.Found.TheVariants as found
-
--- the most bytes of a package file
-abbrev pub package_file_limit : ℕ
-package_file_limit = 33554432
 
 -- a status file of dpkg: its packages, or its first bad line
 abbrev pub status_found : Result (List DebPackage) FileBad → Found
@@ -43,6 +40,6 @@ found_at Npm bytes = found.Npm (npm bytes)
 
 -- a file at a place: more bytes than the limit are not read. (A file that was left unread counts as one above the limit.)
 abbrev pub found_in : Place → Content → Found
-found_in place (Bytes bytes) = if nat_lt package_file_limit (length bytes) then found.TooLarge else found_at place bytes
+found_in place (Bytes bytes) = if nat_lt PACKAGE_FILE_LIMIT (length bytes) then found.TooLarge else found_at place bytes
 found_in place TooLarge = found.TooLarge
 found_in place Unread = found.TooLarge

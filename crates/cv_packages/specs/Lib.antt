@@ -1,4 +1,3 @@
-pub mod Answer
 pub mod Faults
 pub mod Files
 pub mod Found

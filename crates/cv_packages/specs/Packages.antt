@@ -4,7 +4,7 @@
 --
 -- `assembled files` takes the package files of a root in the order of their paths. `packages entries` takes the entries of the
 -- root in the order of paths.
-use Rattle.std.specs.Prelude.{Bool, true, false, not, filter, if◌then◌else◌, List, [], ◌∷◌, ◌++◌, map, Option, Some, None, Result, Ok, Err}
+use Rattle.std.specs.Prelude.{Bool, true, false, ◌&&◌, not, filter, List, [], ◌∷◌, ◌++◌, map, Option, Some, None, Result, Ok, Err}
 use Rattle.std.specs.List.{list_any}
 use Rattle.std.specs.Option.{option_or, option_to_list}
 use Rattle.cv_base.specs.Path.{Path}
@@ -45,9 +45,13 @@ is_etc_os file = is_etc_place (place_of file.path)
 abbrev pub is_usr_os : FileFound → Bool
 is_usr_os file = is_usr_place (place_of file.path)
 
--- the files that count: usr/lib/os-release does not beside etc/os-release
+-- the files that count, where etc/os-release is among them or not: beside it usr/lib/os-release does not
+abbrev pub counted_by : Bool → List FileFound → List FileFound
+counted_by etc files = filter (λ file. not (etc && is_usr_os file)) files
+
+-- the files that count
 abbrev pub counted : List FileFound → List FileFound
-counted files = if list_any is_etc_os files then filter (λ file. not (is_usr_os file)) files else files
+counted files = counted_by (list_any is_etc_os files) files
 
 -- the system that a file names, if it is an os-release
 abbrev pub system_in : Found → Option OsName

@@ -1,7 +1,7 @@
 ghost use Rattle.std.specs.Prelude.{◌≡◌, map, not, filter, IfOk};
 ghost use Rattle.std.specs.List.{list_any};
 ghost use Rattle.std.specs.Option.{option_map};
-ghost use Rattle.cv_packages.specs.Answer.{Answers};
+ghost use Rattle.cv_base.specs.Answer.{Yields};
 ghost use Rattle.cv_packages.specs.Faults.{refused_file};
 ghost use Rattle.cv_packages.specs.Packages.{all_packages, assembled, counted, is_etc_os, is_usr_os, packages_in, system, system_in};
 
@@ -16,7 +16,7 @@ use std::alloc::Global;
 /// The packages of the package files of a root, which stand in the order of their paths, or the first file that is refused.
 /// The first os-release names the system, and `usr/lib/os-release` does not count beside `etc/os-release`.
 pub fn assemble(alloc: Global, files: &[&FileFound]) -> Result<Seq<Package>, PackagesError>
-    ensures { Answers refused_file (λ packages. packages) result (assembled (map (λ file. file.now) files.now)) }
+    ensures { Yields refused_file (λ packages. packages) result (assembled (map (λ file. file.now) files.now)) }
 {
     let counted = counted(alloc, files)?;
     all_packages(alloc, system(&counted), &counted)
@@ -88,7 +88,7 @@ fn all_packages(
     os: Option<&OsName>,
     files: &[&FileFound],
 ) -> Result<Seq<Package>, PackagesError>
-    ensures { Answers refused_file (λ packages. packages) result (all_packages (option_map (λ name. name.now) os.entry) (map (λ file. file.now) files.now)) }
+    ensures { Yields refused_file (λ packages. packages) result (all_packages (option_map (λ name. name.now) os.entry) (map (λ file. file.now) files.now)) }
 {
     let mut out = Vec::new(alloc);
     for file in files {
@@ -107,7 +107,7 @@ fn packages_in(
     path: &RelPath,
     found: &Found,
 ) -> Result<Vec<Package>, PackagesError>
-    ensures { Answers refused_file (λ packages. packages.items) result (packages_in (option_map (λ name. name.now) os.entry) path.now found.now) }
+    ensures { Yields refused_file (λ packages. packages.items) result (packages_in (option_map (λ name. name.now) os.entry) path.now found.now) }
 {
     match found {
         Found::Status(found) => Ok(deb_packages(alloc, os, path, found.as_slice())?),

@@ -1,6 +1,6 @@
 ghost use Rattle.std.specs.Prelude.{◌≡◌, map, IfOk, OnOk, ◌++◌};
 ghost use Rattle.std.specs.Option.{option_map, option_to_list};
-ghost use Rattle.cv_packages.specs.Answer.{Answers};
+ghost use Rattle.cv_base.specs.Answer.{Yields};
 ghost use Rattle.cv_packages.specs.Faults.{refused_file};
 ghost use Rattle.cv_packages.specs.Files.{file_found, files_found};
 ghost use Rattle.cv_packages.specs.Packages.{packages};
@@ -9,7 +9,7 @@ use crate::assembly::assemble;
 use crate::error::PackagesError;
 use crate::found::FileFound;
 use crate::read::read_file;
-use cv_base::{Content, Node, Package, TreeEntry, place};
+use cv_base::{Node, Package, TreeEntry, place};
 use cv_seq::{NoMemory, Seq};
 use std::alloc::Global;
 
@@ -17,7 +17,7 @@ use std::alloc::Global;
 /// they have.
 #[tactic(auto, unfolding(crate::specs::Packages::packages))]
 pub fn read_packages(alloc: Global, entries: &[TreeEntry]) -> Result<Seq<Package>, PackagesError>
-    ensures { Answers refused_file (λ packages. packages) result (packages entries.now) }
+    ensures { Yields refused_file (λ packages. packages) result (packages entries.now) }
 {
     let files = read_files(alloc, entries)?;
     let borrowed = borrowed(alloc, &files)?;
@@ -71,4 +71,61 @@ fn borrowed(alloc: Global, files: &[FileFound]) -> Result<Vec<&FileFound>, NoMem
         out.push(file)?;
     }
     Ok(out)
+}
+
+#[cfg(test)]
+mod tests {
+    use super::*;
+    use crate::error::FileFault;
+    use crate::found::Found;
+    use cv_base::{Content, RelPath, What};
+    use std::test::Fail;
+
+    /// A value that threads may share.
+    fn shared<T: Send + Sync>(value: T) -> T {
+        value
+    }
+
+    fn file(alloc: Global, path: &str, text: &str) -> Result<TreeEntry, Fail> {
+        let bytes = Vec::from_slice(alloc, text.as_bytes())?;
+        Ok(TreeEntry {
+            path: RelPath::read(alloc, path)?,
+            node: Node::File(Content::Bytes(Seq::of(bytes))),
+        })
+    }
+
+    #[test]
+    fn packages_of_a_root_have_its_system(rt: HostRuntime) -> Result<(), Fail> {
+        let alloc = rt.alloc();
+        let status = "Package: zlib\nStatus: install ok installed\nVersion: 1\n";
+        let root = vec![in alloc;
+            file(alloc, "etc/os-release", "ID=debian\nVERSION_ID=12\n")?,
+            file(alloc, "usr/lib/os-release", "ID=alpine\n")?,
+            file(alloc, "var/lib/dpkg/status", status)?
+        ]?;
+        let packages = shared(read_packages(alloc, &root)?);
+        assert_eq!(rt; packages.as_slice().len(), 1);
+        let first = &packages.as_slice()[0];
+        assert_eq!(rt; first.name.as_str(), "zlib");
+        assert_eq!(rt; first.ecosystem.as_str(), "Debian:12");
+        Ok(())
+    }
+
+    #[test]
+    fn threads_may_share_what_a_file_has(rt: HostRuntime) -> Result<(), Fail> {
+        let alloc = rt.alloc();
+        let root = vec![in alloc; file(alloc, "lib/apk/db/installed", "P:a\nV:1\nx\n")?]?;
+        let files = shared(read_files(alloc, &root)?);
+        assert_eq!(rt; files.len(), 1);
+        let copy = shared(files[0].clone()?);
+        assert_eq!(rt; copy, files[0]);
+        let bad = FileFault::BadFile {
+            path: RelPath::read(alloc, "lib/apk/db/installed")?,
+            line: 3,
+            what: What::NoColon,
+        };
+        assert_eq!(rt; shared(assemble(alloc, &[&copy])), Err(PackagesError::Refused(bad)));
+        assert!(rt; matches!(copy.found, Found::Bad(_)));
+        Ok(())
+    }
 }

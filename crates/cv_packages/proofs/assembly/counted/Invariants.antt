@@ -1,5 +1,5 @@
 use Rattle.std.proofs.Common.{◌≡◌, drop, map, ◌++◌}
-use Rattle.cv_packages.proofs.FileLemmas.{counted_by}
+use Rattle.cv_packages.specs.Packages.{counted_by}
 use Rattle.cv_packages.proofs.assembly.counted.Given as goal
 
 -- the files so far, with the remaining ones that count, are all that count
