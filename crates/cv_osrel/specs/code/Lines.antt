@@ -1,13 +1,13 @@
 -- How a file is read line by line, and what the code holds meanwhile.
 use Rattle.std.specs.Prelude.{ℕ, List, [], ◌∷◌, ◌++◌, map, Option, None, Some}
-use Rattle.cv_base.specs.Cuts.{split_left}
+use Rattle.cv_base.specs.code.Cuts.{remaining_lines}
 use Rattle.cv_order.specs.Digits.{after_digits, front_digits}
 use Rattle.cv_osrel.specs.System.{trimmed}
 use Rattle.cv_osrel.specs.declared.branch.Branch.{Branch}
 
 -- the lines of the remaining bytes, trimmed
-abbrev pub remaining_lines : Option (List ℕ) → List (List ℕ)
-remaining_lines remaining = map trimmed (split_left remaining)
+abbrev pub trimmed_lines : Option (List ℕ) → List (List ℕ)
+trimmed_lines remaining = map trimmed (remaining_lines remaining)
 
 -- digits and what stands after them, if there is one
 abbrev pub number_by : List ℕ → List ℕ → Option (List ℕ × List ℕ)
