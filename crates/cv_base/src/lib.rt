@@ -16,6 +16,7 @@ mod manifest;
 mod package;
 mod package_files;
 mod path;
+mod path_text;
 mod places;
 mod steps;
 mod text;
@@ -31,7 +32,8 @@ pub use limits::{MAX_ADVISORIES, MAX_ENTRIES, MAX_LAYERS, MAX_PATH_LEN, PACKAGE_
 pub use manifest::Manifest;
 pub use package::{Package, PackageKind, PackageName};
 pub use package_files::place;
-pub use path::{PathError, RelPath, is_special};
+pub use path::{PathError, RelPath, path_laws};
+pub use path_text::is_special;
 pub use places::Place;
 pub use steps::Steps;
 pub use text::{cut_at, is_blank, is_dropped, next_line, trim_line};

@@ -63,7 +63,7 @@ module _ {V : Type 0} (R : V → V → Ordering) (o : IsTotalOrder R) (v : V) wh
       rw (above, not_itself f, e) (sym (place_same (is_least_fix R (Fixed f ∷ ts) v) (is_least_fix R ts v) (hidden f ts e) (i + 1) ts))
   settled f ts i above false e = rw (above, not_itself f, e) refl
 
-  -- what the least so far and the events that are left give
+  -- what the least so far and the events that remain give
   abbrev given : ℕ × V → ℕ → List (Placed V) → Option ℕ
   given b i ts = if list_any (is_fix_between R v b.1) ts then position_from (is_least_fix R ts v) i ts else Some b.0
 

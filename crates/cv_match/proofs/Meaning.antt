@@ -206,17 +206,17 @@ turn_text : (found : Option Turn) (x : Placed (List ℕ)) → option_map placed 
 turn_text None x = λ h. cc
 turn_text (Some t) x = λ h. fix_placed t ∙ ap fix_text (same_Some (placed t) x h)
 
--- what the place in a range tells
+-- the fix at the place in a range
 abbrev RangeTells : Package → Range → Option ℕ → Type 0
 RangeTells p r None = least_fix p r ≡ None
 RangeTells p r (Some i) = IsSome (least_fix p r) × (option_and_then fix_of (slice_get r.turns i) ≡ least_fix p r)
 
-range_tells : (p : Package) (r : Range) (i : Option ℕ)
+range_names : (p : Package) (r : Range) (i : Option ℕ)
     → position_from (is_least_fix (version_cmp_of p.kind) (map placed r.turns) (matched_version p)) 0 (map placed r.turns) ≡ i → RangeTells p r i
-range_tells p r None e =
+range_names p r None e =
     let none = absent (is_least_fix (version_cmp_of p.kind) (map placed r.turns) (matched_version p)) (map placed r.turns) 0 e in
     rw none.first refl
-range_tells p r (Some i) e =
+range_names p r (Some i) e =
     let here = locate (is_least_fix (version_cmp_of p.kind) (map placed r.turns) (matched_version p)) (map placed r.turns) 0 i e in
     let at : i ≡ here.place = omega (arith, here.is) in
     let turned : option_map placed (slice_get r.turns i) ≡ Some here.item =
@@ -229,7 +229,7 @@ ranges_place : (p : Package) → is_version_of p.kind (matched_version p) ≡ tr
     → position_from (range_holds (version_cmp_of p.kind) (matched_version p)) 0 (map (events_of p.kind) xs) ≡ position_from (has_within p) 0 xs
 ranges_place p e xs = place_map (events_of p.kind) (range_holds (version_cmp_of p.kind) (matched_version p)) (has_within p) (range_is p.kind (matched_version p) e) 0 xs
 
--- the first entry that has the version within a range tells
+-- the first entry that has the version within a range decides
 fixed_is : (a : Advisory) (p : Package) (x : Affected) → find (entry_has p) a.affected ≡ Some x
     → fixed a p ≡ option_and_then (least_fix p) (find (has_within p) x.ranges)
 unfolding fixed
@@ -241,10 +241,10 @@ at_range : (a : Advisory) (p : Package) (n : ℕ) (x : Affected) (j : ℕ) (r : 
 at_range a p n x j r None h g f t = f ∙ t
 at_range a p n x j r (Some i) h g f t = (rw f t.0, rw (h, g, f) t.1)
 
-entry_tells : (a : Advisory) (p : Package) → is_version_of p.kind (matched_version p) ≡ true → (n : ℕ) (x : Affected)
+entry_names : (a : Advisory) (p : Package) → is_version_of p.kind (matched_version p) ≡ true → (n : ℕ) (x : Affected)
     → slice_get a.affected n ≡ Some x → entry_has p x ≡ true → find (entry_has p) a.affected ≡ Some x
     → NamesFixed a p (fixed_at (version_cmp_of p.kind) (matched_version p) n (prepared_entry p.kind x))
-entry_tells a p e n x h q f = rw (ranges_place p e x.ranges) (by_place (position_from (has_within p) 0 x.ranges) refl) where
+entry_names a p e n x h q f = rw (ranges_place p e x.ranges) (by_place (position_from (has_within p) 0 x.ranges) refl) where
   by_place : (place : Option ℕ) → position_from (has_within p) 0 x.ranges ≡ place
       → NamesFixed a p (option_and_then (λ range. fixed_in (version_cmp_of p.kind) (matched_version p) n (map (events_of p.kind) x.ranges) range) place)
   by_place None g =
@@ -255,10 +255,10 @@ entry_tells a p e n x h q f = rw (ranges_place p e x.ranges) (by_place (position
       let here = locate (has_within p) x.ranges 0 j g in
       let at : j ≡ here.place = omega (arith, here.is) in
       let got : slice_get x.ranges j ≡ Some here.item = ap (λ n. slice_get x.ranges n) at ∙ here.located.at in
-      let told : fixed a p ≡ least_fix p here.item = fixed_is a p x f ∙ ap (option_and_then (least_fix p)) here.located.first in
+      let named : fixed a p ≡ least_fix p here.item = fixed_is a p x f ∙ ap (option_and_then (least_fix p)) here.located.first in
       rw (get_map (events_of p.kind) x.ranges j, got, events_are p.kind (matched_version p) here.item here.located.passes)
       (at_range a p n x j here.item (position_from (is_least_fix (version_cmp_of p.kind) (map placed here.item.turns) (matched_version p)) 0 (map placed here.item.turns))
-      h got told (range_tells p here.item (position_from (is_least_fix (version_cmp_of p.kind) (map placed here.item.turns) (matched_version p)) 0 (map placed here.item.turns)) refl))
+      h got named (range_names p here.item (position_from (is_least_fix (version_cmp_of p.kind) (map placed here.item.turns) (matched_version p)) 0 (map placed here.item.turns)) refl))
 
 -- ---- the answer
 
@@ -309,7 +309,7 @@ version_answer a p kept e = rw (entry_place_is p e a.affected) (by_place (positi
       let at : n ≡ here.place = omega (arith, here.is) in
       let got : slice_get a.affected n ≡ Some here.item = ap (λ m. slice_get a.affected m) at ∙ here.located.at in (
         affects_is a p kept ∙ (ap (λ b. list_any (entry_has_listed p) a.affected || b) here.located.some ∙ or-true (list_any (entry_has_listed p) a.affected)),
-        rw (get_map (prepared_entry p.kind) a.affected n, got) (entry_tells a p e n here.item got here.located.passes here.located.first),
+        rw (get_map (prepared_entry p.kind) a.affected n, got) (entry_names a p e n here.item got here.located.passes here.located.first),
       )
 
 -- what the entries of a record answer, once they are read

@@ -19,7 +19,7 @@ pub(crate) enum PreparedEntries {
     Npm(Seq<PreparedEntry<SemanticVersion>>),
 }
 
-/// The version of a package, read for its kind: none where the text is no version.
+/// The version of a package, read for its kind: `None` if the text is not a valid version.
 #[derive(Drop)]
 pub(crate) enum PreparedVersion {
     Deb(Option<DebVersion>),

@@ -22,7 +22,7 @@ pub fn affects<L: Ledger>(
     advisory.hit(package)
 }
 
-/// The fixed version at a place of a record, or none where no fix stands there.
+/// The fixed version at a place of a record, or `None` if there is no fix at it.
 pub fn fixed_text(advisory: &Advisory, at: FixedAt) -> Option<&str>
     ensures { option_copied result ≡ text_at advisory.now at }
 {

@@ -1,4 +1,4 @@
-//! Tells which packages an advisory affects, and which version has the fix, after the evaluation of the OSV schema 1.6.
+//! Which packages an advisory affects, and which version has the fix, after the evaluation of the OSV schema 1.6.
 //!
 //! ```text
 //! let record = prepare(alloc, &advisory, PackageKind::Deb)?;
@@ -13,6 +13,7 @@ mod answer;
 mod entry;
 mod evaluate;
 mod key;
+mod kinds;
 mod laws;
 mod matching;
 mod order;
@@ -28,6 +29,7 @@ mod within;
 pub use answer::{FixedAt, Hit};
 pub use evaluate::{affects, fixed_text};
 pub use key::{family, key_name, package_keys};
+pub use kinds::{PreparedForKinds, prepare_for_kinds};
 pub use laws::{findings_laws, key_laws};
 pub use order::in_order;
 pub use prepared::{ReadyAdvisory, ReadyPackage, prepare, prepare_package};

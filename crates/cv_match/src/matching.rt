@@ -15,7 +15,8 @@ use crate::version::Version;
 use crate::within::{holds, least_fix};
 use cv_base::{PackageName, Seq, Text};
 
-/// The answer of a record's entries about a package. `version` is none where the package's text is no version.
+/// The answer of a record's entries about a package. `version` is `None` if the text of the package is not a
+/// valid version.
 pub(crate) fn hit<V: Version>(
     entries: &[PreparedEntry<V>],
     key: &PackageKey,

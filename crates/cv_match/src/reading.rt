@@ -89,13 +89,13 @@ fn read_events<V: Version>(
     ensures { IfOk result (λ prepared. range_text V.text prepared ≡ read_events V.kind turns.now) }
 {
     let mut events = Vec::new(alloc);
-    let mut left = turns;
-    while let [turn, rest @ ..] = left {
+    let mut remaining = turns;
+    while let [turn, rest @ ..] = remaining {
         match read_event(alloc, turn)? {
             Some(event) => events.push(event)?,
             None => return Ok(None),
         }
-        left = rest;
+        remaining = rest;
     }
     Ok(Some(Seq::of(events)))
 }

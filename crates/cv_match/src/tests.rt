@@ -395,6 +395,7 @@ fn prepared_records_are_shared_and_go_to_other_threads(rt: HostRuntime) -> Resul
     let prepared = sent(prepare(alloc, &record, package.kind)?);
     let shared = sent(prepared.clone()?);
     drop(prepared);
+    let kind = package.kind;
     let package = sent(prepare_package(alloc, &package)?);
     let at = sent(FixedAt {
         entry: 0,
@@ -402,6 +403,9 @@ fn prepared_records_are_shared_and_go_to_other_threads(rt: HostRuntime) -> Resul
         turn: 1,
     });
     assert_eq!(rt; sent(shared.hit(&package)), Hit::Yes { fixed: Some(at) });
+    let kinds = sent(prepare_for_kinds(alloc, &record)?).clone()?;
+    let npm = kinds.for_kind(kind);
+    assert_eq!(rt; npm.hit(&package), Hit::Yes { fixed: Some(at) });
     let version = SemanticVersion::read(alloc, &Text::of(alloc, "1.0.0")?)?;
     assert!(rt; sent(version).is_some());
     Ok(())

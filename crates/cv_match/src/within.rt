@@ -72,10 +72,10 @@ fn last_start<'a, V: Version>(events: &'a [Placed<V>], version: &V) -> Option<&'
     ensures { option_copied result ≡ last_start (on V.text (version_cmp_of V.kind)) version.now None events.now }
 {
     let mut best = None;
-    let mut left = events;
-    while let [event, rest @ ..] = left {
+    let mut remaining = events;
+    while let [event, rest @ ..] = remaining {
         best = later_start(best, event, version);
-        left = rest;
+        remaining = rest;
     }
     best
 }

@@ -17,11 +17,11 @@ use Rattle.cv_match.specs.Affects.{is_least_fix, key_name, matched_version, matc
 use Rattle.cv_match.specs.Order.{version_cmp_of}
 use Rattle.cv_match.specs.Within.{holds}
 
--- what advisories are asked about a package
+-- what is compared with a record
 abbrev pub key_of : Package → PackageKey
 key_of p = record { ecosystem = p.ecosystem; name = key_name p; version = matched_version p }
 
--- a record's name is that of the package asked about
+-- a record's name is that of the package
 abbrev pub key_matches : PackageKey → Option PackageName → Bool
 key_matches key None = false
 key_matches key (Some name) = same name.name key.name && matches_ecosystem name.ecosystem key.ecosystem

@@ -21,7 +21,7 @@ later_start R v best (Fixed f) = best
 later_start R v best (LastAffected l) = best
 later_start R v best (Limit l) = best
 
--- and of all that are left
+-- and of all that remain
 abbrev pub last_start : {V : Type 0} → (V → V → Ordering) → V → Option (Bound V) → List (Placed V) → Option (Bound V)
 last_start R v best [] = best
 last_start R v best (event ∷ events) = last_start R v (later_start R v best event) events
@@ -47,7 +47,7 @@ lesser_fix R v best place (Fixed f) = if lt R (At v) (At f) then Some (lesser_of
 lesser_fix R v best place (LastAffected l) = best
 lesser_fix R v best place (Limit l) = best
 
--- and of all that are left, the first of which has this place: its place
+-- and of all that remain, the first of which has this place: its place
 abbrev pub least_place : {V : Type 0} → (V → V → Ordering) → V → Option (ℕ × V) → ℕ → List (Placed V) → Option ℕ
 least_place R v best place [] = option_map (λ f. f.0) best
 least_place R v best place (event ∷ events) = least_place R v (lesser_fix R v best place event) (place + 1) events

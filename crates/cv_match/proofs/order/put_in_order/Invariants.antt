@@ -4,7 +4,7 @@ use Rattle.cv_match.specs.Findings.{finding_cmp}
 use Rattle.cv_match.proofs.Ordered.{findings_in, put_all}
 use Rattle.cv_match.proofs.order.put_in_order.Given as goal
 
--- those that are left, put among those that were taken, are all in order
+-- those that remain, put among those that were taken, are all in order
 abbrev pub invariant-loop-finding : goal.invariant-loop-finding
 invariant-loop-finding l = put_all (findings_in l.keyed.keys) l.found.items ≡ in_order finding_cmp l.fn.found.items
 
