@@ -1,10 +1,11 @@
 //! Walks over the texts of paths.
-ghost use Rattle.std.specs.Prelude.{◌≡◌, ◌++◌, ◌∷◌, ◌+◌, ◌==◌, ◌&&◌, false, length, string_bytes, IfNone, IfOk, IfSome};
+ghost use Rattle.std.specs.Prelude.{◌≡◌, ◌++◌, ◌∷◌, ◌+◌, ◌==◌, ◌&&◌, false, length, nat_lt, string_bytes, IfNone, IfOk, IfSome};
 ghost use Rattle.std.specs.List.{count_by, list_all, list_any, slice_split};
 ghost use Rattle.cv_base.specs.Texts.{is_nil};
 ghost use Rattle.cv_base.specs.Path.{components, is_component, is_name, is_slash, is_special};
 ghost use Rattle.cv_base.specs.code.PathText.{front_text, goes_on, is_above_text, is_end, joined, rank, slashes_after, text_cmp};
 
+use crate::limits::MAX_PATH_LEN;
 use cv_seq::NoMemory;
 use std::alloc::Global;
 use std::cmp::Ordering;
@@ -206,4 +207,11 @@ pub(crate) fn joined(alloc: Global, directory: &str, name: &str) -> Result<Strin
     }
     text.push_str(name)?;
     Ok(text)
+}
+
+/// Whether a text has more bytes than a path may have.
+pub(crate) fn is_too_long(text: &str) -> bool
+    ensures { result ≡ nat_lt MAX_PATH_LEN (length text.now) }
+{
+    text.len() > MAX_PATH_LEN
 }
