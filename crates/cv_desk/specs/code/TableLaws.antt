@@ -9,8 +9,8 @@ use Rattle.cv_base.specs.declared.path.PathError.{PathError}
 use Rattle.cv_base.proofs.Lists.{any_last}
 use Rattle.cv_desk.specs.Row.{Row}
 use Rattle.cv_desk.specs.Stored.{Stored, is_distinct, IsDistinctIn, item_at}
-use Rattle.cv_desk.specs.Table.{entries_behind, entry_read, have, is_path, item_of, tree_of_rows}
-use Rattle.cv_desk.specs.TableSteps.{first_at, stands, with_read, with_row}
+use Rattle.cv_desk.specs.Table.{entries_after, entry_read, have, is_path, item_of, tree_of_rows}
+use Rattle.cv_desk.specs.code.TableSteps.{first_at, stands, with_read, with_row}
 
 -- No path stands twice in entries that were added one by one.
 
@@ -47,11 +47,11 @@ rows_distinct entries (row ∷ rows) d = rows_distinct (with_row entries row) ro
 abbrev Alike : List Stored → List Row → Type 0
 Alike entries rows = (p : Path) → stands entries p ≡ have rows p
 
--- the rows behind add their entries to some that are alike to the rows before
+-- the later rows add their entries to some that are alike to the rows before
 abbrev Adds : List Row → List Row → Type 0
-Adds before rows = (entries : List Stored) → Alike entries before → fold with_row entries rows ≡ entries ++ entries_behind before rows
+Adds before rows = (entries : List Stored) → Alike entries before → fold with_row entries rows ≡ entries ++ entries_after before rows
 
--- a row whose text is no path, or a path that stands already, leaves the entries alike
+-- a row whose text is not a valid path, or whose path an entry has already, leaves the entries alike
 alike_refused : (entries : List Stored) (before : List Row) (row : Row) (error : PathError) → path_of row.path ≡ Err error → Alike entries before → Alike entries (row ∷ before)
 alike_refused entries before row error e alike = λ p. alike p ∙ sym (ap (λ found. is_path found p || have before p) e)
 
@@ -71,18 +71,18 @@ alike_new entries before row entry e alike = λ p.
 
 row_adds : (entries : List Stored) (before rows : List Row) (row : Row) (found : Result Path PathError) → path_of row.path ≡ found → Alike entries before
     → Adds (row ∷ before) rows
-    → fold with_row (with_read entries row found) rows ≡ entries ++ (option_to_list (entry_read before row found) ++ entries_behind (row ∷ before) rows)
+    → fold with_row (with_read entries row found) rows ≡ entries ++ (option_to_list (entry_read before row found) ++ entries_after (row ∷ before) rows)
 row_adds entries before rows row (Err error) e alike adds = adds entries (alike_refused entries before row error e alike)
 row_adds entries before rows row (Ok path) e alike adds =
     let entry : Stored = record { path = path; item = item_of row.kind row.bytes } in
     by_test entry e (stands entries path) refl (have before path) (alike path) where
       by_test : (entry : Stored) → path_of row.path ≡ Ok entry.path → (b : Bool) → stands entries entry.path ≡ b → (c : Bool) → b ≡ c
-          → fold with_row (cond b entries (entries ++ entry ∷ [])) rows ≡ entries ++ (option_to_list (cond c None (Some entry)) ++ entries_behind (row ∷ before) rows)
+          → fold with_row (cond b entries (entries ++ entry ∷ [])) rows ≡ entries ++ (option_to_list (cond c None (Some entry)) ++ entries_after (row ∷ before) rows)
       by_test entry e true s true h = adds entries (alike_again entries before row entry.path e s alike)
       by_test entry e true s false h = cc
       by_test entry e false s true h = cc
       by_test entry e false s false h =
-          adds (entries ++ entry ∷ []) (alike_new entries before row entry e alike) ∙ append_assoc entries (entry ∷ []) (entries_behind (row ∷ before) rows)
+          adds (entries ++ entry ∷ []) (alike_new entries before row entry e alike) ∙ append_assoc entries (entry ∷ []) (entries_after (row ∷ before) rows)
 
 rows_add : (before rows : List Row) → Adds before rows
 rows_add before [] = λ entries alike. sym (append-nil entries)
@@ -99,26 +99,26 @@ not_by : (row : Row) (before : List Row) (p : Path) (found : Result Path PathErr
 not_by row before p found e k h = ap (λ read. is_path read p || have before p) e ∙ ap (λ b. b || have before p) k ∙ h
 
 row_found : (before rows : List Row) (row : Row) (p : Path) (found : Result Path PathError) → path_of row.path ≡ found → have before p ≡ false
-    → (have (row ∷ before) p ≡ false → item_at (entries_behind (row ∷ before) rows) p ≡ first_at rows p)
-    → item_at (option_to_list (entry_read before row found) ++ entries_behind (row ∷ before) rows) p ≡ cond (is_path found p) (Some (item_of row.kind row.bytes)) (first_at rows p)
+    → (have (row ∷ before) p ≡ false → item_at (entries_after (row ∷ before) rows) p ≡ first_at rows p)
+    → item_at (option_to_list (entry_read before row found) ++ entries_after (row ∷ before) rows) p ≡ cond (is_path found p) (Some (item_of row.kind row.bytes)) (first_at rows p)
 row_found before rows row p (Err error) e h others = others (not_by row before p (Err error) e refl h)
 row_found before rows row p (Ok path) e h others = by_test (same_path path p) refl (have before path) refl where
   by_test : (b : Bool) → same_path path p ≡ b → (c : Bool) → have before path ≡ c
-      → item_at (option_to_list (cond c None (Some (record { path = path; item = item_of row.kind row.bytes }))) ++ entries_behind (row ∷ before) rows) p
+      → item_at (option_to_list (cond c None (Some (record { path = path; item = item_of row.kind row.bytes }))) ++ entries_after (row ∷ before) rows) p
       ≡ cond b (Some (item_of row.kind row.bytes)) (first_at rows p)
   by_test true k true s = let clash : true ≡ false = sym s ∙ ap (have before) (path_is path p k) ∙ h in cc
-  by_test true k false s = ap (λ b. cond b (Some (item_of row.kind row.bytes)) (item_at (entries_behind (row ∷ before) rows) p)) k
+  by_test true k false s = ap (λ b. cond b (Some (item_of row.kind row.bytes)) (item_at (entries_after (row ∷ before) rows) p)) k
   by_test false k true s = others (not_by row before p (Ok path) e k h)
   by_test false k false s =
-      ap (λ b. cond b (Some (item_of row.kind row.bytes)) (item_at (entries_behind (row ∷ before) rows) p)) k ∙ others (not_by row before p (Ok path) e k h)
+      ap (λ b. cond b (Some (item_of row.kind row.bytes)) (item_at (entries_after (row ∷ before) rows) p)) k ∙ others (not_by row before p (Ok path) e k h)
 
-behind_found : (before rows : List Row) (p : Path) → have before p ≡ false → item_at (entries_behind before rows) p ≡ first_at rows p
-behind_found before [] p h = refl
-behind_found before (row ∷ rows) p h = row_found before rows row p (path_of row.path) refl h (λ k. behind_found (row ∷ before) rows p k)
+after_found : (before rows : List Row) (p : Path) → have before p ≡ false → item_at (entries_after before rows) p ≡ first_at rows p
+after_found before [] p h = refl
+after_found before (row ∷ rows) p h = row_found before rows row p (path_of row.path) refl h (λ k. after_found (row ∷ before) rows p k)
 
 -- what the first row of a path has is what the tree has there
 pub first_found : (rows : List Row) (p : Path) → first_at rows p ≡ item_at (tree_of_rows rows) p
-first_found rows p = sym (behind_found [] rows p refl)
+first_found rows p = sym (after_found [] rows p refl)
 
 -- a table's tree, if it has a layer
 pub table_distinct : (found : Option (List Row)) → IsDistinctIn (Some (option_map tree_of_rows found))
