@@ -5,7 +5,11 @@ pub mod Ends
 pub mod InOrder
 pub mod Lines
 pub mod Lists
+pub mod PathEnds
+pub mod PathFronts
 pub mod PathLemmas
+pub mod PathReads
+pub mod PathSlashes
 pub mod PlaceLemmas
 pub mod Printing
 pub mod Results

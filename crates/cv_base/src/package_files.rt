@@ -14,7 +14,7 @@ use crate::text::split_first;
 pub fn place(path: &RelPath) -> Option<Place>
     ensures { result ≡ place_of path.now }
 {
-    place_of_text(path.plain_text())
+    place_of_text(path.text())
 }
 
 /// The same, of the path's text.

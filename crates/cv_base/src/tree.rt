@@ -1,9 +1,6 @@
 use crate::path::RelPath;
 use cv_seq::Seq;
 
-/// The most bytes that a package file may have to be read.
-pub const PACKAGE_FILE_LIMIT: u32 = 33_554_432;
-
 /// What stands at a path of a layer. A link or any special file is `Other`.
 #[derive(Clone, Copy, Debug, PartialEq, Eq, PartialOrd, Ord)]
 pub enum Kind {

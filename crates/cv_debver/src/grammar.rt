@@ -7,7 +7,7 @@ use crate::version::split;
 use cv_order::are_digits;
 
 /// Whether the text is a version: `[epoch:]upstream[-revision]`, where the epoch is what stands before the first colon and the
-/// revision what stands behind the last hyphen. A text with a colon in its upstream version is none.
+/// revision what comes after the last hyphen. A text with a colon in its upstream version is none.
 pub fn is_version(text: &[u8]) -> bool
     ensures value { result ≡ is_version text.now }
     ensures grammar { IsTrue result ↔ IsVersion text.now }

@@ -1,7 +1,8 @@
--- What one call of `next` means for the whole input, where the source tells its bytes.
+-- What one call of `next` means for the whole input, if the bytes of the source are known.
 use Rattle.std.proofs.Common.{◌≡◌, ℕ, ◌+◌, ◌-◌, ◌<◌, ◌≤◌, List, [], ◌∷◌, ◌++◌, length, take, drop, refl, sym, ◌∙◌, ap, subst, arith, append_assoc, append-nil, length-append, length-take, length-take-le, take-append-drop, inl, inr, Bool, true, false}
-use Rattle.std.specs.Prelude.{Option, None, Some, Result, Ok, Err, if◌then◌else◌, slice_index, ◌==◌}
+use Rattle.std.specs.Prelude.{Option, None, Some, Result, Ok, Err, if◌then◌else◌}
 use Rattle.std.specs.Option.{option_map}
+use Rattle.std.specs.Io.BufRead.{ends_with_byte}
 use Rattle.std.specs.Io.KnownBytes.{Consumes, IsAtEnd, prepend_known}
 use Rattle.std.proofs.lemmas.Bool.{false≢true}
 use Rattle.cv_io.specs.declared.line.Line.{Line}
@@ -13,7 +14,7 @@ use Rattle.cv_io.specs.Takes.{Takes}
 use Rattle.cv_io.specs.Reader.{Reader, progress_of, ungiven, room_of, reading, IsFirstLine, IsOver, PassesLine, IsUnfinished, Answers, Step, Reads, Gives, Narrows}
 use Rattle.cv_io.proofs.Lines.{lines_of-line, lines_of-nil, lines_of-last, reading_of-line, reading_of-nil, reading_of-last, reading_of-long_line, reading_of-long_input}
 
--- what the source has left behind the bytes taken
+-- the bytes that remain in the source after those taken
 record Tail (ended : Bool) (held : List ℕ) (left : Option (List ℕ)) (bytes whole : List ℕ) : Type 0 where
   tail : List ℕ
   old : whole ≡ bytes ++ tail
@@ -23,7 +24,7 @@ record Tail (ended : Bool) (held : List ℕ) (left : Option (List ℕ)) (bytes w
 tail_by : (was is : Bool) (held now more bytes whole : List ℕ) (l m : Option (List ℕ)) → bytes ≡ held ++ more → Consumes l m more
     → (was ≡ true → (more ≡ []) × (is ≡ true)) → ((was ≡ true → IsAtEnd l) → is ≡ true → IsAtEnd m)
     → (if was then Some held else prepend_known held l) ≡ Some whole → Tail is now m bytes whole
-tail_by true true held now more bytes whole l m join took over seen told =
+tail_by true true held now more bytes whole l m join took over seen known =
     let none = (over refl).0 in
     let same : whole ≡ held = cc in
     record {
@@ -32,10 +33,10 @@ tail_by true true held now more bytes whole l m join took over seen told =
       new = ap Some (sym (append-nil now));
       ends = λ _. refl;
     }
-tail_by true false held now more bytes whole l m join took over seen told = absurd (false≢true (over refl).1)
-tail_by false is held now more bytes whole None m join took over seen told = absurd (cc)
-tail_by false is held now more bytes whole (Some xs) None join took over seen told = absurd took
-tail_by false false held now more bytes whole (Some xs) (Some ys) join took over seen told =
+tail_by true false held now more bytes whole l m join took over seen known = absurd (false≢true (over refl).1)
+tail_by false is held now more bytes whole None m join took over seen known = absurd (cc)
+tail_by false is held now more bytes whole (Some xs) None join took over seen known = absurd took
+tail_by false false held now more bytes whole (Some xs) (Some ys) join took over seen known =
     let same : whole ≡ held ++ xs = cc in
     record {
       tail = ys;
@@ -43,7 +44,7 @@ tail_by false false held now more bytes whole (Some xs) (Some ys) join took over
       new = refl;
       ends = λ e. absurd (false≢true e);
     }
-tail_by false true held now more bytes whole (Some xs) (Some ys) join took over seen told =
+tail_by false true held now more bytes whole (Some xs) (Some ys) join took over seen known =
     let same : whole ≡ held ++ xs = cc in
     let none : ys ≡ [] = seen (λ e. absurd (false≢true e)) refl in
     record {
@@ -59,7 +60,7 @@ module _ (before now : Reader) (l m : Option (List ℕ)) (bytes : List ℕ)
   TailOf whole = Tail now.ended now.held m bytes whole
 
   tail_of : (whole : List ℕ) → ungiven before l ≡ Some whole → TailOf whole
-  tail_of whole told = tail_by before.ended now.ended before.held now.held takes.more bytes whole l m takes.joined takes.consumed takes.over takes.seen told
+  tail_of whole known = tail_by before.ended now.ended before.held now.held takes.more bytes whole l m takes.joined takes.consumed takes.over takes.seen known
 
   module _ (lines : now.max_line ≡ before.max_line) (inputs : now.max_input ≡ before.max_input) (within : now.taken ≤ now.max_input) where
     room_before : room_of before ≡ length bytes + (now.max_input - now.taken)
@@ -69,14 +70,14 @@ module _ (before now : Reader) (l m : Option (List ℕ)) (bytes : List ℕ)
     reading_before whole = let e = sym lines in λ i. reading_of (e i) (room_before i) whole
 
     module _ (before_limit : now.ended ≡ true → now.taken < now.max_input) (whole : List ℕ) (t : TailOf whole) where
-      -- the bytes left when the call began, and those left now
+      -- the bytes that remained when the call began, and those that remain now
       abbrev reads : List ℕ → Reading
       reads xs = reading_of before.max_line (room_of before) xs
 
       abbrev reads_now : Reading
       reads_now = reading_of now.max_line (room_of now) (now.held ++ t.tail)
 
-      -- all that is left is held
+      -- all remaining bytes are held
       all_held : now.held ≡ [] → now.ended ≡ true → now.held ++ t.tail ≡ []
       all_held h e = λ i. h i ++ t.ends e i
 
@@ -142,7 +143,7 @@ module _ (before now : Reader) (l m : Option (List ℕ)) (bytes : List ℕ)
           ∙ reading_of-long_input now.max_line (length bytes + (now.max_input - now.taken)) bytes t.tail x.whole x.short (omega (arith, e))
 
     shorter : (piece : List ℕ) → length (text_of piece) ≤ length piece
-    shorter piece = by (slice_index piece (length piece - 1) == CR)
+    shorter piece = by (ends_with_byte CR piece)
       where
         by : (b : Bool) → length (if b then take (length piece - 1) piece else piece) ≤ length piece
         by true = omega (arith, length-take (length piece - 1) piece)
@@ -157,26 +158,26 @@ module _ (before now : Reader) (l m : Option (List ℕ)) (bytes : List ℕ)
           | inr e ↦ (let long = ap length e.0 in let none = ap length e.2 in let some = e.1 in (omega arith, omega arith))
         ]
 
--- where the source tells nothing, nothing is said
-reads_untold : (answer : Result Line LineError) (v : Option Reading) → Reads None v answer
-reads_untold (Ok (Text line)) v = tt
-reads_untold (Ok End) v = tt
-reads_untold (Err ReadFault) v = tt
-reads_untold (Err LineTooLong) v = tt
-reads_untold (Err InputTooLong) v = tt
-reads_untold (Err NoMemory) v = tt
+-- if the bytes are not known, nothing is claimed
+reads_unknown : (answer : Result Line LineError) (v : Option Reading) → Reads None v answer
+reads_unknown (Ok (Text line)) v = tt
+reads_unknown (Ok End) v = tt
+reads_unknown (Err ReadFault) v = tt
+reads_unknown (Err LineTooLong) v = tt
+reads_unknown (Err InputTooLong) v = tt
+reads_unknown (Err NoMemory) v = tt
 
-gives_untold : (answer : Result Line LineError) (v : Option (List ℕ)) → Gives None v answer
-gives_untold (Ok (Text line)) v = tt
-gives_untold (Ok End) v = tt
-gives_untold (Err error) v = tt
+gives_unknown : (answer : Result Line LineError) (v : Option (List ℕ)) → Gives None v answer
+gives_unknown (Ok (Text line)) v = tt
+gives_unknown (Ok End) v = tt
+gives_unknown (Err error) v = tt
 
 module _ (before now : Reader) (l m : Option (List ℕ)) (lines : now.max_line ≡ before.max_line) (inputs : now.max_input ≡ before.max_input) where
-  told_reads : (answer : Result Line LineError) → Step before now l m answer → (whole : List ℕ) → ungiven before l ≡ Some whole → Reads (Some (reading_of before.max_line (room_of before) whole)) (reading now m) answer
-  told_reads answer s whole told = subst (λ (v : Option (List ℕ)). Reads (Some (reading_of before.max_line (room_of before) whole)) (option_map (reading_of now.max_line (room_of now)) v) answer) (sym t.new) (by answer s.answers)
+  known_reads : (answer : Result Line LineError) → Step before now l m answer → (whole : List ℕ) → ungiven before l ≡ Some whole → Reads (Some (reading_of before.max_line (room_of before) whole)) (reading now m) answer
+  known_reads answer s whole known = subst (λ (v : Option (List ℕ)). Reads (Some (reading_of before.max_line (room_of before) whole)) (option_map (reading_of now.max_line (room_of now)) v) answer) (sym t.new) (by answer s.answers)
     where
       t : Tail now.ended now.held m s.bytes whole
-      t = tail_of before now l m s.bytes s.takes whole told
+      t = tail_of before now l m s.bytes s.takes whole known
 
       by : (a : Result Line LineError) → Answers s.bytes now a → Reads (Some (reading_of before.max_line (room_of before) whole)) (Some (reading_of now.max_line (room_of now) (now.held ++ t.tail))) a
       by (Ok (Text line)) x = (at_line before now l m s.bytes s.takes lines inputs s.within s.before_limit whole t line x).0
@@ -186,11 +187,11 @@ module _ (before now : Reader) (l m : Option (List ℕ)) (lines : now.max_line �
       by (Err InputTooLong) x = at_long_input before now l m s.bytes s.takes lines inputs s.within s.before_limit whole t x.0 x.1
       by (Err NoMemory) x = at_refusal before now l m s.bytes s.takes lines inputs s.within s.before_limit whole t x
 
-  told_gives : (answer : Result Line LineError) → Step before now l m answer → (whole : List ℕ) → ungiven before l ≡ Some whole → Gives (Some whole) (ungiven now m) answer
-  told_gives answer s whole told = subst (λ (v : Option (List ℕ)). Gives (Some whole) v answer) (sym t.new) (by answer s.answers)
+  known_gives : (answer : Result Line LineError) → Step before now l m answer → (whole : List ℕ) → ungiven before l ≡ Some whole → Gives (Some whole) (ungiven now m) answer
+  known_gives answer s whole known = subst (λ (v : Option (List ℕ)). Gives (Some whole) v answer) (sym t.new) (by answer s.answers)
     where
       t : Tail now.ended now.held m s.bytes whole
-      t = tail_of before now l m s.bytes s.takes whole told
+      t = tail_of before now l m s.bytes s.takes whole known
 
       kept : now.held ≡ s.bytes → Some (now.held ++ t.tail) ≡ Some whole
       kept h = ap Some (same_held before now l m s.bytes s.takes lines inputs s.within s.before_limit whole t h)
@@ -210,16 +211,16 @@ module _ (before now : Reader) (l m : Option (List ℕ)) (lines : now.max_line �
   reads_law answer s = by (ungiven before l) refl
     where
       by : (u : Option (List ℕ)) → ungiven before l ≡ u → Reads (option_map (reading_of before.max_line (room_of before)) u) (reading now m) answer
-      by None e = reads_untold answer (reading now m)
-      by (Some whole) e = told_reads answer s whole e
+      by None e = reads_unknown answer (reading now m)
+      by (Some whole) e = known_reads answer s whole e
 
-  -- a call gives the first line of what was left
+  -- a call gives the first line of the remaining bytes
   pub gives_law : (answer : Result Line LineError) → Step before now l m answer → Gives (ungiven before l) (ungiven now m) answer
   gives_law answer s = by (ungiven before l) refl
     where
       by : (u : Option (List ℕ)) → ungiven before l ≡ u → Gives u (ungiven now m) answer
-      by None e = gives_untold answer (ungiven now m)
-      by (Some whole) e = told_gives answer s whole e
+      by None e = gives_unknown answer (ungiven now m)
+      by (Some whole) e = known_gives answer s whole e
 
   -- each line takes of the room
   pub narrows_law : (answer : Result Line LineError) → Step before now l m answer → Narrows before now answer

@@ -1,4 +1,4 @@
--- Which answers blame the source or the sink (cvwatch's own). When such an answer may come is `CausedBy` of cv_seq.
+-- Which answers blame the source or the sink (defined by this project). When such an answer may come is `CausedBy` of cv_seq.
 use Rattle.std.specs.Prelude.{Bool, true, false, Result, Ok, Err}
 use Rattle.cv_io.specs.declared.fault.IoFault.{IoFault}
 use Rattle.cv_io.specs.declared.fault.IoFault.TheVariants as fault

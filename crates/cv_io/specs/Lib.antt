@@ -1,7 +1,7 @@
 pub mod Fault
-pub mod Gather
 pub mod Lines
 pub mod Memory
 pub mod Reader
 pub mod Takes
 pub mod Writes
+pub mod code

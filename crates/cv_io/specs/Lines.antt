@@ -1,7 +1,8 @@
--- How bytes are cut into lines, and how far a reader with limits comes (cvwatch's own). A line ends at an LF, and one CR
--- before the LF is no part of its text. What stands after the last LF is a line where it is not empty, and loses one
--- CR at its end too. So a last piece that is only a CR is an empty line.
+-- How bytes are cut into lines, and how far a reader with limits comes (defined by this project). A line ends at an LF, and
+-- one CR before the LF is no part of its text. The bytes after the last LF are a line if there are any, and lose one CR at
+-- their end too. So a last piece that is only a CR is an empty line.
 use Rattle.std.specs.Prelude.{◌≡◌, ℕ, ◌-◌, ◌==◌, nat_lt, nat_le, Bool, false, if◌then◌else◌, List, [], ◌∷◌, ◌++◌, length, take, slice_index}
+use Rattle.std.specs.Io.BufRead.{strip_last}
 use Rattle.std.specs.List.{All, slice_split}
 
 -- line feed
@@ -20,15 +21,15 @@ is_line_end byte = byte == LF
 abbrev pub HasNoLineEnd : List ℕ → Type 0
 HasNoLineEnd bytes = All (λ byte. is_line_end byte ≡ false) bytes
 
--- the text of a line: its bytes less one CR at their end
+-- the text of a line: its bytes without the one CR at their end
 abbrev pub text_of : List ℕ → List ℕ
-text_of piece = if slice_index piece (length piece - 1) == CR then take (length piece - 1) piece else piece
+text_of piece = strip_last CR piece
 
--- what stands before each LF, and after the last one
+-- the bytes before each LF, and those after the last one
 abbrev pub pieces_of : List ℕ → List (List ℕ)
 pieces_of bytes = slice_split is_line_end bytes
 
--- the piece after the last LF is a line where it is not empty
+-- the piece after the last LF is a line if it is not empty
 abbrev pub last_lines : List ℕ → List (List ℕ)
 last_lines [] = []
 last_lines (byte ∷ more) = text_of (byte ∷ more) ∷ []
@@ -69,7 +70,7 @@ line_then line rest = record { lines = line ∷ rest.lines; stop = rest.stop }
 abbrev pub lines_then : List (List ℕ) → Reading → Reading
 lines_then lines rest = record { lines = lines ++ rest.lines; stop = rest.stop }
 
--- the reading of the pieces of what may be taken; `is_cut` tells that there is more than may be taken
+-- the reading of the pieces of what may be taken; `is_cut` says that there is more than may be taken
 abbrev pub reading_from : ℕ → Bool → List (List ℕ) → Reading
 reading_from max_line is_cut [] = stopped Finished
 reading_from max_line is_cut (piece ∷ []) =
@@ -79,7 +80,7 @@ reading_from max_line is_cut (piece ∷ next ∷ later) =
     if nat_lt max_line (length piece) then stopped LongLine
     else line_then (text_of piece) (reading_from max_line is_cut (next ∷ later))
 
--- the reading of the bytes where a line may have max_line bytes and `room` bytes may be taken. The end is seen only
--- where fewer than `room` bytes are there
+-- the reading of the bytes, if a line may have max_line bytes and `room` bytes may be taken. The end is seen only if there
+-- are fewer than `room` bytes
 unfoldable pub reading_of : ℕ → ℕ → List ℕ → Reading
 reading_of max_line room bytes = reading_from max_line (nat_le room (length bytes)) (pieces_of (take room bytes))

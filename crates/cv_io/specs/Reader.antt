@@ -1,4 +1,4 @@
--- What a reader of lines is between two calls, and what one call does (cvwatch's own).
+-- What a reader of lines is between two calls, and what one call does (defined by this project).
 use Rattle.std.specs.Prelude.{◌≡◌, ℕ, ◌+◌, ◌-◌, ◌<◌, ◌≤◌, ◌⊎◌, Bool, true, false, if◌then◌else◌, List, [], ◌∷◌, ◌++◌, Option, Some, Result, Ok, Err, length, take, IfSome, IsSomeAnd}
 use Rattle.std.specs.Option.{option_map}
 use Rattle.std.specs.Io.KnownBytes.{prepend_known}
@@ -30,17 +30,17 @@ new_reader max_line max_input = record { held = []; taken = 0; ended = false; sp
 abbrev pub progress_of : Reader → Progress
 progress_of r = record { taken = r.taken; ended = r.ended }
 
--- the bytes that are not yet given, where the source tells what it has left
+-- the bytes that are not yet given, if those that remain in the source are known
 abbrev pub ungiven : Reader → Option (List ℕ) → Option (List ℕ)
-ungiven r left = if r.ended then Some r.held else prepend_known r.held left
+ungiven r remaining = if r.ended then Some r.held else prepend_known r.held remaining
 
 -- of the bytes not yet given, how many may be looked at
 abbrev pub room_of : Reader → ℕ
 room_of r = length r.held + (r.max_input - r.taken)
 
--- the lines that the reader will give, and how it will stop, where the source tells what it has left
+-- the lines that the reader will give, and how it will stop, if the bytes that remain in the source are known
 abbrev pub reading : Reader → Option (List ℕ) → Option Reading
-reading r left = option_map (reading_of r.max_line (room_of r)) (ungiven r left)
+reading r remaining = option_map (reading_of r.max_line (room_of r)) (ungiven r remaining)
 
 -- ---- by the bytes held and taken, for every source
 
@@ -52,7 +52,7 @@ pub record IsFirstLine (bytes line : List ℕ) (now : Reader) : Type 0 where
   pub text : line ≡ text_of piece
   pub rest : (bytes ≡ piece ++ LF ∷ now.held) ⊎ ((bytes ≡ piece) × (0 < length piece) × (now.held ≡ []) × (now.ended ≡ true))
 
--- nothing was left to give
+-- there was nothing more to give
 pub record IsOver (bytes : List ℕ) (now : Reader) : Type 0 where
   pub none : bytes ≡ []
   pub held : now.held ≡ []
@@ -81,16 +81,16 @@ Answers bytes now (Err InputTooLong) = IsUnfinished bytes now × (now.taken ≡ 
 Answers bytes now (Err NoMemory) = now.held ≡ bytes
 
 -- one call of `next`
-pub record Step (before now : Reader) (left left_now : Option (List ℕ)) (answer : Result Line LineError) : Type 0 where
+pub record Step (before now : Reader) (remaining remaining_now : Option (List ℕ)) (answer : Result Line LineError) : Type 0 where
   pub bytes : List ℕ
-  pub takes : Takes before.held bytes (progress_of before) (progress_of now) left left_now
+  pub takes : Takes before.held bytes (progress_of before) (progress_of now) remaining remaining_now
   -- nothing is read while a whole line is held
   pub needed : HasNoLineEnd before.held ⊎ (progress_of now ≡ progress_of before)
   pub within : now.taken ≤ now.max_input
   pub before_limit : now.ended ≡ true → now.taken < now.max_input
   pub answers : Answers bytes now answer
 
--- ---- over the whole input, where the source tells its bytes
+-- ---- over the whole input, if the bytes of the source are known
 
 -- what was to be read is what the answer says, and then what is to be read now
 abbrev pub Reads : Option Reading → Option Reading → Result Line LineError → Type 0

@@ -1,4 +1,4 @@
--- What was taken from a source over several reads (cvwatch's own).
+-- What was taken from a source over several reads (defined by this project).
 use Rattle.std.specs.Prelude.{◌≡◌, ℕ, ◌+◌, Bool, true, List, [], ◌++◌, Option, length}
 use Rattle.std.specs.Io.KnownBytes.{Consumes, IsAtEnd}
 
@@ -7,12 +7,12 @@ pub record Progress : Type 0 where
   pub taken : ℕ
   pub ended : Bool
 
--- bytes were taken from the front of what the source had left, and stand behind those held before. Nothing is taken
+-- bytes were taken from the front of those that remained in the source, and follow those held before. Nothing is taken
 -- once the end was seen
-pub record Takes (held held_now : List ℕ) (before now : Progress) (left left_now : Option (List ℕ)) : Type 0 where
+pub record Takes (held held_now : List ℕ) (before now : Progress) (remaining remaining_now : Option (List ℕ)) : Type 0 where
   pub more : List ℕ
   pub joined : held_now ≡ held ++ more
-  pub consumed : Consumes left left_now more
+  pub consumed : Consumes remaining remaining_now more
   pub counted : now.taken ≡ before.taken + length more
   pub over : before.ended ≡ true → (more ≡ []) × (now.ended ≡ true)
-  pub seen : (before.ended ≡ true → IsAtEnd left) → now.ended ≡ true → IsAtEnd left_now
+  pub seen : (before.ended ≡ true → IsAtEnd remaining) → now.ended ≡ true → IsAtEnd remaining_now

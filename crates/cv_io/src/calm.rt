@@ -1,8 +1,9 @@
-ghost use Rattle.std.specs.Prelude.{◌≡◌, ◌≤◌, ◌<◌, [], Some, length, min, IfOk, IsOkAnd};
+ghost use Rattle.std.specs.Prelude.{◌≡◌, ◌≤◌, ◌<◌, [], Some, length, min, IfOk, IsOkAnd, OnErr};
 ghost use Rattle.std.specs.Io.{ReadsAtMost};
-ghost use Rattle.std.specs.Io.KnownBytes.{ReadConsumes, WriteAppends};
+ghost use Rattle.std.specs.Io.KnownBytes.{ReadConsumes};
 ghost use Rattle.cv_seq.specs.Cause.{CausedBy};
 ghost use Rattle.cv_io.specs.Fault.{is_failed};
+ghost use Rattle.cv_io.specs.Writes.{WritesFront};
 
 use crate::copies::copy_front;
 use crate::fault::IoFault;
@@ -32,7 +33,7 @@ impl Model for CalmSource {
 }
 
 impl CalmSource {
-    /// All the bytes are left. It takes no memory.
+    /// All the bytes remain. It takes no memory.
     pub fn new(bytes: Seq<u8>, piece: usize) -> CalmSource
         requires { 1 ≤ piece }
         ensures { result ≡ record { bytes = bytes; piece = piece } }
@@ -46,7 +47,7 @@ impl CalmSource {
 }
 
 impl Source for CalmSource {
-    ghost left = { λ s. Some s.bytes };
+    ghost remaining = { λ s. Some s.bytes };
 
     ghost faults = { λ _. 0 };
 
@@ -84,7 +85,7 @@ impl Model for CalmSink {
 }
 
 impl CalmSink {
-    /// It takes no memory yet. The allocator is for what will be written.
+    /// An empty one. The allocator is for what will be written; none is taken yet.
     pub fn new(alloc: Global, piece: usize) -> CalmSink
         requires { 1 ≤ piece }
         ensures { result ≡ record { bytes = []; piece = piece } }
@@ -108,10 +109,12 @@ impl Sink for CalmSink {
 
     ghost faults = { λ _. 0 };
 
+    #[tactic(auto, using(crate::proofs::Streams::prefix_kept))]
     fn write(&mut self, bytes: &[u8]) -> Result<usize, IoFault>
         ensures bound { IfOk result (λ n. n ≤ length bytes.now) }
-        ensures some { IfOk result (λ n. 0 < length bytes.now → 0 < n) }
-        ensures bytes { WriteAppends (Some self.old.bytes) (Some self.new.bytes) result bytes.now }
+        ensures progress { IfOk result (λ n. 0 < length bytes.now → 0 < n) }
+        ensures bytes { WritesFront (Some self.old.bytes) (Some self.new.bytes) result bytes.now }
+        ensures kept { OnErr result (self.new.bytes ≡ self.old.bytes) }
         ensures cause { CausedBy 0 0 (is_failed result) }
         ensures count { IfOk result (λ n. n ≡ min (length bytes.now) self.old.piece) }
         ensures piece { self.new.piece ≡ self.old.piece }

@@ -13,7 +13,7 @@ use std::marker::Model;
 
 const LENGTH: usize = 65_536;
 
-/// The bytes of the last read that were not yet passed on, seen as their list.
+/// The bytes of the last read that were not yet taken, seen as their list.
 #[derive(Drop)]
 pub struct Chunk {
     bytes: Vec<u8>,
@@ -50,7 +50,7 @@ impl Chunk {
         &self.bytes.as_slice()[self.at..self.end]
     }
 
-    /// The place of the first LF.
+    /// The index of the first LF.
     pub fn line_end(&self) -> Option<usize>
         ensures { MatchOption result (HasNoLineEnd self.now)
             (λ n. HasNoLineEnd (take n self.now) × (n < length self.now) × (slice_index self.now n ≡ LF)) }
@@ -58,7 +58,7 @@ impl Chunk {
         memchr(b'\n', self.as_slice())
     }
 
-    /// Passes on the first bytes.
+    /// Drops the first bytes.
     pub fn advance(&mut self, count: usize)
         requires { count ≤ length self.old }
         ensures { self.new ≡ drop count self.old }
@@ -71,8 +71,8 @@ impl Chunk {
         requires empty { self.old ≡ [] }
         requires room { 0 < limit }
         ensures bytes { MatchResult result
-            (λ n. Consumes (S.left input.old) (S.left input.new) self.new × (n ≡ length self.new) × (n ≤ limit) × (n ≡ 0 → IsAtEnd (S.left input.new)))
-            (λ _. Keeps (S.left input.old) (S.left input.new) × (self.new ≡ [])) }
+            (λ n. Consumes (S.remaining input.old) (S.remaining input.new) self.new × (n ≡ length self.new) × (n ≤ limit) × (n ≡ 0 → IsAtEnd (S.remaining input.new)))
+            (λ _. Keeps (S.remaining input.old) (S.remaining input.new) × (self.new ≡ [])) }
         ensures cause { CausedBy (S.faults input.old) (S.faults input.new) (is_failed result) }
     {
         self.at = 0;
@@ -87,8 +87,8 @@ fn read_front<S: Source>(input: &mut S, buf: &mut [u8], limit: usize) -> Result<
     requires room { 0 < limit }
     requires fits { limit ≤ length buf.old }
     ensures bytes { MatchResult result
-        (λ n. Consumes (S.left input.old) (S.left input.new) (take n buf.new) × (n ≤ limit) × (n ≡ 0 → IsAtEnd (S.left input.new)))
-        (λ _. Keeps (S.left input.old) (S.left input.new)) }
+        (λ n. Consumes (S.remaining input.old) (S.remaining input.new) (take n buf.new) × (n ≤ limit) × (n ≡ 0 → IsAtEnd (S.remaining input.new)))
+        (λ _. Keeps (S.remaining input.old) (S.remaining input.new)) }
     ensures cause { CausedBy (S.faults input.old) (S.faults input.new) (is_failed result) }
 {
     input.read(&mut buf[..limit])

@@ -5,7 +5,7 @@ ghost use Rattle.cv_io.specs.Fault.{is_read_fault};
 ghost use Rattle.cv_io.specs.Lines.{LF, HasNoLineEnd, text_of};
 ghost use Rattle.cv_io.specs.Takes.{Takes};
 ghost use Rattle.cv_io.specs.Reader.{Answers, Step, new_reader};
-ghost use Rattle.cv_io.specs.Gather.{held_by, progress_by, reader_of, gathered, SameLimits, SameCounts, reads_left};
+ghost use Rattle.cv_io.specs.code.Gather.{held_by, progress_by, reader_of, gathered, SameLimits, SameCounts, reads_left};
 
 use crate::chunk::Chunk;
 use crate::fault::IoFault;
@@ -34,7 +34,7 @@ impl Gather {
     /// The next line, without its LF and the one CR before it.
     pub fn next_line<S: Source>(&mut self, alloc: Global, input: &mut S) -> Result<Line, LineError>
         ensures step { (was is : Bool) → Step (reader_of self.old was) (reader_of self.new is)
-            (S.left input.old) (S.left input.new) result }
+            (S.remaining input.old) (S.remaining input.new) result }
         ensures limits { SameLimits self.old self.new }
         ensures cause { CausedBy (S.faults input.old) (S.faults input.new) (is_read_fault result) }
     {
@@ -51,7 +51,7 @@ impl Gather {
     /// there was an LF.
     fn gather<S: Source>(&mut self, input: &mut S) -> Result<bool, LineError>
         ensures takes { Takes (held_by self.old) (gathered result self.new) (progress_by self.old) (progress_by self.new)
-            (S.left input.old) (S.left input.new) }
+            (S.remaining input.old) (S.remaining input.new) }
         ensures needed { HasNoLineEnd (held_by self.old) ⊎ (progress_by self.new ≡ progress_by self.old) }
         ensures last { IfOk result (λ found. found ≡ false → (self.new.chunk ≡ []) × (self.new.ended ≡ true)) }
         ensures refused { IfErr result (λ e. Answers (held_by self.new) (reader_of self.new false) (Err e)) }
@@ -101,7 +101,7 @@ impl Gather {
         requires going { self.old.ended ≡ false }
         requires room { self.old.taken < self.old.max_input }
         ensures takes { Takes (held_by self.old) (held_by self.new) (progress_by self.old) (progress_by self.new)
-            (S.left input.old) (S.left input.new) }
+            (S.remaining input.old) (S.remaining input.new) }
         ensures less { OnOk result (reads_left self.new < reads_left self.old) }
         ensures refused { IfErr result (λ e. Answers (held_by self.new) (reader_of self.new false) (Err e)) }
         ensures limits { SameLimits self.old self.new }

@@ -1,8 +1,10 @@
 ghost use Rattle.std.specs.Prelude.{◌≡◌, ◌≤◌, ℕ, List, [], Some, length, drop, min, IfOk, OnOk, OnErr, take, ◌++◌, ◌<◌};
 ghost use Rattle.std.specs.Io.{ReadsAtMost};
-ghost use Rattle.std.specs.Io.KnownBytes.{ReadConsumes, WriteAppends};
+ghost use Rattle.std.specs.Io.KnownBytes.{ReadConsumes};
 ghost use Rattle.cv_seq.specs.Cause.{CausedBy, is_to_fail, next_count};
 ghost use Rattle.cv_io.specs.Fault.{is_failed};
+ghost use Rattle.cv_io.specs.Memory.{faults_after};
+ghost use Rattle.cv_io.specs.Writes.{WritesFront};
 
 use crate::copies::copy_front;
 use crate::fault::IoFault;
@@ -29,16 +31,16 @@ impl Model for MemSource {
 
     ghost Value = { Supply };
 
-    ghost view = { λ s. record { left = drop s.at s.bytes; piece = s.piece; fails = s.fails; calls = s.calls; faults = s.faults } };
+    ghost view = { λ s. record { remaining = drop s.at s.bytes; piece = s.piece; fails = s.fails; calls = s.calls; faults = s.faults } };
 
     ghost invariant = { λ s. (1 ≤ s.piece) × (s.at ≤ length s.bytes) };
 }
 
 impl MemSource {
-    /// All the bytes are left. It takes no memory.
+    /// All the bytes remain. It takes no memory.
     pub fn new(bytes: Seq<u8>, piece: usize, fails: Seq<u64>) -> MemSource
         requires { 1 ≤ piece }
-        ensures { result ≡ record { left = bytes; piece = piece; fails = fails; calls = 0; faults = 0 } }
+        ensures { result ≡ record { remaining = bytes; piece = piece; fails = fails; calls = 0; faults = 0 } }
     {
         MemSource {
             bytes,
@@ -52,18 +54,19 @@ impl MemSource {
 }
 
 impl Source for MemSource {
-    ghost left = { λ s. Some s.left };
+    ghost remaining = { λ s. Some s.remaining };
 
     ghost faults = { λ s. s.faults };
 
     #[tactic(auto, using(crate::proofs::Streams::read_consumes))]
     fn read(&mut self, buf: &mut [u8]) -> Result<usize, IoFault>
         ensures bound { ReadsAtMost result buf.new }
-        ensures bytes { ReadConsumes (Some self.old.left) (Some self.new.left) result buf.new }
+        ensures bytes { ReadConsumes (Some self.old.remaining) (Some self.new.remaining) result buf.new }
         ensures cause { CausedBy self.old.faults self.new.faults (is_failed result) }
-        ensures count { IfOk result (λ n. n ≡ min (min (length self.old.left) self.old.piece) (length buf.old)) }
+        ensures count { IfOk result (λ n. n ≡ min (min (length self.old.remaining) self.old.piece) (length buf.old)) }
         ensures call { self.new.calls ≡ next_count self.old.calls }
         ensures failed { is_failed result ≡ is_to_fail self.old.fails (next_count self.old.calls) }
+        ensures faults { self.new.faults ≡ faults_after (is_to_fail self.old.fails (next_count self.old.calls)) self.old.faults }
         ensures piece { self.new.piece ≡ self.old.piece }
         ensures fails { self.new.fails ≡ self.old.fails }
     {
@@ -101,7 +104,7 @@ impl Model for MemSink {
 }
 
 impl MemSink {
-    /// It takes no memory yet. The allocator is for what will be written.
+    /// An empty one. The allocator is for what will be written; none is taken yet.
     pub fn new(alloc: Global, piece: usize, fails: Seq<u64>) -> MemSink
         requires { 1 ≤ piece }
         ensures { result ≡ record { contents = []; piece = piece; fails = fails; calls = 0; faults = 0 } }
@@ -128,14 +131,17 @@ impl Sink for MemSink {
 
     ghost faults = { λ s. s.faults };
 
+    #[tactic(auto, using(crate::proofs::Streams::prefix_kept))]
     fn write(&mut self, bytes: &[u8]) -> Result<usize, IoFault>
         ensures bound { IfOk result (λ n. n ≤ length bytes.now) }
-        ensures some { IfOk result (λ n. 0 < length bytes.now → 0 < n) }
-        ensures bytes { WriteAppends (Some self.old.contents) (Some self.new.contents) result bytes.now }
+        ensures progress { IfOk result (λ n. 0 < length bytes.now → 0 < n) }
+        ensures bytes { WritesFront (Some self.old.contents) (Some self.new.contents) result bytes.now }
+        ensures kept { OnErr result (self.new.contents ≡ self.old.contents) }
         ensures cause { CausedBy self.old.faults self.new.faults (is_failed result) }
         ensures count { IfOk result (λ n. n ≡ min (length bytes.now) self.old.piece) }
         ensures call { self.new.calls ≡ next_count self.old.calls }
         ensures failed { is_failed result ≡ is_to_fail self.old.fails (next_count self.old.calls) }
+        ensures faults { self.new.faults ≡ faults_after (is_to_fail self.old.fails (next_count self.old.calls)) self.old.faults }
         ensures piece { self.new.piece ≡ self.old.piece }
         ensures fails { self.new.fails ≡ self.old.fails }
     {

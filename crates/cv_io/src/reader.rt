@@ -21,7 +21,7 @@ pub struct LineReader {
 impl Model for LineReader {
     ghost use Rattle.cv_io.specs.Lines.{Finished, lines_of, reading_of};
     ghost use Rattle.cv_io.specs.Reader.{Reader};
-    ghost use Rattle.cv_io.specs.Gather.{reader_of};
+    ghost use Rattle.cv_io.specs.code.Gather.{reader_of};
 
     ghost Value = { Reader };
 
@@ -50,13 +50,13 @@ impl LineReader {
         self.spent
     }
 
-    /// The next line, without its LF and the one CR before it. What stands after the last LF is a line
-    /// where it is not empty. Every refusal makes the reader spent.
+    /// The next line, without its LF and the one CR before it. The bytes after the last LF are a line if there are any.
+    /// Every refusal makes the reader spent.
     pub fn next<S: Source>(&mut self, alloc: Global, input: &mut S) -> Result<Line, LineError>
         requires { self.old.spent ≡ false }
-        ensures step { Step self.old self.new (S.left input.old) (S.left input.new) result }
-        ensures reads { Reads (reading self.old (S.left input.old)) (reading self.new (S.left input.new)) result }
-        ensures gives { Gives (ungiven self.old (S.left input.old)) (ungiven self.new (S.left input.new)) result }
+        ensures step { Step self.old self.new (S.remaining input.old) (S.remaining input.new) result }
+        ensures reads { Reads (reading self.old (S.remaining input.old)) (reading self.new (S.remaining input.new)) result }
+        ensures gives { Gives (ungiven self.old (S.remaining input.old)) (ungiven self.new (S.remaining input.new)) result }
         ensures room { Narrows self.old self.new result }
         ensures spent { self.new.spent ≡ is_err result }
         ensures max_line { self.new.max_line ≡ self.old.max_line }

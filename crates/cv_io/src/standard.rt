@@ -1,149 +1,117 @@
-ghost use Rattle.std.specs.Prelude.{◌≡◌, ◌≤◌, ◌<◌, ℕ, None, IfSome, length};
+ghost use Rattle.std.specs.Prelude.{◌≡◌, ◌≤◌, ◌<◌, ℕ, None, IfOk, length};
+ghost use Rattle.cv_io.specs.Writes.{WritesFront};
 
 use crate::fault::IoFault;
 use crate::sink::Sink;
 use crate::source::Source;
-use std::io::{Read, Write};
+use std::io::{self, ErrorKind, Read, Write};
 
-/// Reads from a reader of std, as standard input, which tells no bytes. It counts each error.
+/// Reads from a reader of std, as standard input. The remaining bytes are those that the reader's contract knows: of
+/// standard input none are known. It counts each error, and keeps the last one.
 #[derive(Drop)]
 pub struct StdSource<R> {
     reader: R,
     faults: u64,
+    last_error: Option<io::Error>,
 }
 
 impl<R: Read + Drop> StdSource<R> {
     /// A source that has not failed yet.
     pub fn new(reader: R) -> StdSource<R>
-        ensures { ⟦<StdSource<R> as Source>⟧.faults result ≡ 0 }
+        ensures faults { ⟦<StdSource<R> as Source>⟧.faults result ≡ 0 }
+        ensures remaining { ⟦<StdSource<R> as Source>⟧.remaining result ≡ R.remaining reader }
     {
-        StdSource { reader, faults: 0 }
+        StdSource {
+            reader,
+            faults: 0,
+            last_error: None,
+        }
+    }
+
+    /// Why the last read that failed did so, as the system says. It is meant for people.
+    pub fn last_error(&self) -> Option<io::Error> {
+        self.last_error
     }
 }
 
 impl<R: Read + Drop> Source for StdSource<R> {
-    ghost left = { λ _. None };
+    ghost remaining = { λ s. R.remaining s.reader };
 
     ghost faults = { λ s. s.faults };
 
     fn read(&mut self, buf: &mut [u8]) -> Result<usize, IoFault> {
         match self.reader.read(buf) {
             Ok(count) => Ok(count),
-            Err(_) => {
+            Err(error) => {
                 self.faults = self.faults.saturating_add(1);
+                self.last_error = Some(error);
                 Err(IoFault::Failed)
             }
         }
     }
 }
 
-/// Writes to a writer of std, as standard output, and flushes after each write. It tells no bytes, and
-/// counts each error and each write that takes nothing.
+/// Writes to a writer of std, as standard output, and flushes after each write. The contents are those that the
+/// writer's contract knows: of standard output none are known. It counts each error and each write that takes
+/// nothing, and keeps the last error. A write whose flush failed is a failure, though its bytes may have been written.
 #[derive(Drop)]
 pub struct StdSink<W> {
     writer: W,
     faults: u64,
+    last_error: Option<io::Error>,
 }
 
 impl<W: Write + Drop> StdSink<W> {
     /// A sink that has not failed yet.
     pub fn new(writer: W) -> StdSink<W>
-        ensures { ⟦<StdSink<W> as Sink>⟧.faults result ≡ 0 }
+        ensures faults { ⟦<StdSink<W> as Sink>⟧.faults result ≡ 0 }
+        ensures contents { ⟦<StdSink<W> as Sink>⟧.contents result ≡ W.contents writer }
     {
-        StdSink { writer, faults: 0 }
+        StdSink {
+            writer,
+            faults: 0,
+            last_error: None,
+        }
+    }
+
+    /// Why the last write that failed did so, as the system says. It is meant for people.
+    pub fn last_error(&self) -> Option<io::Error> {
+        self.last_error
     }
 }
 
 impl<W: Write + Drop> Sink for StdSink<W> {
-    ghost contents = { λ _. None };
+    ghost contents = { λ s. W.contents s.writer };
 
     ghost faults = { λ s. s.faults };
 
     fn write(&mut self, bytes: &[u8]) -> Result<usize, IoFault> {
         match write_through(&mut self.writer, bytes) {
-            Some(count) => Ok(count),
-            None => {
+            Ok(count) => Ok(count),
+            Err(error) => {
                 self.faults = self.faults.saturating_add(1);
+                self.last_error = Some(error);
                 Err(IoFault::Failed)
             }
         }
     }
 }
 
-/// One write with its flush. `None` where either failed, or where nothing of a piece was taken.
-fn write_through<W: Write>(writer: &mut W, bytes: &[u8]) -> Option<usize>
-    ensures bound { IfSome result (λ n. n ≤ length bytes.now) }
-    ensures some { IfSome result (λ n. 0 < length bytes.now → 0 < n) }
+/// One write with its flush. It is an error if nothing of a piece was taken.
+#[tactic(auto, using(crate::proofs::Streams::prefix_kept, crate::proofs::Streams::prefix_appended, crate::proofs::Streams::appends_then_keeps))]
+fn write_through<W: Write>(writer: &mut W, bytes: &[u8]) -> io::Result<usize>
+    ensures bound { IfOk result (λ n. n ≤ length bytes.now) }
+    ensures progress { IfOk result (λ n. 0 < length bytes.now → 0 < n) }
+    ensures bytes { WritesFront (W.contents writer.old) (W.contents writer.new) result bytes.now }
 {
-    let count = writer.write(bytes).ok()?;
-    writer.flush().ok()?;
+    let count = writer.write(bytes)?;
+    writer.flush()?;
     if count > 0 || bytes.is_empty() {
-        Some(count)
+        Ok(count)
     } else {
-        None
+        Err(io::Error::from(ErrorKind::WriteZero))
     }
 }
 
 #[cfg(test)]
-mod tests {
-    use super::*;
-    use std::io;
-    use std::io::{Cursor, ErrorKind};
-    use std::test::Fail;
-
-    /// Reads and writes nothing, or fails.
-    #[derive(Drop)]
-    struct Broken {
-        fails: bool,
-    }
-
-    impl Read for Broken {
-        fn read(&mut self, _buf: &mut [u8]) -> io::Result<usize> {
-            if self.fails {
-                return Err(io::Error::from(ErrorKind::Other));
-            }
-            Ok(0)
-        }
-    }
-
-    impl Write for Broken {
-        fn write(&mut self, _buf: &[u8]) -> io::Result<usize> {
-            if self.fails {
-                return Err(io::Error::from(ErrorKind::Other));
-            }
-            Ok(0)
-        }
-
-        fn flush(&mut self) -> io::Result<()> {
-            Ok(())
-        }
-    }
-
-    #[test]
-    fn an_error_of_a_reader_is_a_fault(rt: HostRuntime) {
-        let mut buf = [0u8; 4];
-        let mut source = StdSource::new(Broken { fails: true });
-        assert_eq!(rt; source.read(&mut buf), Err(IoFault::Failed));
-        let mut over = StdSource::new(Broken { fails: false });
-        assert_eq!(rt; over.read(&mut buf), Ok(0));
-    }
-
-    #[test]
-    fn an_error_of_a_writer_and_a_write_of_nothing_are_faults(rt: HostRuntime) {
-        for fails in [false, true] {
-            let mut sink = StdSink::new(Broken { fails });
-            assert_eq!(rt; sink.write(b"ab"), Err(IoFault::Failed));
-        }
-    }
-
-    #[test]
-    fn bytes_pass_through(rt: HostRuntime) -> Result<(), Fail> {
-        let mut buf = [0u8; 4];
-        let mut source = StdSource::new(Cursor::new(b"abc".as_slice()));
-        assert_eq!(rt; source.read(&mut buf), Ok(3));
-        assert_eq!(rt; &buf[..3], b"abc".as_slice());
-        let mut sink = StdSink::new(Vec::new(rt.alloc()));
-        assert_eq!(rt; sink.write(b"ab"), Ok(2));
-        Ok(())
-    }
-}
+mod tests;

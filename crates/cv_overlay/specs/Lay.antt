@@ -1,6 +1,6 @@
 -- How layers are laid on one another, after the OCI image specification 1.1, layer.md, "Applying Changesets" and
--- "Whiteouts". A root is told path by path, as a map from paths to nodes, and so is the root that a tree makes of it.
--- cvwatch's own: the marks of a layer are applied before its plain entries, wherever they stand among them.
+-- "Whiteouts". A root is a map from paths to nodes, and so is the root that a tree makes of it. Defined by
+-- this project: the marks of a layer are applied before its plain entries, wherever they stand among them.
 use Rattle.std.specs.Prelude.{Bool, true, false, ◌&&◌, not, if◌then◌else◌, List, [], ◌∷◌, Option, Some, None}
 use Rattle.std.specs.List.{list_any}
 use Rattle.std.specs.Option.{option_or}

@@ -1,7 +1,7 @@
 -- What an entry of a layer stands for, after the OCI image specification 1.1, layer.md, "Whiteouts" and "Opaque
 -- Whiteout": a file `.wh.NAME` hides the entry NAME beside it in the layers below, and a file `.wh..wh..opq` hides all
--- that the layers below have in its directory. cvwatch's own: all other names that begin `.wh..wh.` are reserved, and
--- such entries are passed over with all below them; a directory is no mark; a name that begins `.wh.` and is neither
+-- that the layers below have in its directory. Defined by this project: all other names that begin `.wh..wh.` are
+-- reserved, and such entries are ignored with all below them; a directory is no mark; a name that begins `.wh.` and is neither
 -- reserved nor a whiteout is a bad mark; a component `.wh.NAME` that is not the last one makes nothing.
 use Rattle.std.specs.Prelude.{ℕ, Bool, true, false, ◌&&◌, ◌||◌, ◌==◌, not, if◌then◌else◌, List, [], ◌∷◌, ◌++◌, drop, codes}
 use Rattle.std.specs.List.{list_any, starts_with}

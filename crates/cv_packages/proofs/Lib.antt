@@ -1,2 +1,3 @@
-pub mod Refusals
-pub mod Walks
+mod Examples
+pub mod FileLemmas
+pub mod ReadLemmas

@@ -15,25 +15,25 @@ fn read_all<S: Source>(
     max_input: u64,
 ) -> Result<String, Fail> {
     let mut reader = LineReader::new(alloc, max_line, max_input)?;
-    let mut told = String::new(alloc);
+    let mut output = String::new(alloc);
     for _ in 0..20 {
         if reader.is_spent() {
-            return Ok(told);
+            return Ok(output);
         }
         match reader.next(alloc, input) {
-            Ok(Line::Text(text)) => told.push_str(str::from_utf8(text.as_slice())?)?,
+            Ok(Line::Text(text)) => output.push_str(str::from_utf8(text.as_slice())?)?,
             Ok(Line::End) => {
-                told.push_str("end")?;
-                return Ok(told);
+                output.push_str("end")?;
+                return Ok(output);
             }
-            Err(LineError::ReadFault) => told.push_str("read fault")?,
-            Err(LineError::LineTooLong) => told.push_str("line too long")?,
-            Err(LineError::InputTooLong) => told.push_str("input too long")?,
-            Err(LineError::NoMemory) => told.push_str("no memory")?,
+            Err(LineError::ReadFault) => output.push_str("read fault")?,
+            Err(LineError::LineTooLong) => output.push_str("line too long")?,
+            Err(LineError::InputTooLong) => output.push_str("input too long")?,
+            Err(LineError::NoMemory) => output.push_str("no memory")?,
         }
-        told.push_str("|")?;
+        output.push_str("|")?;
     }
-    Ok(told)
+    Ok(output)
 }
 
 fn bytes(alloc: Global, text: &str) -> Result<Seq<u8>, Fail> {
@@ -71,8 +71,8 @@ fn limits_hold_in_pieces_of_any_length(rt: HostRuntime) -> Result<(), Fail> {
     ];
     for (text, max_line, max_input, want) in cases {
         for piece in 1..4 {
-            let told = read_pieces(rt.alloc(), text, piece, max_line, max_input)?;
-            assert_eq!(rt; told.as_str(), want, "{text} in pieces of {piece}");
+            let output = read_pieces(rt.alloc(), text, piece, max_line, max_input)?;
+            assert_eq!(rt; output.as_str(), want, "{text} in pieces of {piece}");
         }
     }
     Ok(())
@@ -91,8 +91,8 @@ fn one_carriage_return_is_dropped_at_the_end(rt: HostRuntime) -> Result<(), Fail
     ];
     for (text, want) in cases {
         for piece in 1..4 {
-            let told = read_pieces(rt.alloc(), text, piece, 100, 100)?;
-            assert_eq!(rt; told.as_str(), want, "{text} in pieces of {piece}");
+            let output = read_pieces(rt.alloc(), text, piece, 100, 100)?;
+            assert_eq!(rt; output.as_str(), want, "{text} in pieces of {piece}");
         }
     }
     Ok(())
@@ -110,8 +110,8 @@ fn a_failing_read_ends_the_lines(rt: HostRuntime) -> Result<(), Fail> {
     ] {
         let fails = Seq::of(vec![in alloc; call]?);
         let mut input = MemSource::new(bytes(alloc, "ab\ncd\nef")?, 3, fails);
-        let told = read_all(alloc, &mut input, 100, 100)?;
-        assert_eq!(rt; told.as_str(), want, "call {call} fails");
+        let output = read_all(alloc, &mut input, 100, 100)?;
+        assert_eq!(rt; output.as_str(), want, "call {call} fails");
     }
     Ok(())
 }

@@ -126,7 +126,7 @@ fn records_are_found_with_and_without_the_release(rt: HostRuntime) -> Result<(),
 }
 
 #[test]
-fn of_two_records_with_one_id_the_later_is_told(rt: HostRuntime) -> Result<(), Fail> {
+fn of_two_records_with_one_id_the_later_stays(rt: HostRuntime) -> Result<(), Fail> {
     let alloc = rt.alloc();
     let given: [(&str, &[(&str, &str, &str)]); 2] = [
         ("X-1", &[("Debian:12", "zlib", "2")]),

@@ -1,5 +1,5 @@
 use Rattle.std.proofs.Common.{arith}
-use Rattle.cv_io.proofs.Streams.{Appends-more}
+use Rattle.cv_io.proofs.Streams.{Appends-more, prefix_more}
 use Rattle.cv_io.proofs.write.write_all.Goals as goal
 
 pub loop-at-preserved : goal.loop-at-preserved
@@ -8,3 +8,11 @@ loop-at-preserved g c = record {
   written = Appends-more _ _ _ c.args.bytes.now c.loop-at.at c.in-Ok.count c.loop-at.invariant.written (rw c.split_at.ensures.back at c.in-Ok.ensures.bytes);
   later = omega (arith, c.in-Ok.ensures.cause.later);
 }
+
+pub returns-in-Err-Failed-clause-err : goal.returns-in-Err-Failed-clause-err
+returns-in-Err-Failed-clause-err g c =
+    prefix_more _ _ _ c.args.bytes.now c.loop-at.at c.loop-at.invariant.within c.loop-at.invariant.written (rw c.split_at.ensures.back at c.in-Err-Failed.ensures.bytes)
+
+pub returns-in-Err-NoMemory-clause-err : goal.returns-in-Err-NoMemory-clause-err
+returns-in-Err-NoMemory-clause-err g c =
+    prefix_more _ _ _ c.args.bytes.now c.loop-at.at c.loop-at.invariant.within c.loop-at.invariant.written (rw c.split_at.ensures.back at c.in-Err-NoMemory.ensures.bytes)

@@ -3,7 +3,7 @@ use Rattle.std.proofs.lemmas.Bool.{false≢true}
 use Rattle.std.specs.Prelude.{Result, Ok, Err, IsErr}
 use Rattle.cv_io.specs.declared.gather.Gather.{Gather}
 use Rattle.cv_io.specs.declared.line.LineError.{LineError}
-use Rattle.cv_io.specs.Gather.{held_by, progress_by, gathered}
+use Rattle.cv_io.specs.code.Gather.{held_by, progress_by, gathered}
 use Rattle.cv_io.proofs.Takes.{Takes-more, Takes-same}
 use Rattle.cv_io.proofs.gather.Gather.gather.Goals as goal
 

@@ -1,12 +1,12 @@
 use Rattle.std.proofs.Common.{◌≡◌, ◌≤◌, ◌⊎◌}
 use Rattle.cv_io.specs.Lines.{HasNoLineEnd}
 use Rattle.cv_io.specs.Takes.{Takes}
-use Rattle.cv_io.specs.Gather.{held_by, progress_by, SameLimits, reads_left}
+use Rattle.cv_io.specs.code.Gather.{held_by, progress_by, SameLimits, reads_left}
 use Rattle.cv_io.proofs.gather.Gather.gather.Given as goal
 
 abbrev pub invariant-pieces : goal.invariant-pieces
 invariant-pieces g l = record {
-  takes : Takes (held_by l.initial.self) (held_by l.self) (progress_by l.initial.self) (progress_by l.self) (g.S.Source.left l.initial.input) (g.S.Source.left l.input);
+  takes : Takes (held_by l.initial.self) (held_by l.self) (progress_by l.initial.self) (progress_by l.self) (g.S.Source.remaining l.initial.input) (g.S.Source.remaining l.input);
   needed : HasNoLineEnd (held_by l.initial.self) ⊎ (progress_by l.self ≡ progress_by l.initial.self);
   limits : SameLimits l.initial.self l.self;
   later : g.S.Source.faults l.initial.input ≤ g.S.Source.faults l.input;

@@ -1,0 +1,5 @@
+-- Words of private functions.
+pub mod Cover
+pub mod Merge
+pub mod Step
+pub mod Text

@@ -1,0 +1,6 @@
+-- Words of private functions.
+pub mod Distinct
+pub mod Found
+pub mod Index
+pub mod Layers
+pub mod Slots
