@@ -18,7 +18,7 @@ use std::fmt;
 use std::marker::Model;
 use thiserror::Error;
 
-/// Why a text is no path.
+/// Why a text is not a path.
 #[derive(Clone, Copy, Debug, PartialEq, Eq, Error)]
 pub enum PathError {
     #[error("a path has at least one component")]

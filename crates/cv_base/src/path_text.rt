@@ -21,7 +21,7 @@ pub(crate) fn is_above_text(upper: &[u8], lower: &[u8]) -> bool
     }
 }
 
-/// Whether a text is components with slashes between them.
+/// Whether a text consists of components with slashes between them.
 pub(crate) fn are_components(text: &str) -> bool
     ensures { result ≡ list_all is_component (slice_split is_slash text.now) }
 {
@@ -43,14 +43,14 @@ fn has_nul(text: &[u8]) -> bool
     text.iter().any(|byte| *byte == 0)
 }
 
-/// Whether a text is empty, `.` or `..`, which are no components of a path.
+/// Whether a text is empty, `.` or `..`: none of them is a component of a path.
 pub fn is_special(text: &[u8]) -> bool
     ensures { result ≡ is_special text.now }
 {
     text == b"".as_slice() || text == b".".as_slice() || text == b"..".as_slice()
 }
 
-/// Whether the second text goes on with a slash where the first one ends.
+/// Whether the second text begins with the first one and a slash after it.
 fn goes_on(upper: &[u8], lower: &[u8]) -> bool
     ensures { result ≡ goes_on upper.now lower.now }
 {

@@ -1,7 +1,5 @@
 -- The number of each exit status (defined by this project). 1 is not used.
-use Rattle.std.specs.Prelude.{◌≡◌, ℕ}
-use Rattle.std.specs.Process.{exit_status}
-use Rattle.std.specs.declared.process.ExitCode.{ExitCode}
+use Rattle.std.specs.Prelude.{ℕ}
 use Rattle.cvwatch.specs.declared.status.Status.{Status}
 use Rattle.cvwatch.specs.declared.status.Status.TheVariants as status
 
@@ -16,7 +14,3 @@ status_code status.LineTooLong = 6
 status_code status.InputTooLong = 7
 status_code status.Refused = 8
 status_code status.DeskFault = 9
-
--- the program ends with the number of a status
-abbrev pub IsStatusCode : ExitCode → Type 0
-IsStatusCode code = (ended : Status) × (exit_status code ≡ status_code ended)

@@ -6,7 +6,6 @@
 #![tactic(auto)]
 
 ghost use Rattle.std.specs.Prelude.{◌≡◌, ◌+◌, ◌^◌, ◌<◌, length, All, IfOk, OnOk};
-ghost use Rattle.cvwatch.specs.Status.{IsStatusCode};
 
 mod command;
 mod order;
@@ -28,9 +27,7 @@ use std::{env, io};
 /// As many desks as a service may have workers.
 const DESKS: usize = 8;
 
-fn main(rt: HostRuntime) -> ExitCode
-    ensures { IsStatusCode result }
-{
+fn main(rt: HostRuntime) -> ExitCode {
     start(&rt).unwrap_or(Status::NoMemory).exit_code()
 }
 
