@@ -17,16 +17,22 @@ build() {
 # proves crates/NAME and the crates that it stands on for the first time, side by side as far as they do not stand on each other,
 # and says on standard error which are done
 prove() {
-    local count log
+    local count lanes log
     count=$(crates_below "$1" | wc -l)
+    lanes=$(lanes)
     log=$(mktemp)
-    echo "proving $1 and the crates below it, $count in all, $(nproc) side by side: the first time this takes some minutes" >&2
-    (cd "$top/crates/$1" && rt all check --jobs "$(nproc)" 2>&1) | tee "$log" | progress "$count" >&2 || {
+    echo "proving $1 and the crates below it, $count in all, $lanes side by side; the first time this takes some minutes" >&2
+    (cd "$top/crates/$1" && rt all check --jobs "$lanes" 2>&1) | tee "$log" | progress "$count" >&2 || {
         cat "$log" >&2
         rm "$log"
         return 1
     }
     rm "$log"
+}
+
+# how many checks fit side by side: one a processor, with 2 GB of memory each
+lanes() {
+    awk -v most="$(nproc)" '/^MemAvailable:/ { lanes = int($2 / 2e6); print lanes < 1 ? 1 : lanes < most ? lanes : most }' /proc/meminfo
 }
 
 # crates/NAME and the crates of this repository that it stands on, as crates.txt has them

@@ -25,7 +25,7 @@ pub fn count<R: Read + Drop>(alloc: Global, stream: R) -> Result<u64, NoMemory> 
 /// Reads the input to its end, and counts its lines.
 #[tactic(auto, using(crate::proofs::Remaining::remaining_first, crate::proofs::Remaining::remaining_more))]
 pub fn count_lines<S: Source>(alloc: Global, input: &mut S) -> Result<u64, LineError>
-    ensures count { IfSome (S.left input.old) (λ bytes. IsCountOf (reading_of MAX_LINE MAX_INPUT bytes) result) }
+    ensures count { IfSome (S.remaining input.old) (λ bytes. IsCountOf (reading_of MAX_LINE MAX_INPUT bytes) result) }
     ensures cause { CausedBy (S.faults input.old) (S.faults input.new) (is_read_fault result) }
 {
     let mut reader = LineReader::new(alloc, MAX_LINE, MAX_INPUT)?;

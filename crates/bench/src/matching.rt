@@ -33,20 +33,20 @@ fn hits_of(
 
 fn count_hits<L: Ledger>(
     blank: Blank,
-    record: &ReadyAdvisory,
+    prepared: &ReadyAdvisory,
     installed: &ReadyPackage,
     pairs: u64,
 ) -> u64
     requires name { blank.name ≡ L.name }
     requires parts { blank.parts ≡ L.parts }
     requires some { 0 < L.parts }
-    requires kind { record.now.kind ≡ installed.now.kind }
+    requires kind { prepared.now.kind ≡ installed.now.kind }
     ensures { result ≤ pairs }
 {
     let mut steps = Steps::<L>::open(blank);
     let mut hits = 0;
     for _pair in 0..pairs {
-        if affects(record, installed, &mut steps) != Hit::No {
+        if affects(prepared, installed, &mut steps) != Hit::No {
             hits += 1;
         }
     }

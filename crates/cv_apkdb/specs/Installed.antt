@@ -43,6 +43,10 @@ rules = record {
   items = λ lines. package_in (facts lines);
 }
 
--- the packages of an installed database, or its first fault. Lines lie between LFs, and nothing is dropped at their ends.
+-- the lines of a file lie between LFs, and nothing is dropped at their ends
+abbrev pub lines : List ℕ → List (List ℕ)
+lines bytes = slice_split is_lf bytes
+
+-- the packages of an installed database, or its first fault
 abbrev pub installed : List ℕ → Result (List ApkPackage) FileBad
-installed bytes = read_blocks rules (slice_split is_lf bytes)
+installed bytes = read_blocks rules (lines bytes)

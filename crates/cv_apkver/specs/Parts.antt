@@ -6,7 +6,7 @@ use Rattle.std.specs.List.{list_all, slice_split}
 use Rattle.cv_order.specs.Digits.{is_digit, front_while, after_while, front_digits, after_digits}
 use Rattle.cv_apkver.specs.Grammar.{DOT, UNDERSCORE, HYPHEN, BUILD_MARK, is_letter, is_number, rank_of}
 
--- what stands before the first byte c: all, where there is none
+-- what comes before the first byte c: all of it, if there is none
 abbrev pub before : ℕ → List ℕ → List ℕ
 before c text = front_while (λ x. not (x == c)) text
 

@@ -125,7 +125,7 @@ mod tests {
     use std::test::Fail;
 
     #[test]
-    fn tells_versions_from_other_texts(rt: HostRuntime) -> Result<(), Fail> {
+    fn versions_are_accepted_and_other_texts_are_not(rt: HostRuntime) -> Result<(), Fail> {
         for version in [
             "0",
             "1.2",

@@ -2,8 +2,8 @@ pub mod Bools
 pub mod Cuts
 pub mod DigestLemmas
 pub mod Ends
+mod Examples
 pub mod InOrder
-pub mod Lines
 pub mod Lists
 pub mod PathEnds
 pub mod PathFronts

@@ -28,7 +28,7 @@ abbrev pub components : List ℕ → Path
 components [] = []
 components (byte ∷ bytes) = slice_split is_slash (byte ∷ bytes)
 
--- the texts that are no component, though they have no NUL
+-- the texts without a NUL that are no component
 abbrev pub is_special : List ℕ → Bool
 is_special text = list_any (same text) ([] ∷ codes "." ∷ codes ".." ∷ [])
 
@@ -75,7 +75,7 @@ beside path name =
     else (if nat_lt MAX_PATH_LEN (length (path_text (parent_of path ++ name ∷ []))) then Err TooLong
     else Ok (parent_of path ++ name ∷ []))
 
--- a path is above another one where it is a proper prefix of it
+-- a path is above another one if it is a proper prefix of it
 abbrev pub is_above : Path → Path → Bool
 is_above [] [] = false
 is_above [] (y ∷ ys) = true

@@ -20,7 +20,7 @@ pub enum RangeKind {
     Other,
 }
 
-/// A range of versions, told by its events.
+/// A range of versions, given by its events.
 #[derive(Debug, PartialEq, Eq, PartialOrd, Ord, Drop)]
 pub struct Range {
     pub kind: RangeKind,
@@ -35,7 +35,7 @@ pub struct Affected {
     pub versions: Seq<Text>,
 }
 
-/// A record of the OSV schema, less what no answer needs.
+/// A record of the OSV schema, with the fields that matching needs.
 #[derive(Clone, Debug, PartialEq, Eq, PartialOrd, Ord, Drop)]
 pub struct Advisory {
     pub id: Text,

@@ -38,3 +38,6 @@ pub use places::Place;
 pub use steps::Steps;
 pub use text::{cut_at, is_blank, is_dropped, next_line, trim_line};
 pub use tree::{Content, Kind, ListEntry, Node, Tree, TreeEntry};
+
+#[cfg(test)]
+mod tests;

@@ -8,8 +8,8 @@ ghost use Rattle.cv_base.specs.Texts.{is_cons};
 
 use crate::limits::MAX_PATH_LEN;
 use crate::path_text::{
-    are_components, count_components, front_order, is_above_text, is_name, joined, split_last,
-    text_order,
+    are_components, count_components, front_order, is_above_text, is_name, is_too_long, joined,
+    split_last, text_order,
 };
 use cv_seq::{NoMemory, Text};
 use std::alloc::{AllocError, Global};
@@ -18,7 +18,7 @@ use std::fmt;
 use std::marker::Model;
 use thiserror::Error;
 
-/// Why a text is no path.
+/// Why a text is not a path.
 #[derive(Clone, Copy, Debug, PartialEq, Eq, Error)]
 pub enum PathError {
     #[error("a path has at least one component")]
@@ -77,7 +77,7 @@ impl RelPath {
         if text.is_empty() {
             return Err(PathError::Empty);
         }
-        if text.len() > MAX_PATH_LEN {
+        if is_too_long(text) {
             return Err(PathError::TooLong);
         }
         if !are_components(text) {
@@ -140,7 +140,7 @@ impl RelPath {
             return Err(PathError::BadComponent);
         }
         let text = joined(alloc, self.parent_text(), name)?;
-        if text.len() > MAX_PATH_LEN {
+        if is_too_long(text.as_str()) {
             return Err(PathError::TooLong);
         }
         Ok(RelPath {

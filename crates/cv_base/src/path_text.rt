@@ -1,10 +1,11 @@
 //! Walks over the texts of paths.
-ghost use Rattle.std.specs.Prelude.{◌≡◌, ◌++◌, ◌∷◌, ◌+◌, ◌==◌, ◌&&◌, false, length, string_bytes, IfNone, IfOk, IfSome};
+ghost use Rattle.std.specs.Prelude.{◌≡◌, ◌++◌, ◌∷◌, ◌+◌, ◌==◌, ◌&&◌, false, length, nat_lt, string_bytes, IfNone, IfOk, IfSome};
 ghost use Rattle.std.specs.List.{count_by, list_all, list_any, slice_split};
 ghost use Rattle.cv_base.specs.Texts.{is_nil};
 ghost use Rattle.cv_base.specs.Path.{components, is_component, is_name, is_slash, is_special};
 ghost use Rattle.cv_base.specs.code.PathText.{front_text, goes_on, is_above_text, is_end, joined, rank, slashes_after, text_cmp};
 
+use crate::limits::MAX_PATH_LEN;
 use cv_seq::NoMemory;
 use std::alloc::Global;
 use std::cmp::Ordering;
@@ -20,7 +21,7 @@ pub(crate) fn is_above_text(upper: &[u8], lower: &[u8]) -> bool
     }
 }
 
-/// Whether a text is components with slashes between them.
+/// Whether a text consists of components with slashes between them.
 pub(crate) fn are_components(text: &str) -> bool
     ensures { result ≡ list_all is_component (slice_split is_slash text.now) }
 {
@@ -42,14 +43,14 @@ fn has_nul(text: &[u8]) -> bool
     text.iter().any(|byte| *byte == 0)
 }
 
-/// Whether a text is empty, `.` or `..`, which are no components of a path.
+/// Whether a text is empty, `.` or `..`: none of them is a component of a path.
 pub fn is_special(text: &[u8]) -> bool
     ensures { result ≡ is_special text.now }
 {
     text == b"".as_slice() || text == b".".as_slice() || text == b"..".as_slice()
 }
 
-/// Whether the second text goes on with a slash where the first one ends.
+/// Whether the second text begins with the first one and a slash after it.
 fn goes_on(upper: &[u8], lower: &[u8]) -> bool
     ensures { result ≡ goes_on upper.now lower.now }
 {
@@ -206,4 +207,11 @@ pub(crate) fn joined(alloc: Global, directory: &str, name: &str) -> Result<Strin
     }
     text.push_str(name)?;
     Ok(text)
+}
+
+/// Whether a text has more bytes than a path may have.
+pub(crate) fn is_too_long(text: &str) -> bool
+    ensures { result ≡ nat_lt MAX_PATH_LEN (length text.now) }
+{
+    text.len() > MAX_PATH_LEN
 }

@@ -9,7 +9,7 @@ pub enum Kind {
     Other,
 }
 
-/// An entry of a layer's listing. `size` counts the bytes of a file, and is 0 for all else.
+/// An entry of a layer's listing. `size` is the number of bytes of a file, and 0 for all else.
 #[derive(Clone, Debug, PartialEq, Eq, PartialOrd, Ord, Drop)]
 pub struct ListEntry {
     pub path: RelPath,
@@ -17,8 +17,8 @@ pub struct ListEntry {
     pub size: u64,
 }
 
-/// What is known of a file: its bytes, that it is above the limit for package files, or nothing,
-/// since it lies away from the places of package files.
+/// What is known of a file: its bytes, that it is above the limit for package files, or nothing, since it is at no
+/// place of package files.
 #[derive(Clone, Debug, PartialEq, Eq, PartialOrd, Ord, Drop)]
 pub enum Content {
     Bytes(Seq<u8>),

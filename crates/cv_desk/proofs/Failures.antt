@@ -3,8 +3,8 @@ use Rattle.std.proofs.Common.{◌≡◌, ℕ, ◌+◌, ◌<◌, ◌^◌, Bool, t
 use Rattle.cv_seq.specs.Cause.{CausedBy, next_count}
 use Rattle.cv_desk.specs.Failing.{faults_after}
 
-pub blamed : (before now behind behind' : ℕ) (fails : Bool) → fails ≡ true → now ≡ faults_after fails before → behind' ≡ behind → before < 2 ^ 64
-    → CausedBy (before + behind) (now + behind') true
-blamed before now behind behind' fails t n same small =
+pub blamed : (before now inner inner_now : ℕ) (fails : Bool) → fails ≡ true → now ≡ faults_after fails before → inner_now ≡ inner → before < 2 ^ 64
+    → CausedBy (before + inner) (now + inner_now) true
+blamed before now inner inner_now fails t n same small =
     let rose : now ≡ next_count before = n ∙ ap (λ b. faults_after b before) t in
     record { later = omega (arith, rose, same); rose = omega (arith, rose, same) }

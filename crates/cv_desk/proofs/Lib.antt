@@ -1,3 +1,5 @@
 pub mod Failures
 pub mod LoadedLayers
 pub mod PathSets
+pub mod ReadCounts
+pub mod Walks

@@ -1,9 +1,10 @@
 -- A layer that is loaded by its listing and its reads is the layer as it is loaded.
-use Rattle.std.proofs.Common.{◌≡◌, ℕ, Bool, true, false, ◌&&◌, not, cond, nat_lt, List, [], ◌∷◌, ◌++◌, map, length, Option, Some, None, is_none, refl, ◌∙◌, ap}
+use Rattle.std.proofs.Common.{◌≡◌, ℕ, Bool, true, false, ◌&&◌, not, cond, nat_lt, List, [], ◌∷◌, ◌++◌, map, length, Option, Some, None, is_none, refl, sym, ◌∙◌, ap}
 use Rattle.std.specs.Prelude.{IfOk, IfSome, Result, Ok, Err}
 use Rattle.std.specs.Option.{option_map}
 use Rattle.std.specs.List.{AllByRecursion, list_all, list_any}
 use Rattle.std.proofs.lemmas.Bool.{or_parts}
+use Rattle.std.proofs.lemmas.List.{map-append}
 use Rattle.std.proofs.lemmas.List.Folds.{list_all-append}
 use Rattle.cv_base.specs.Path.{Path, same_path}
 use Rattle.cv_base.specs.Place.{place_of}
@@ -22,11 +23,11 @@ abbrev AreFound : List Stored → List Stored → Type 0
 AreFound all es = AllByRecursion (λ e. item_at all e.path ≡ Some e.item) es
 
 -- an entry of another path in front hides none
-behind : (e : Stored) (all es : List Stored) → list_any (λ f. same_path e.path f.path) es ≡ false → AreFound all es → AreFound (e ∷ all) es
-behind e all [] h found = tt
-behind e all (f ∷ fs) h found = (
+after : (e : Stored) (all es : List Stored) → list_any (λ f. same_path e.path f.path) es ≡ false → AreFound all es → AreFound (e ∷ all) es
+after e all [] h found = tt
+after e all (f ∷ fs) h found = (
   rw (or_parts (same_path e.path f.path) (list_any (λ g. same_path e.path g.path) fs) h).0 found.0,
-  behind e all fs (or_parts (same_path e.path f.path) (list_any (λ g. same_path e.path g.path) fs) h).1 found.1,
+  after e all fs (or_parts (same_path e.path f.path) (list_any (λ g. same_path e.path g.path) fs) h).1 found.1,
 )
 
 not_false : (b c : Bool) → not b && c ≡ true → (b ≡ false) × (c ≡ true)
@@ -37,7 +38,7 @@ found_all : (es : List Stored) → is_distinct es ≡ true → AreFound es es
 found_all [] h = tt
 found_all (e ∷ es) h =
     let parts = not_false (list_any (λ f. same_path e.path f.path) es) (is_distinct es) h in
-    (rw (path_self e.path) refl, behind e es es parts.0 (found_all es parts.1))
+    (rw (path_self e.path) refl, after e es es parts.0 (found_all es parts.1))
 
 file_by : (path : Path) (bytes : List ℕ) (none large : Bool)
     → cond none (node.File Unread) (answered (cond large Rattle.cv_desk.specs.declared.desk.FileRead.TheVariants.TooLarge (Rattle.cv_desk.specs.declared.desk.FileRead.TheVariants.Bytes bytes)))
@@ -64,6 +65,13 @@ entries_loaded all (e ∷ es) h = λ i. entry_loaded all e h.0 i ∷ entries_loa
 pub loaded_whole : (es : List Stored) → is_distinct es ≡ true → map (loaded_by (Some es)) (map listed es) ≡ map loaded es
 loaded_whole es h = entries_loaded es es (found_all es h)
 
+-- one more entry is loaded
+pub entries_snoc : (tree : Option (Option (List Stored))) (out longer : List TreeEntry) (es : List ListEntry) (o : TreeEntry) (e : ListEntry) → longer ≡ out ++ o ∷ []
+    → IfSome tree (λ t. out ≡ map (loaded_by t) es) → IfSome tree (λ t. o ≡ loaded_by t e) → IfSome tree (λ t. longer ≡ map (loaded_by t) (es ++ e ∷ []))
+entries_snoc None out longer es o e more h k = tt
+entries_snoc (Some t) out longer es o e more h k =
+    more ∙ ap (λ xs. xs ++ o ∷ []) h ∙ ap (λ x. map (loaded_by t) es ++ x ∷ []) k ∙ sym (map-append (loaded_by t) es (e ∷ []))
+
 -- the last entry was read too
 pub all_snoc : {X : Type 0} (p : X → Bool) (xs : List X) (x : X) → list_all p xs ≡ true → p x ≡ true → list_all p (xs ++ x ∷ []) ≡ true
 all_snoc p xs x h k = list_all-append p xs (x ∷ []) ∙ rw (h, k) refl
@@ -73,10 +81,10 @@ abbrev entries_in : Option Tree → Option (List TreeEntry)
 entries_in found = option_map (λ tree. tree.entries) found
 
 -- what is loaded of a layer, if there is one
-pub load_told : (tree : Option (Option (List Stored))) → IsDistinctIn tree → (found : Option (List ListEntry)) (r : Result (Option Tree) DeskFault)
+pub load_known : (tree : Option (Option (List Stored))) → IsDistinctIn tree → (found : Option (List ListEntry)) (r : Result (Option Tree) DeskFault)
     → IfSome tree (λ t. found ≡ option_map (map listed) t) → IfSome tree (λ t. IfOk r (λ out. entries_in out ≡ option_map (map (loaded_by t)) found))
     → IfSome tree (λ t. IfOk r (λ out. entries_in out ≡ option_map (map loaded) t))
-load_told None d found r h k = tt
-load_told (Some t) d found (Err e) h k = tt
-load_told (Some None) d found (Ok out) h k = k ∙ ap (option_map (map (loaded_by None))) h
-load_told (Some (Some es)) d found (Ok out) h k = k ∙ ap (option_map (map (loaded_by (Some es)))) h ∙ ap Some (loaded_whole es d)
+load_known None d found r h k = tt
+load_known (Some t) d found (Err e) h k = tt
+load_known (Some None) d found (Ok out) h k = k ∙ ap (option_map (map (loaded_by None))) h
+load_known (Some (Some es)) d found (Ok out) h k = k ∙ ap (option_map (map (loaded_by (Some es)))) h ∙ ap Some (loaded_whole es d)

@@ -6,7 +6,7 @@ use Rattle.std.specs.Ordering.{is_eq, nat_cmp}
 use Rattle.cv_base.specs.Path.{Path, path_cmp, same_path}
 use Rattle.cv_base.proofs.Lists.{any_last}
 use Rattle.cv_desk.specs.Stored.{Stored}
-use Rattle.cv_desk.specs.TableSteps.{HasPaths, stands}
+use Rattle.cv_desk.specs.code.TableSteps.{HasPaths, stands}
 
 -- the second set has the paths of the first, and this one
 abbrev pub HasOneMore : BTreeSet Path → BTreeSet Path → Path → Type 0

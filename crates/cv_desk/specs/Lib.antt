@@ -1,10 +1,10 @@
+pub mod Counts
 pub mod Failing
 pub mod Fault
+pub mod Folder
 pub mod Loaded
 pub mod Row
-pub mod Sample
 pub mod Stored
 pub mod Table
-pub mod TableLaws
-pub mod TableRow
-pub mod TableSteps
+pub mod code
+pub mod tests

@@ -1,4 +1,4 @@
--- A layer as it is loaded (cvwatch's own): the bytes of package files alone are read, up to their limit.
+-- A layer as it is loaded (defined by this project): the bytes of package files alone are read, up to their limit.
 use Rattle.std.specs.Prelude.{ℕ, Bool, true, nat_lt, is_none, if◌then◌else◌, List, length, Option}
 use Rattle.cv_base.specs.Path.{Path}
 use Rattle.cv_base.specs.Place.{place_of}
@@ -35,7 +35,7 @@ answered (read.Bytes bytes) = node.File (Bytes bytes)
 answered read.TooLarge = node.File TooLarge
 answered read.NotFile = node.Other
 
--- a file as it is loaded, where this stands at its path
+-- a file as it is loaded, if this is at its path
 abbrev pub loaded_file : Path → Option Item → Node
 loaded_file path found = if is_none (place_of path) then node.File Unread else answered (file_read found 33554432)
 

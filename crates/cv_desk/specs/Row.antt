@@ -2,7 +2,7 @@
 use Rattle.std.specs.Prelude.{ℕ, List}
 use Rattle.cv_base.specs.declared.tree.Kind.{Kind}
 
--- a row of a table: the text of a path, what stands there, and the bytes of a file
+-- a row of a table: the text of a path, what is there, and the bytes of a file
 pub record Row : Type 0 where
   pub path : List ℕ
   pub kind : Kind

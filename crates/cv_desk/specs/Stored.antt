@@ -1,5 +1,5 @@
 -- A layer as it is stored: a list of paths, each with a directory, a file with its bytes, or something else
--- (after the OCI image specification 1.1, layer.md; a link or a special file is "something else", cvwatch's own).
+-- (after the OCI image specification 1.1, layer.md; a link or a special file is "something else", defined by this project).
 use Rattle.std.specs.Prelude.{◌≡◌, ℕ, Bool, true, ◌&&◌, not, nat_lt, if◌then◌else◌, List, [], ◌∷◌, length, Option, Some, None}
 use Rattle.std.specs.List.{list_any}
 use Rattle.cv_base.specs.Path.{Path, same_path}
@@ -37,11 +37,11 @@ size_of Dir = 0
 size_of (File bytes) = length bytes
 size_of Other = 0
 
--- an entry as a listing tells it
+-- an entry as a listing gives it
 abbrev pub listed : Stored → ListEntry
 listed e = record { path = e.path; kind = kind_of e.item; size = size_of e.item }
 
--- what stands at a path
+-- what is at a path
 abbrev pub item_at : List Stored → Path → Option Item
 item_at [] path = None
 item_at (e ∷ es) path = if same_path e.path path then Some e.item else item_at es path
@@ -53,12 +53,12 @@ file_read (Some Dir) limit = read.NotFile
 file_read (Some (File bytes)) limit = if nat_lt limit (length bytes) then read.TooLarge else read.Bytes bytes
 file_read (Some Other) limit = read.NotFile
 
--- what stands at a path of a layer, where there is one
+-- what is at a path of a layer, if there is a layer
 abbrev pub item_in : Option (List Stored) → Path → Option Item
 item_in None path = None
 item_in (Some entries) path = item_at entries path
 
--- where a type tells of a layer, no path stands twice in it
+-- no path stands twice in a layer that is known
 abbrev pub IsDistinctIn : Option (Option (List Stored)) → Type 0
 IsDistinctIn None = Unit {0}
 IsDistinctIn (Some None) = Unit {0}

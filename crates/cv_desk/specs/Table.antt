@@ -1,4 +1,4 @@
--- A desk that is a table in the program (cvwatch's own): which of its rows are entries of a layer's tree.
+-- A desk that is a table in the program (defined by this project): which of its rows are entries of a layer's tree.
 use Rattle.std.specs.Prelude.{ℕ, Bool, false, if◌then◌else◌, List, [], ◌∷◌, ◌++◌, Option, Some, None, option_to_list, Result, Ok, Err}
 use Rattle.std.specs.List.{list_any}
 use Rattle.cv_base.specs.Path.{Path, path_of, same_path}
@@ -23,20 +23,20 @@ is_path (Err error) path = false
 abbrev pub have : List Row → Path → Bool
 have rows path = list_any (λ row. is_path (path_of row.path) path) rows
 
--- the entry of a row behind others: none where its text is no path, or one of the others has its path
+-- the entry of a row after others: none if its text is not a valid path, or one of the others has its path
 abbrev pub entry_read : List Row → Row → Result Path PathError → Option Stored
 entry_read before row (Ok path) = if have before path then None else Some (record { path = path; item = item_of row.kind row.bytes })
 entry_read before row (Err error) = None
 
 -- the same, where the text of the row is read here
-abbrev pub entry_behind : List Row → Row → Option Stored
-entry_behind before row = entry_read before row (path_of row.path)
+abbrev pub entry_after : List Row → Row → Option Stored
+entry_after before row = entry_read before row (path_of row.path)
 
--- the entries of rows in their order, behind others, whose last one is named first
-abbrev pub entries_behind : List Row → List Row → List Stored
-entries_behind before [] = []
-entries_behind before (row ∷ rows) = option_to_list (entry_behind before row) ++ entries_behind (row ∷ before) rows
+-- the entries of rows in their order, after others, of which the last one comes first
+abbrev pub entries_after : List Row → List Row → List Stored
+entries_after before [] = []
+entries_after before (row ∷ rows) = option_to_list (entry_after before row) ++ entries_after (row ∷ before) rows
 
--- the tree of a table's rows: the entry of each row behind those before it
+-- the tree of a table's rows: the entry of each row after those before it
 abbrev pub tree_of_rows : List Row → List Stored
-tree_of_rows rows = entries_behind [] rows
+tree_of_rows rows = entries_after [] rows

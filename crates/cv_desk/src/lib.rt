@@ -7,6 +7,7 @@
 #![tactic(auto)]
 
 mod desk;
+mod failure;
 mod faulty;
 mod folder;
 mod loading;
@@ -16,6 +17,7 @@ mod tests;
 mod walk;
 
 pub use desk::{Desk, DeskFault, FileRead};
+pub use failure::FolderFailure;
 pub use faulty::Faulty;
 pub use folder::FolderDesk;
 pub use loading::load;

@@ -4,8 +4,8 @@ ghost use Rattle.cv_base.specs.Path.{path_of};
 ghost use Rattle.cv_desk.specs.Row.{Row};
 ghost use Rattle.cv_desk.specs.Stored.{file_read, item_at, listed};
 ghost use Rattle.cv_desk.specs.Table.{is_path, item_of, tree_of_rows};
-ghost use Rattle.cv_desk.specs.TableRow.{row_of, stored_of};
-ghost use Rattle.cv_desk.specs.TableSteps.{HasPaths, first_at, with_entry, with_row};
+ghost use Rattle.cv_desk.specs.code.TableRow.{row_of, stored_of};
+ghost use Rattle.cv_desk.specs.code.TableSteps.{HasPaths, first_at, with_entry, with_row};
 
 use crate::desk::{Desk, DeskFault, FileRead};
 use cv_base::{Digest, Kind, ListEntry, PathError, RelPath};
@@ -22,7 +22,7 @@ pub struct TableEntry {
     pub bytes: &'static [u8],
 }
 
-/// A fixed table of layers. Its rows are told once more as plain data, which its clause holds it to.
+/// A fixed table of layers. Its rows are given once more as plain data, and the clause says that both are equal.
 pub trait Table {
     /// The rows of each digest that has a layer.
     ghost rows: { List ℕ → Option (List Row) };
@@ -32,21 +32,24 @@ pub trait Table {
         ensures { option_map (λ found. map row_of found.now) result ≡ rows digest.now };
 }
 
-/// A desk over a fixed table, which never fails. A row whose text is no path, or whose path an earlier row
-/// has, is no entry. Tables are small: each listing reads all rows anew, and each read those up to its path.
+/// A desk over a fixed table, which never fails. A row whose text is not a valid path, or whose path an earlier row has, is
+/// no entry. Tables are small: each listing goes over all rows, and each read over those up to its path.
 #[derive(Drop)]
 pub struct TableDesk<T: Table> {
     listings: u64,
+    reads: u64,
     of: PhantomData<T>,
 }
 
 impl<T: Table> TableDesk<T> {
     /// A desk over the table `T`.
     pub fn new() -> TableDesk<T>
-        ensures { ⟦<TableDesk<T> as Desk>⟧.listings result ≡ 0 }
+        ensures listings { ⟦<TableDesk<T> as Desk>⟧.listings result ≡ 0 }
+        ensures reads { ⟦<TableDesk<T> as Desk>⟧.reads result ≡ 0 }
     {
         TableDesk {
             listings: 0,
+            reads: 0,
             of: PhantomData,
         }
     }
@@ -56,13 +59,15 @@ impl<T: Table> Desk for TableDesk<T> {
     ghost use Rattle.std.specs.Prelude.{Some};
     ghost use Rattle.std.specs.Option.{option_map};
     ghost use Rattle.cv_desk.specs.Table.{tree_of_rows};
-    ghost use Rattle.cv_desk.specs.TableLaws.{table_distinct};
+    ghost use Rattle.cv_desk.specs.code.TableLaws.{table_distinct};
 
     ghost tree = { λ d. Some (option_map tree_of_rows (T.rows d)) };
 
     ghost faults = { λ s. 0 };
 
     ghost listings = { λ s. s.listings };
+
+    ghost reads = { λ s. s.reads };
 
     ghost distinct = { λ d. table_distinct (T.rows d) };
 
@@ -81,6 +86,7 @@ impl<T: Table> Desk for TableDesk<T> {
         path: &RelPath,
         limit: u32,
     ) -> Result<FileRead, DeskFault> {
+        self.reads = self.reads.saturating_add(1);
         match T::layer(layer) {
             None => Ok(FileRead::NotFile),
             Some(rows) => Ok(file_read(alloc, rows, path, limit)?),
@@ -97,7 +103,7 @@ struct Entry {
 }
 
 /// The entries that rows make.
-#[tactic(auto, using(crate::specs::TableLaws::rows_added))]
+#[tactic(auto, using(crate::specs::code::TableLaws::rows_added))]
 fn entries(alloc: Global, rows: &[TableEntry]) -> Result<Vec<Entry>, NoMemory>
     ensures { IfOk result (λ out. map stored_of out.items ≡ tree_of_rows (map row_of rows.now)) }
 {
@@ -127,7 +133,7 @@ fn add_row(
     }
 }
 
-/// Adds the entry of a row of this path, unless the path stands already.
+/// Adds the entry of a row of this path, unless an entry has it already.
 fn add_entry(
     out: &mut Vec<Entry>,
     paths: &mut BTreeSet<RelPath>,
@@ -149,7 +155,7 @@ fn add_entry(
     Ok(())
 }
 
-/// The entries as a listing tells them.
+/// The entries as a listing gives them.
 fn listed(alloc: Global, entries: Vec<Entry>) -> Result<Vec<ListEntry>, NoMemory>
     ensures { IfOk result (λ out. out.items ≡ map listed (map stored_of entries.items)) }
 {
@@ -167,7 +173,7 @@ fn listed(alloc: Global, entries: Vec<Entry>) -> Result<Vec<ListEntry>, NoMemory
 }
 
 /// What reading a path of the rows gives.
-#[tactic(auto, using(crate::specs::TableLaws::first_found))]
+#[tactic(auto, using(crate::specs::code::TableLaws::first_found))]
 fn file_read(
     alloc: Global,
     rows: &[TableEntry],

@@ -1,7 +1,8 @@
-ghost use Rattle.cv_desk.specs.Sample.{sample_rows};
+ghost use Rattle.cv_desk.specs.tests.Sample.{sample_rows};
 
 use crate::desk::{Desk, DeskFault, FileRead};
 use crate::faulty::Faulty;
+use crate::folder::FolderDesk;
 use crate::loading::load;
 use crate::table::{Table, TableDesk, TableEntry};
 use cv_base::{Content, Digest, Kind, ListEntry, Node, RelPath, Tree, TreeEntry};
@@ -134,5 +135,39 @@ fn the_second_and_third_call_fail_be_they_listings_or_reads(rt: HostRuntime) -> 
         desk.read(alloc, &layer, &path, 4),
         Ok(bytes(alloc, "four")?)
     );
+    Ok(())
+}
+
+/// A type that threads may share.
+fn shared<T: Send + Sync>(value: T) -> T {
+    value
+}
+
+#[test]
+fn threads_may_share_desks(rt: HostRuntime) -> Result<(), Fail> {
+    let layer = Digest::of([0; 32]);
+    let fails = Seq::of(vec![in rt.alloc(); 1]?);
+    let mut faulty = shared(Faulty::new(shared(TableDesk::<Sample>::new()), fails));
+    let mut folders = shared(FolderDesk::new(rt.clone()?));
+    let fault = shared(faulty.list(rt.alloc(), &layer));
+    assert_eq!(rt; fault, Err(DeskFault::Failed));
+    let absent = shared(folders.list(rt.alloc(), &layer));
+    assert_eq!(rt; absent, Ok(None));
+    Ok(())
+}
+
+#[test]
+fn a_file_that_is_not_there_is_a_failure_with_its_path(rt: HostRuntime) -> Result<(), Fail> {
+    let alloc = rt.alloc();
+    let path = RelPath::read(alloc, "etc/os-release")?;
+    let mut desk = FolderDesk::new(rt.clone()?);
+    assert!(rt; desk.last_failure().is_none());
+    let read = desk.read(alloc, &Digest::of([0x1a; 32]), &path, 10);
+    assert_eq!(rt; read, Err(DeskFault::Failed));
+    let Some(failure) = desk.last_failure() else {
+        return Err(Fail::from("no failure was kept"));
+    };
+    assert!(rt; failure.path.as_str().starts_with("layers/sha256/1a1a"));
+    assert!(rt; failure.path.as_str().ends_with("1a/etc/os-release"));
     Ok(())
 }

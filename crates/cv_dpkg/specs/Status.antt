@@ -101,6 +101,10 @@ rules rule = record {
   items = λ lines. package_in (facts lines);
 }
 
--- the packages of a status file, or its first fault. Lines lie between LFs, and blanks and CRs at their ends are dropped.
+-- the lines of a file lie between LFs, and blanks and CRs at their ends are dropped
+abbrev pub lines : List ℕ → List (List ℕ)
+lines bytes = map (without_end is_dropped) (slice_split is_lf bytes)
+
+-- the packages of a status file, or its first fault
 abbrev pub status : List ℕ → StatusRule → Result (List DebPackage) FileBad
-status bytes rule = read_blocks (rules rule) (map (without_end is_dropped) (slice_split is_lf bytes))
+status bytes rule = read_blocks (rules rule) (lines bytes)

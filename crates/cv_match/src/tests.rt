@@ -361,19 +361,19 @@ fn a_package_has_a_key_for_its_ecosystem_and_one_for_the_part_before_the_colon(
     rt: HostRuntime,
 ) -> Result<(), Fail> {
     let alloc = rt.alloc();
-    for (kind, ecosystem, front) in [
-        (PackageKind::Deb, "Debian:12", Some("Debian")),
-        (PackageKind::Apk, "Alpine:v3.18", Some("Alpine")),
-        (PackageKind::Npm, "npm", None),
-        (PackageKind::Deb, "a:", Some("a")),
-        (PackageKind::Deb, "a:b:c", Some("a")),
+    for (kind, want) in [
+        (PackageKind::Deb, ["Debian:12", "Debian"].as_slice()),
+        (PackageKind::Npm, ["npm"].as_slice()),
+        (PackageKind::Apk, ["a:b:c", "a"].as_slice()),
     ] {
-        let keys = package_keys(alloc, &installed(alloc, kind, ecosystem, "1")?)?;
-        let keys = keys.as_slice();
-        assert_eq!(rt; keys[0].ecosystem.as_str(), ecosystem);
-        assert_eq!(rt; keys[0].name.as_str(), "a");
-        assert_eq!(rt; keys.get(1).map(|key| key.ecosystem.as_str()), front);
-        assert_eq!(rt; keys.len(), if front.is_some() { 2 } else { 1 });
+        for ecosystem in want.iter().take(1) {
+            let keys = package_keys(alloc, &installed(alloc, kind, ecosystem, "1")?)?;
+            assert_eq!(rt; keys.as_slice().len(), want.len());
+            for (key, ecosystem) in keys.as_slice().iter().zip(want) {
+                assert_eq!(rt; key.name.as_str(), "a");
+                assert_eq!(rt; key.ecosystem.as_str(), *ecosystem);
+            }
+        }
     }
     Ok(())
 }

@@ -59,7 +59,7 @@ pub fn split_digits(text: &[u8]) -> (&[u8], &[u8])
     }
 }
 
-/// The index of the first byte that is no digit.
+/// The index of the first byte that is not a digit.
 fn digits_end(text: &[u8]) -> Option<usize>
     ensures { result ≡ position (λ byte. not (is_digit byte)) text.now }
 {

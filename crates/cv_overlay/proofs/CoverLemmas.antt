@@ -12,14 +12,14 @@ use Rattle.std.proofs.lemmas.Bool.{cases_lt, eqb-true, or_parts}
 use Rattle.std.proofs.lemmas.List.Folds.{list_any_at, list_any_none}
 use Rattle.std.proofs.lemmas.List.Sorted.{searchable_from_sorted, list_any-IsPermutation}
 use Rattle.std.proofs.Math.Bool.{or_assoc, or_comm, or-false}
-use Rattle.cv_base.specs.Path.{Path, components, is_above, is_slash, is_special, same_path}
-use Rattle.cv_base.specs.PathText.{goes_on}
+use Rattle.cv_base.specs.Path.{Path, components, is_above, is_slash, is_special, same_path, parent_of}
+use Rattle.cv_base.specs.code.PathText.{goes_on}
 use Rattle.cv_base.specs.Texts.{same, is_cons, has_text}
 use Rattle.cv_base.proofs.PathLemmas.{above_components, none_above, split_cons, top_above}
 use Rattle.cv_overlay.specs.code.Cover.{any_front, hides_text}
 use Rattle.cv_base.specs.declared.tree.TreeEntry.{TreeEntry}
 use Rattle.cv_overlay.specs.Lay.{hides_by}
-use Rattle.cv_overlay.specs.Mark.{at_or_above, parent_of, name_of, target_of, is_dir_node, is_whiteout_name, is_opaque_name, is_reserved_name, has_mark, mark, mark_of}
+use Rattle.cv_overlay.specs.Mark.{at_or_above, name_of, target_of, is_dir_node, is_whiteout_name, is_opaque_name, is_reserved_name, has_mark, mark, mark_of}
 use Rattle.cv_overlay.specs.declared.mark.Mark.{Mark}
 use Rattle.cv_overlay.specs.declared.mark.Mark.TheVariants.{Reserved, Opaque, Whiteout, Bad, Plain}
 use Rattle.cv_overlay.specs.code.Text.{is_within}

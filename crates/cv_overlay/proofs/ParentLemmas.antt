@@ -13,11 +13,11 @@ use Rattle.std.proofs.lemmas.Map.Lookups.{exact_bytes}
 use Rattle.std.proofs.lemmas.Cmp.{tied_itself}
 use Rattle.std.specs.Option.{option_or}
 use Rattle.std.proofs.lemmas.Bool.{or_left, or_right, and_from}
-use Rattle.cv_base.specs.Path.{Path, is_above, path_cmp, same_path}
+use Rattle.cv_base.specs.Path.{Path, is_above, path_cmp, same_path, parent_of}
 use Rattle.cv_base.specs.declared.limits.TheConstants.{MAX_ENTRIES}
 use Rattle.cv_base.specs.Texts.{same, is_cons}
 use Rattle.cv_overlay.specs.Fault.{is_less, comes_before, is_sorted_after, has_parent, needs_parent, fault, first_fault}
-use Rattle.cv_overlay.specs.Mark.{Outline, at_or_above, parent_of, is_bad}
+use Rattle.cv_overlay.specs.Mark.{Outline, at_or_above, is_bad}
 use Rattle.cv_overlay.specs.code.Step.{follows, stands_by_parent, fault_from}
 use Rattle.cv_overlay.specs.declared.fault.TreeFault.{TreeFault}
 use Rattle.cv_overlay.specs.declared.fault.TreeFault.TheVariants.{Unsorted, NoParent, BadMark}

@@ -3,9 +3,9 @@ use Rattle.std.specs.Prelude.{◌≡◌, ℕ, Bool, true, false, ◌&&◌, ◌||
 use Rattle.std.specs.List.{list_any}
 use Rattle.std.proofs.Common.{ap, ◌∙◌, sym}
 use Rattle.std.proofs.Math.Bool.{or_assoc, or-false}
-use Rattle.cv_base.specs.Path.{Path, is_special}
+use Rattle.cv_base.specs.Path.{Path, is_special, parent_of}
 use Rattle.cv_overlay.specs.Fault.{needs_parent}
-use Rattle.cv_overlay.specs.Mark.{parent_of, name_of, has_mark, is_opaque_name, is_reserved_name, is_whiteout_name, mark_of}
+use Rattle.cv_overlay.specs.Mark.{name_of, has_mark, is_opaque_name, is_reserved_name, is_whiteout_name, mark_of}
 use Rattle.cv_overlay.specs.code.Text.{mark_by}
 use Rattle.cv_overlay.specs.declared.mark.Mark.{Mark}
 use Rattle.cv_overlay.specs.declared.mark.Mark.TheVariants.{Reserved, Opaque, Whiteout, Bad, Plain}

@@ -5,12 +5,12 @@ use Rattle.std.proofs.Common.{ap, sym, ◌∙◌}
 use Rattle.std.proofs.lemmas.List.Splits.{join_with_byte-slice_split}
 use Rattle.std.specs.List.{join_with_byte}
 use Rattle.std.proofs.lemmas.Cmp.{nat_eq_equiv}
-use Rattle.cv_base.specs.Path.{Path, components, is_above, is_slash, same_path}
-use Rattle.cv_base.specs.PathText.{goes_on}
+use Rattle.cv_base.specs.Path.{Path, components, is_above, is_slash, same_path, parent_of}
+use Rattle.cv_base.specs.code.PathText.{goes_on}
 use Rattle.cv_base.specs.Texts.{same, is_cons}
 use Rattle.cv_base.proofs.PathLemmas.{above_components, none_above, split_cons}
 use Rattle.cv_overlay.specs.Fault.{needs_parent}
-use Rattle.cv_overlay.specs.Mark.{parent_of, name_of, is_reserved_name, mark_of}
+use Rattle.cv_overlay.specs.Mark.{name_of, is_reserved_name, mark_of}
 use Rattle.cv_overlay.specs.code.Text.{is_within, mark_by}
 use Rattle.cv_base.proofs.Bools.{both_ways}
 use Rattle.cv_base.proofs.Same.{same_is, same_self, path_is, path_self}

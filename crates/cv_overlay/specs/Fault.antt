@@ -6,11 +6,11 @@ use Rattle.std.specs.List.{list_all, list_any}
 use Rattle.std.specs.declared.cmp.Ordering.{Ordering}
 use Rattle.std.specs.declared.cmp.Ordering.TheVariants.{Less, Equal, Greater}
 use Rattle.std.specs.Option.{option_or}
-use Rattle.cv_base.specs.Path.{Path, path_cmp, same_path}
+use Rattle.cv_base.specs.Path.{Path, path_cmp, same_path, parent_of}
 use Rattle.cv_base.specs.declared.limits.TheConstants.{MAX_ENTRIES}
 use Rattle.cv_base.specs.declared.tree.ListEntry.{ListEntry}
 use Rattle.cv_base.specs.declared.tree.TreeEntry.{TreeEntry}
-use Rattle.cv_overlay.specs.Mark.{Outline, listed, outline, parent_of, is_bad}
+use Rattle.cv_overlay.specs.Mark.{Outline, listed, outline, is_bad}
 use Rattle.cv_overlay.specs.declared.fault.TreeFault.{TreeFault}
 use Rattle.cv_overlay.specs.declared.fault.TreeFault.TheVariants.{Unsorted, NoParent, BadMark, TooMany}
 

@@ -4,10 +4,10 @@
 use Rattle.std.specs.Prelude.{Bool, true, false, ◌&&◌, not, if◌then◌else◌, List, [], ◌∷◌, Option, Some, None}
 use Rattle.std.specs.List.{list_any}
 use Rattle.std.specs.Option.{option_or}
-use Rattle.cv_base.specs.Path.{Path, is_above, same_path}
+use Rattle.cv_base.specs.Path.{Path, is_above, same_path, parent_of}
 use Rattle.cv_base.specs.declared.tree.Node.{Node}
 use Rattle.cv_base.specs.declared.tree.TreeEntry.{TreeEntry}
-use Rattle.cv_overlay.specs.Mark.{is_dir_node, at_or_above, parent_of, target_of, mark}
+use Rattle.cv_overlay.specs.Mark.{is_dir_node, at_or_above, target_of, mark}
 use Rattle.cv_overlay.specs.declared.mark.Mark.{Mark}
 use Rattle.cv_overlay.specs.declared.mark.Mark.TheVariants.{Reserved, Opaque, Whiteout, Bad, Plain}
 

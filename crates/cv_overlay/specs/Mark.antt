@@ -5,7 +5,7 @@
 -- reserved nor a whiteout is a bad mark; a component `.wh.NAME` that is not the last one makes nothing.
 use Rattle.std.specs.Prelude.{ℕ, Bool, true, false, ◌&&◌, ◌||◌, ◌==◌, not, if◌then◌else◌, List, [], ◌∷◌, ◌++◌, drop, codes}
 use Rattle.std.specs.List.{list_any, starts_with}
-use Rattle.cv_base.specs.Path.{Path, is_above, is_special, same_path}
+use Rattle.cv_base.specs.Path.{Path, is_above, is_special, parent_of, same_path}
 use Rattle.cv_base.specs.Texts.{same}
 use Rattle.cv_base.specs.declared.tree.Kind.{Kind}
 use Rattle.cv_base.specs.declared.tree.Kind.TheVariants as kind
@@ -44,12 +44,6 @@ outline e = record { path = e.path; is_dir = is_dir_node e.node }
 -- a path is another one, or is above it
 abbrev pub at_or_above : Path → Path → Bool
 at_or_above p q = same_path p q || is_above p q
-
--- the components but the last one, and those of the top for a path of one component
-abbrev pub parent_of : Path → Path
-parent_of [] = []
-parent_of (c ∷ []) = []
-parent_of (c ∷ d ∷ ds) = c ∷ parent_of (d ∷ ds)
 
 -- the last component
 abbrev pub name_of : Path → List ℕ

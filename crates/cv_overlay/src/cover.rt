@@ -3,11 +3,11 @@ ghost use Rattle.std.specs.Cmp.Lexicographic.{slice_cmp};
 ghost use Rattle.std.specs.List.{list_any};
 ghost use Rattle.std.specs.List.Sorted.{IsSortedBy};
 ghost use Rattle.std.specs.Ordering.{is_lt, nat_cmp};
-ghost use Rattle.cv_base.specs.Path.{components, is_above};
+ghost use Rattle.cv_base.specs.Path.{components, is_above, parent_of};
 ghost use Rattle.cv_base.specs.Texts.{has_text};
 ghost use Rattle.cv_overlay.specs.code.Cover.{any_front, hides_text};
 ghost use Rattle.cv_overlay.specs.Lay.{hides, hides_by};
-ghost use Rattle.cv_overlay.specs.Mark.{at_or_above, is_whiteout_name, mark, name_of, parent_of, target_of};
+ghost use Rattle.cv_overlay.specs.Mark.{at_or_above, is_whiteout_name, mark, name_of, target_of};
 
 use crate::cut::cut;
 use crate::mark::{Mark, mark_of};

@@ -1,8 +1,7 @@
 -- The packages of small roots, computed.
-use Rattle.std.specs.Prelude.{◌≡◌, ℕ, nat_lt, true, List, [], ◌∷◌, codes, length, Ok, Err, refl}
+use Rattle.std.specs.Prelude.{◌≡◌, ℕ, nat_lt, true, List, [], ◌∷◌, codes, length, Option, Some, None, Ok, Err, refl}
 use lib.Utf8.{encode}
 use Rattle.std.specs.Str.{is_utf8, chars}
-use Rattle.serde_json.proofs.OnLiterals.{serde_json_on_literals}
 use Rattle.cv_base.specs.Path.{components}
 use Rattle.cv_base.specs.declared.fault.What.TheVariants as what
 use Rattle.cv_base.specs.declared.limits.TheConstants.{PACKAGE_FILE_LIMIT}
@@ -13,7 +12,9 @@ use Rattle.cv_base.specs.declared.tree.Content.TheVariants as content
 use Rattle.cv_base.specs.declared.tree.Node.TheVariants as node
 use Rattle.cv_base.specs.declared.tree.TreeEntry.{TreeEntry}
 use Rattle.cv_packages.specs.Found.{found_in}
-use Rattle.cv_packages.specs.Packages.{packages}
+use Rattle.cv_packages.specs.Packages.{assembled, packages}
+use Rattle.cv_npm.specs.declared.package.NpmPackage.{NpmPackage}
+use Rattle.cv_packages.specs.declared.found.FileFound.{FileFound}
 use Rattle.cv_packages.specs.declared.found.Found.TheVariants as found
 use Rattle.cv_packages.specs.declared.error.FileFault.TheVariants.{BadFile, TooLarge}
 
@@ -47,6 +48,12 @@ zlib_of ecosystem = record {
   arch = [];
   ecosystem = ecosystem;
 }
+
+abbrev debian_found : FileFound
+debian_found = record { path = components (codes "etc/os-release"); found = found.Os (record { id = codes "debian"; version = Some (codes "12") }) }
+
+abbrev npm_found : List ℕ → Option NpmPackage → FileFound
+npm_found text named = record { path = components text; found = found.Npm named }
 
 -- etc/os-release counts before usr/lib/os-release, as also a file without assignments
 etc_counts : (packages (etc_debian ∷ usr_alpine ∷ zlib ∷ []) ≡ Ok (zlib_of (codes "Debian:12") ∷ []))
@@ -99,8 +106,8 @@ apk : packages (file (codes "lib/apk/db/installed") (codes "P:libssl3\nV:3.1.4-r
 unfolding packages is_utf8 chars encode
 apk = refl
 
--- an npm package is its own source, has no architecture, and is of npm on every system; a file that is no JSON has none
-npm : packages (etc_debian ∷ file (codes "node_modules/@s/n/package.json") (codes "{\"name\":\"@s/n\",\"version\":\"1.0.0\"}") ∷ file (codes "node_modules/x/package.json") (codes "{") ∷ [])
+-- an npm package is its own source, has no architecture, and is of npm on every system; a file that names none has none
+npm : assembled (debian_found ∷ npm_found (codes "node_modules/@s/n/package.json") (Some (record { name = codes "@s/n"; version = codes "1.0.0" })) ∷ npm_found (codes "node_modules/x/package.json") None ∷ [])
     ≡ Ok (record {
       kind = Npm;
       path = components (codes "node_modules/@s/n/package.json");
@@ -111,7 +118,6 @@ npm : packages (etc_debian ∷ file (codes "node_modules/@s/n/package.json") (co
       arch = [];
       ecosystem = codes "npm";
     } ∷ [])
-unfolding packages serde_json_on_literals is_utf8 chars
 npm = refl
 
 -- the first refused file in the order of paths is named, whatever its reader

@@ -41,7 +41,6 @@ fn read_bytes(alloc: Global, place: Place, bytes: &[u8]) -> Result<Found, NoMemo
     }
 }
 
-#[tactic(auto, using(crate::proofs::ReadLemmas::read_ok, crate::proofs::ReadLemmas::read_bad))]
 fn read_deb(alloc: Global, bytes: &[u8], rule: StatusRule) -> Result<Found, NoMemory>
     ensures { IfOk result (λ found. found ≡ status_found (status bytes.now rule)) }
 {
@@ -52,7 +51,6 @@ fn read_deb(alloc: Global, bytes: &[u8], rule: StatusRule) -> Result<Found, NoMe
     }
 }
 
-#[tactic(auto, using(crate::proofs::ReadLemmas::read_ok, crate::proofs::ReadLemmas::read_bad))]
 fn read_apk(alloc: Global, bytes: &[u8]) -> Result<Found, NoMemory>
     ensures { IfOk result (λ found. found ≡ installed_found (installed bytes.now)) }
 {

@@ -1,5 +1,5 @@
 -- The faults of lines, and lines between empty ones, with one more line.
-use Rattle.std.proofs.Common.{◌≡◌, ℕ, Bool, true, false, cond, List, [], ◌∷◌, ◌++◌, Option, None, Some, refl, sym, ap, ◌∙◌, append_assoc, append-nil}
+use Rattle.std.proofs.Common.{◌≡◌, ℕ, Bool, true, false, cond, List, [], ◌∷◌, ◌++◌, Option, Some, refl, sym, ap, ◌∙◌, append_assoc, append-nil}
 use Rattle.std.specs.List.{onto_first, slice_split}
 use Rattle.std.specs.Option.{option_or}
 use Rattle.cv_base.specs.declared.fault.What.{What}

@@ -1,5 +1,5 @@
 -- Reading line by line, block by block, gives what the definition says of the whole file.
-use Rattle.std.proofs.Common.{◌≡◌, ℕ, ◌+◌, Bool, true, false, cond, if◌then◌else◌, List, [], ◌∷◌, ◌++◌, Option, None, Some, Result, Ok, Err, refl, sym, ap, ◌∙◌, append_assoc, append-nil}
+use Rattle.std.proofs.Common.{◌≡◌, ℕ, ◌+◌, Bool, true, false, if◌then◌else◌, List, [], ◌∷◌, ◌++◌, Option, None, Some, Result, Ok, Err, refl, sym, ap, ◌∙◌, append_assoc, append-nil}
 use Rattle.std.specs.Prelude.{IfSome}
 use Rattle.std.specs.List.{flat_map, onto_first, slice_split}
 use Rattle.std.specs.Option.{option_map_or, option_or}
@@ -105,7 +105,7 @@ reading_on rules steps kept a b n begun found [] m e =
 reading_on rules steps kept a b n begun found ([] ∷ ts) m e =
     ap (λ r. r >>= λ o. read_on steps (n + 1) false steps.opening o ts) (ended_is rules steps kept a b n begun found m)
     ∙ (ap (◌>>=◌ ((or_first_fault (end_faults rules b) (found ++ items rules b))))
-        (λ i o. (ap (λ s. read_on steps (n + 1) false s o ts) a.opening ∙ (reading_on rules steps kept a [] (n + 1) false o ts refl refl ∙ ap (answer_all rules o) (glue_none (numbered (n + 1 + 1) ts)))) i)
+    (λ i o. (ap (λ s. read_on steps (n + 1) false s o ts) a.opening ∙ (reading_on rules steps kept a [] (n + 1) false o ts refl refl ∙ ap (answer_all rules o) (glue_none (numbered (n + 1 + 1) ts)))) i)
     ∙ (sym (answer_cons rules b found (slice_split is_gap (numbered (n + 1 + 1) ts)) e) ∙ ap (λ q. answer_all rules found (q ∷ slice_split is_gap (numbered (n + 1 + 1) ts))) (sym (append-nil b))))
 reading_on rules steps kept a b n begun found ((x ∷ xs) ∷ ts) m e =
     line_case rules steps kept a b (record { number = n + 1; text = x ∷ xs }) (slice_split is_gap (numbered (n + 1 + 1) ts)) found (λ k. read_on steps (n + 1) true k found ts) e

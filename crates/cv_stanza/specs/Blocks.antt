@@ -3,8 +3,8 @@
 --
 -- `read_blocks rules lines` takes the rules of a format and the lines of a file. It gives what the blocks are read into, in
 -- order, or the first fault of the file. It lists all faults of all blocks, by line, and stops at none.
-use Rattle.std.specs.Prelude.{ℕ, ◌+◌, Bool, true, false, List, [], ◌∷◌, ◌++◌, map, Option, None, Some, Result}
-use Rattle.std.specs.List.{flat_map, slice_split}
+use Rattle.std.specs.Prelude.{ℕ, ◌+◌, ◌≤◌, Bool, true, false, List, [], ◌∷◌, ◌++◌, map, Option, None, Some, Result}
+use Rattle.std.specs.List.{AllByRecursion, flat_map, slice_split}
 use Rattle.std.specs.Option.{option_map_or, option_or}
 use Rattle.cv_base.specs.Results.{or_first_fault}
 use Rattle.cv_base.specs.Texts.{is_nil}
@@ -72,6 +72,14 @@ faults rules block = line_faults rules.line_fault [] block ++ end_faults rules b
 abbrev pub items : {A : Type 0} → BlockRules A → List Line → List A
 items rules block = rules.items (texts block)
 
+-- the faults of a file
+abbrev pub all_faults : {A : Type 0} → BlockRules A → List (List ℕ) → List FileBad
+all_faults rules lines = flat_map (faults rules) (blocks lines)
+
 -- what the blocks of a file are read into, or its first fault
 abbrev pub read_blocks : {A : Type 0} → BlockRules A → List (List ℕ) → Result (List A) FileBad
-read_blocks rules lines = or_first_fault (flat_map (faults rules) (blocks lines)) (flat_map (items rules) (blocks lines))
+read_blocks rules lines = or_first_fault (all_faults rules lines) (flat_map (items rules) (blocks lines))
+
+-- no fault of the file stands on an earlier line: the first bad line alone decides
+abbrev pub IsFirstBad : {A : Type 0} → BlockRules A → List (List ℕ) → FileBad → Type 0
+IsFirstBad rules lines fault = AllByRecursion (λ other. fault.line ≤ other.line) (all_faults rules lines)

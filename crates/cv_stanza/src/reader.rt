@@ -1,12 +1,13 @@
 //! A whole file.
-ghost use Rattle.std.specs.Prelude.{◌≡◌, ◌∷◌, ◌≤◌, Some, [], false, length, map};
+ghost use Rattle.std.specs.Prelude.{◌≡◌, ◌∷◌, ◌≤◌, IfErr, IfSome, Some, [], false, length, map};
 ghost use Rattle.std.specs.List.{slice_split};
 ghost use Rattle.std.specs.Option.{option_map};
 ghost use Rattle.cv_base.specs.Answer.{Yields};
-ghost use Rattle.cv_base.specs.Cuts.{is_lf, left_len};
+ghost use Rattle.cv_base.specs.Cuts.{is_lf};
+ghost use Rattle.cv_base.specs.code.Cuts.{remaining_len};
 ghost use Rattle.cv_base.specs.Reading.{read_fault};
-ghost use Rattle.cv_stanza.specs.Blocks.{read_blocks};
-ghost use Rattle.cv_stanza.specs.code.Steps.{at_line, ended, remaining_lines, read_on};
+ghost use Rattle.cv_stanza.specs.Blocks.{IsFirstBad, read_blocks};
+ghost use Rattle.cv_stanza.specs.code.Steps.{at_line, ended, trimmed_lines, read_on};
 
 use crate::format::BlockFormat;
 use crate::line_error::LineError;
@@ -21,7 +22,8 @@ pub fn read_blocks<'a, F: BlockFormat<'a>>(
     format: &F,
     bytes: &'a [u8],
 ) -> Result<Vec<F::Item>, ReadBad>
-    ensures { Yields read_fault (λ items. items.items) result (read_blocks (F.rules format.now) (map F.trimmed (slice_split is_lf bytes.now))) }
+    ensures answer { Yields read_fault (λ items. items.items) result (read_blocks (F.rules format.now) (map F.trimmed (slice_split is_lf bytes.now))) }
+    ensures first { IfErr result (λ error. IfSome (read_fault error) (IsFirstBad (F.rules format.now) (map F.trimmed (slice_split is_lf bytes.now)))) }
 {
     read_all(alloc, format, bytes)
 }
@@ -32,7 +34,7 @@ fn read_all<'a, F: BlockFormat<'a>>(
     format: &F,
     bytes: &'a [u8],
 ) -> Result<Vec<F::Item>, ReadBad>
-    ensures { Yields read_fault (λ items. items.items) result (read_on (F.steps format.now) 0 false (F.steps format.now).opening [] (remaining_lines F.trimmed (Some bytes.now))) }
+    ensures { Yields read_fault (λ items. items.items) result (read_on (F.steps format.now) 0 false (F.steps format.now).opening [] (trimmed_lines F.trimmed (Some bytes.now))) }
 {
     let mut found = Vec::new(alloc);
     let mut block = format.open(alloc);
@@ -90,8 +92,8 @@ fn end_block<'a, F: BlockFormat<'a>>(
 
 /// The first line as it counts, and what stands after its LF, if it has one.
 fn next_line<'a, F: BlockFormat<'a>>(bytes: &'a [u8]) -> (&'a [u8], Option<&'a [u8]>)
-    ensures lines { remaining_lines F.trimmed (Some bytes.now) ≡ result.0.now ∷ remaining_lines F.trimmed (option_map (λ s. s.now) result.1) }
-    ensures shorter { left_len (option_map (λ s. s.now) result.1) ≤ length bytes.now }
+    ensures lines { trimmed_lines F.trimmed (Some bytes.now) ≡ result.0.now ∷ trimmed_lines F.trimmed (option_map (λ s. s.now) result.1) }
+    ensures shorter { remaining_len (option_map (λ s. s.now) result.1) ≤ length bytes.now }
 {
     let (line, rest) = cv_base::next_line(bytes);
     (F::trim(line), rest)

@@ -62,31 +62,19 @@ const EQUAL: [(&str, &str); 12] = [
 
 #[test]
 fn versions_compare_by_numbers_letter_suffixes_and_build(rt: HostRuntime) -> Result<(), Fail> {
-    for (i, a) in SUFFIXES.iter().enumerate() {
-        for (j, b) in SUFFIXES.iter().enumerate() {
-            assert_eq!(rt;
-                compare(a.as_bytes(), b.as_bytes()),
-                i.cmp(&j),
-                "{a} and {b}"
-            );
-        }
-    }
-    for (i, a) in RELEASES.iter().enumerate() {
-        for (j, b) in RELEASES.iter().enumerate() {
-            assert_eq!(rt;
-                compare(a.as_bytes(), b.as_bytes()),
-                i.cmp(&j),
-                "{a} and {b}"
-            );
-        }
-    }
-    for (i, a) in ASCENDING.iter().enumerate() {
-        for (j, b) in ASCENDING.iter().enumerate() {
-            assert_eq!(rt;
-                compare(a.as_bytes(), b.as_bytes()),
-                i.cmp(&j),
-                "{a} and {b}"
-            );
+    for versions in [
+        SUFFIXES.as_slice(),
+        RELEASES.as_slice(),
+        ASCENDING.as_slice(),
+    ] {
+        for (i, a) in versions.iter().enumerate() {
+            for (j, b) in versions.iter().enumerate() {
+                assert_eq!(rt;
+                    compare(a.as_bytes(), b.as_bytes()),
+                    i.cmp(&j),
+                    "{a} and {b}"
+                );
+            }
         }
     }
     for (a, b) in EQUAL {

@@ -15,7 +15,7 @@ rank byte = if is_slash byte then 0 else byte
 abbrev pub text_cmp : List ℕ → List ℕ → Ordering
 text_cmp a b = slice_cmp nat_cmp (map rank a) (map rank b)
 
--- the second text goes on with a slash where the first one ends
+-- the second text begins with the first one and a slash after it
 abbrev pub goes_on : List ℕ → List ℕ → Bool
 goes_on [] [] = false
 goes_on [] (y ∷ ys) = is_slash y

@@ -45,7 +45,11 @@ fn packages_are_read_as_the_rules_say(rt: HostRuntime) -> Result<(), Fail> {
         ),
     ] {
         let want = Seq::of(vec![in alloc; package(alloc, want)?]?);
-        assert_eq!(rt; read_status(alloc, text.as_bytes(), StatusRule::Needed), Ok(want), "{what}");
+        assert_eq!(rt;
+            read_status(alloc, text.as_bytes(), StatusRule::Needed),
+            Ok(want),
+            "{what}"
+        );
     }
     Ok(())
 }
@@ -75,7 +79,11 @@ fn the_fault_of_the_least_faulty_line_is_named(rt: HostRuntime) -> Result<(), Fa
         ("Package: a\nStatus: a b unpacked\n\nx", 2, What::NoVersion),
     ] {
         let bad = Err(ReadBad::Bad(FileBad { line, what }));
-        assert_eq!(rt; read_status(alloc, text.as_bytes(), StatusRule::Needed), bad, "{text}");
+        assert_eq!(rt;
+            read_status(alloc, text.as_bytes(), StatusRule::Needed),
+            bad,
+            "{text}"
+        );
     }
     Ok(())
 }

@@ -3,7 +3,7 @@
 use Rattle.std.specs.Prelude.{ℕ, Bool, true, false, ◌&&◌, ◌||◌, List, [], ◌∷◌, ◌++◌}
 use Rattle.std.specs.List.{list_any}
 use Rattle.cv_base.specs.Path.{is_slash}
-use Rattle.cv_base.specs.PathText.{goes_on}
+use Rattle.cv_base.specs.code.PathText.{goes_on}
 use Rattle.cv_base.specs.Texts.{is_cons}
 use Rattle.cv_overlay.specs.code.Text.{is_within}
 

@@ -2,9 +2,9 @@
 -- fault of `Fault.antt`, which looks at all entries before.
 use Rattle.std.specs.Prelude.{ℕ, ◌+◌, Bool, true, ◌&&◌, ◌||◌, not, if◌then◌else◌, List, [], ◌∷◌, Option, Some, None}
 use Rattle.std.specs.Option.{option_or}
-use Rattle.cv_base.specs.Path.{is_above, same_path}
+use Rattle.cv_base.specs.Path.{is_above, same_path, parent_of}
 use Rattle.cv_overlay.specs.Fault.{comes_before, needs_parent}
-use Rattle.cv_overlay.specs.Mark.{Outline, parent_of, is_bad}
+use Rattle.cv_overlay.specs.Mark.{Outline, is_bad}
 use Rattle.cv_overlay.specs.declared.fault.TreeFault.{TreeFault}
 use Rattle.cv_overlay.specs.declared.fault.TreeFault.TheVariants.{Unsorted, NoParent, BadMark}
 

@@ -1,6 +1,6 @@
 -- How a file of blocks is read in one pass over its lines. It is shown in `proofs/` that this reads what `Blocks.antt` says.
 use Rattle.std.specs.Prelude.{◌≡◌, ℕ, ◌+◌, Bool, true, false, if◌then◌else◌, List, [], ◌∷◌, ◌++◌, map, Option, None, Some, Result, Ok, Err}
-use Rattle.cv_base.specs.Cuts.{split_left}
+use Rattle.cv_base.specs.code.Cuts.{remaining_lines}
 use Rattle.cv_base.specs.Results.{◌>>=◌}
 use Rattle.cv_base.specs.Texts.{is_nil}
 use Rattle.cv_base.specs.declared.fault.FileBad.{FileBad}
@@ -55,5 +55,5 @@ read_on steps n begun s found (t ∷ ts) =
     else (at_line (n + 1) (steps.step s t) >>= λ k. read_on steps (n + 1) true k found ts)
 
 -- the lines of the remaining bytes, as they count
-abbrev pub remaining_lines : (List ℕ → List ℕ) → Option (List ℕ) → List (List ℕ)
-remaining_lines trimmed remaining = map trimmed (split_left remaining)
+abbrev pub trimmed_lines : (List ℕ → List ℕ) → Option (List ℕ) → List (List ℕ)
+trimmed_lines trimmed remaining = map trimmed (remaining_lines remaining)

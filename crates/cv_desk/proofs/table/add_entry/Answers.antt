@@ -2,7 +2,7 @@ use Rattle.std.proofs.Common.{◌≡◌, [], ◌∷◌, ◌++◌, map, ap, ◌�
 use Rattle.std.proofs.lemmas.List.{map-append}
 use Rattle.cv_desk.specs.Stored.{Stored}
 use Rattle.cv_desk.specs.Table.{item_of}
-use Rattle.cv_desk.specs.TableRow.{stored_of}
+use Rattle.cv_desk.specs.code.TableRow.{stored_of}
 use Rattle.cv_desk.proofs.PathSets.{HasOneMore, paths_more}
 use Rattle.cv_desk.proofs.table.add_entry.Goals as goal
 

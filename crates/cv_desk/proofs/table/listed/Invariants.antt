@@ -1,6 +1,6 @@
 use Rattle.std.proofs.Common.{◌≡◌, map}
 use Rattle.cv_desk.specs.Stored.{listed}
-use Rattle.cv_desk.specs.TableRow.{stored_of}
+use Rattle.cv_desk.specs.code.TableRow.{stored_of}
 use Rattle.cv_desk.proofs.table.listed.Given as goal
 
 abbrev pub invariant-loop-entry : goal.invariant-loop-entry

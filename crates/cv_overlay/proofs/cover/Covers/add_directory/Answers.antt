@@ -1,8 +1,7 @@
 use Rattle.std.proofs.Common.{◌≡◌, ℕ, List, [], ◌∷◌, ◌++◌, ◌||◌, Bor, Vec, Global, map, sym, ap, ◌∙◌}
 use Rattle.std.proofs.lemmas.List.{map-append}
-use Rattle.cv_base.specs.Path.{components, is_above}
+use Rattle.cv_base.specs.Path.{components, is_above, parent_of}
 use Rattle.cv_overlay.specs.code.Cover.{hides_text}
-use Rattle.cv_overlay.specs.Mark.{parent_of}
 use Rattle.cv_overlay.proofs.CoverLemmas.{directory_is, hides_all, hides_below, top_is}
 use Rattle.cv_overlay.proofs.cover.Covers.add_directory.Goals as goal
 

@@ -1,0 +1,5 @@
+pub mod Listed
+pub mod TableLaws
+pub mod TableRow
+pub mod TableSteps
+pub mod Walked
