@@ -47,6 +47,7 @@ fn start(rt: &HostRuntime) -> io::Result<Status> {
     match status {
         Status::ReadFault => explain(rt, "standard input", input.last_error()),
         Status::WriteFault => explain(rt, "standard output", output.last_error()),
+        Status::DeskFault => explain_desk(rt, &desks),
         _ => {}
     }
     Ok(status)
@@ -56,6 +57,13 @@ fn start(rt: &HostRuntime) -> io::Result<Status> {
 fn explain(rt: &HostRuntime, name: &str, error: Option<io::Error>) {
     if let Some(error) = error {
         let _ = eprintln!(rt; "cvwatch: {name}: {error}");
+    }
+}
+
+/// Says on standard error why the first desk failed.
+fn explain_desk(rt: &HostRuntime, desks: &[FolderDesk<HostRuntime>]) {
+    if let Some(failure) = desks.first().and_then(FolderDesk::last_failure) {
+        let _ = eprintln!(rt; "cvwatch: {failure}");
     }
 }
 
