@@ -87,7 +87,7 @@ bounds : (within Deb (range Ecosystem (Introduced (codes "0") ∷ Limit (codes "
 unfolding within
 bounds = (refl, refl, refl)
 
--- nothing is within a range of another type, of a type that does not belong to the kind, or with a text that is no version
+-- nothing is within a range of another type, of a type that does not belong to the kind, or with a text that is not a version
 excluded : (within Deb (range Other (Introduced (codes "0") ∷ [])) (codes "1") ≡ false)
     × (within Deb (range Semver (Introduced (codes "0") ∷ [])) (codes "1") ≡ false)
     × (within Apk (range Semver (Introduced (codes "0") ∷ [])) (codes "1") ≡ false)

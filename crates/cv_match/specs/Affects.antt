@@ -21,7 +21,7 @@ use Rattle.cv_match.specs.Within.{lt, placed, within}
 abbrev pub is_colon : ℕ → Bool
 is_colon byte = byte == 58
 
--- what stands before the first colon of an ecosystem, as `Debian` of `Debian:12`; all of it, where there is none
+-- what comes before the first colon of an ecosystem, as `Debian` of `Debian:12`; all of it, if there is none
 abbrev pub cut_at : List ℕ → Option ℕ → List ℕ
 cut_at ecosystem None = ecosystem
 cut_at ecosystem (Some place) = take place ecosystem
