@@ -3,7 +3,7 @@ use cv_seq::{Seq, Text};
 use std::alloc::AllocError;
 
 /// An event of a range, after the OSV schema: at this version the flaw comes in or is gone.
-#[derive(Clone, Debug, PartialEq, Eq, PartialOrd, Ord, Drop)]
+#[derive(Clone, Debug, PartialEq, Eq, Drop)]
 pub enum Turn {
     Introduced(Text),
     Fixed(Text),
@@ -21,14 +21,14 @@ pub enum RangeKind {
 }
 
 /// A range of versions, given by its events.
-#[derive(Debug, PartialEq, Eq, PartialOrd, Ord, Drop)]
+#[derive(Debug, PartialEq, Eq, Drop)]
 pub struct Range {
     pub kind: RangeKind,
     pub turns: Seq<Turn>,
 }
 
 /// One affected entry of an advisory: a package, with the versions that have the flaw.
-#[derive(Debug, PartialEq, Eq, PartialOrd, Ord, Drop)]
+#[derive(Debug, PartialEq, Eq, Drop)]
 pub struct Affected {
     pub package: Option<PackageName>,
     pub ranges: Seq<Range>,
@@ -36,7 +36,7 @@ pub struct Affected {
 }
 
 /// A record of the OSV schema, with the fields that matching needs.
-#[derive(Clone, Debug, PartialEq, Eq, PartialOrd, Ord, Drop)]
+#[derive(Clone, Debug, PartialEq, Eq, Drop)]
 pub struct Advisory {
     pub id: Text,
     pub modified: Text,

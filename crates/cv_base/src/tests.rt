@@ -1,4 +1,5 @@
 use super::*;
+use std::test::Fail;
 
 fn is_shared<T: Send + Sync>() {}
 
@@ -31,4 +32,16 @@ fn plain_data_is_shared_by_threads() {
     is_shared::<TreeEntry>();
     is_shared::<Turn>();
     is_shared::<What>();
+}
+
+#[test]
+fn a_path_has_a_directory_and_a_name(rt: HostRuntime) -> Result<(), Fail> {
+    let alloc = rt.alloc();
+    let path = RelPath::read(alloc, "etc/.wh.passwd")?;
+    assert_eq!(rt; path.parent(alloc)?.text(), "etc");
+    assert_eq!(rt; path.file_name(), Some(".wh.passwd"));
+    assert_eq!(rt; path.with_file_name(alloc, "passwd")?.text(), "etc/passwd");
+    assert_eq!(rt; path.depth(), 2);
+    assert!(rt; path.compare_front(&path, 1).is_gt());
+    Ok(())
 }

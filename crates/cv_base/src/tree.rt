@@ -19,7 +19,7 @@ pub struct ListEntry {
 
 /// What is known of a file: its bytes, that it is above the limit for package files, or nothing, since it is at no
 /// place of package files.
-#[derive(Clone, Debug, PartialEq, Eq, PartialOrd, Ord, Drop)]
+#[derive(Clone, Debug, PartialEq, Eq, Drop)]
 pub enum Content {
     Bytes(Seq<u8>),
     TooLarge,
@@ -27,7 +27,7 @@ pub enum Content {
 }
 
 /// What stands at a path, with what is known of a file.
-#[derive(Clone, Debug, PartialEq, Eq, PartialOrd, Ord, Drop)]
+#[derive(Clone, Debug, PartialEq, Eq, Drop)]
 pub enum Node {
     Dir,
     File(Content),
@@ -35,14 +35,14 @@ pub enum Node {
 }
 
 /// A path of a layer, and what stands there.
-#[derive(Clone, Debug, PartialEq, Eq, PartialOrd, Ord, Drop)]
+#[derive(Clone, Debug, PartialEq, Eq, Drop)]
 pub struct TreeEntry {
     pub path: RelPath,
     pub node: Node,
 }
 
 /// A layer, as the list of its entries.
-#[derive(Clone, Debug, PartialEq, Eq, PartialOrd, Ord, Drop)]
+#[derive(Clone, Debug, PartialEq, Eq, Drop)]
 pub struct Tree {
     pub entries: Seq<TreeEntry>,
 }

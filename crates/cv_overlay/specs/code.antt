@@ -1,4 +1,4 @@
--- Words of private functions.
+-- Definitions for the clauses of private functions.
 pub mod Cover
 pub mod Merge
 pub mod Step

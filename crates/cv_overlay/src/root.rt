@@ -6,7 +6,7 @@ ghost use Rattle.std.specs.Ordering.{is_lt, nat_cmp};
 ghost use Rattle.cv_base.specs.Path.{Path, components};
 ghost use Rattle.cv_overlay.specs.code.Cover.{hides_text};
 ghost use Rattle.cv_overlay.specs.Fault.{tree_fault};
-ghost use Rattle.cv_overlay.specs.Lay.{hides, is_plain, lay, node_at};
+ghost use Rattle.cv_overlay.specs.Lay.{is_plain, lay, node_at};
 ghost use Rattle.cv_overlay.specs.Mark.{mark};
 ghost use Rattle.cv_overlay.specs.Ascending.{AreAscending};
 ghost use Rattle.cv_overlay.specs.Refusal.{IsRefusal};

@@ -1,5 +1,5 @@
 -- Going over the package files of a root.
-use Rattle.std.proofs.Common.{◌≡◌, List, [], ◌∷◌, ◌++◌, refl, sym, ◌∙◌, ap}
+use Rattle.std.proofs.Common.{◌≡◌, List, ◌∷◌, ◌++◌, sym, ◌∙◌, ap}
 use Rattle.std.specs.Prelude.{IfSome, Option, Some, None, Result, Ok, Err}
 use Rattle.cv_base.specs.Results.{◌>>=◌, onto}
 use Rattle.cv_base.specs.declared.package.Package.{Package}

@@ -1,7 +1,5 @@
 ghost use Rattle.std.specs.Prelude.{◌≡◌, map, IfOk, Option};
 ghost use Rattle.std.specs.Option.{option_map, option_to_list};
-ghost use Rattle.cv_osrel.specs.Ecosystem.{eco};
-ghost use Rattle.cv_base.specs.declared.package.PackageKind.TheVariants as kind;
 ghost use Rattle.cv_packages.specs.Packages.{apk_package, deb_package, npm_package};
 
 use cv_apkdb::ApkPackage;

@@ -1,5 +1,5 @@
 ghost use Rattle.std.specs.Prelude.{◌≡◌, map, IfOk, OnOk, ◌++◌};
-ghost use Rattle.std.specs.Option.{option_map, option_to_list};
+ghost use Rattle.std.specs.Option.{option_to_list};
 ghost use Rattle.cv_base.specs.Answer.{Yields};
 ghost use Rattle.cv_packages.specs.Faults.{refused_file};
 ghost use Rattle.cv_packages.specs.Files.{file_found, files_found};
@@ -101,7 +101,7 @@ mod tests {
         let root = vec![in alloc;
             file(alloc, "etc/os-release", "ID=debian\nVERSION_ID=12\n")?,
             file(alloc, "usr/lib/os-release", "ID=alpine\n")?,
-            file(alloc, "var/lib/dpkg/status", status)?
+            file(alloc, "var/lib/dpkg/status", status)?,
         ]?;
         let packages = shared(read_packages(alloc, &root)?);
         assert_eq!(rt; packages.as_slice().len(), 1);
@@ -124,7 +124,10 @@ mod tests {
             line: 3,
             what: What::NoColon,
         };
-        assert_eq!(rt; shared(assemble(alloc, &[&copy])), Err(PackagesError::Refused(bad)));
+        assert_eq!(rt;
+            shared(assemble(alloc, &[&copy])),
+            Err(PackagesError::Refused(bad))
+        );
         assert!(rt; matches!(copy.found, Found::Bad(_)));
         Ok(())
     }

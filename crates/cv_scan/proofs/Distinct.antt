@@ -74,7 +74,7 @@ followed_none layers = filter_all (distinct layers)
 pub followed_all : (seen : List (List ℕ)) → followed seen [] ≡ seen
 followed_all seen = append-nil seen
 
--- one more layer was looked at
+-- one more layer
 pub followed_next : (seen : List (List ℕ)) (x : List ℕ) (xs : List (List ℕ)) → followed (with_layer seen x) xs ≡ followed seen (x ∷ xs)
 followed_next seen x xs = by_test (has_text seen x) refl where
   by_test : (b : Bool) → has_text seen x ≡ b → followed (cond b seen (seen ++ x ∷ [])) xs ≡ followed seen (x ∷ xs)

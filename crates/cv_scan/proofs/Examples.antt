@@ -34,7 +34,7 @@ one : root_entries (base ∷ []) ≡ base
 unfolding root_entries
 one = refl
 
--- a whiteout is gone with what it hides, what is new stands at its place, and what is there twice is the upper one
+-- a whiteout is gone with what it hides, a new entry stands at its place, and of two at one path the upper one stays
 two : root_entries
     (base ∷ (dir (codes "app") ∷ file (codes "app/.wh.old") (Bytes []) ∷ file (codes "app/new") (Bytes []) ∷ file (codes "app/status") (Bytes (codes "3")) ∷ []) ∷ [])
     ≡ dir (codes "app") ∷ file (codes "app/new") (Bytes []) ∷ file (codes "app/status") (Bytes (codes "3")) ∷ dir (codes "etc") ∷ []

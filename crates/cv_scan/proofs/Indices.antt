@@ -47,11 +47,11 @@ last_below n (i ∷ j ∷ ns) all b =
     let place : suc (suc (length ns)) - 1 ≡ suc (suc (length ns) - 1) = omega arith in
     ap (λ k. once_by n all (slice_get (i ∷ j ∷ ns) k)) place ∙ last_below n (j ∷ ns) all b.1
 
--- a index above others is put behind them
+-- an index above others is appended
 once_more : (n : ℕ) (ns : List ℕ) → AreBelow n ns → once n ns ≡ ns ++ n ∷ []
 once_more n ns b = last_below n ns ns b
 
--- the entries that are left change nothing once one was about the package
+-- the remaining entries change nothing once one was about the package
 added_again : (key : PackageName) (n : ℕ) (entries : List Affected) (ns : List ℕ) → added key n entries (ns ++ n ∷ []) ≡ ns ++ n ∷ []
 added_again key n [] ns = refl
 added_again key n (entry ∷ entries) ns = by_key (is_key key entry.«package») (added_again key n entries ns) where
@@ -69,7 +69,7 @@ added_is key n (entry ∷ entries) ns b = by_key (is_key key entry.«package») 
   by_key true more = ap (added key n entries) (once_more n ns b) ∙ added_again key n entries ns
   by_key false more = more
 
--- the indices of the records that are left come behind those that were all_added
+-- the indices of the remaining records come after those that were added
 all_added_after : (key : PackageName) (n : ℕ) (records : List Advisory) (ns : List ℕ) → AreBelow n ns → all_added key n records ns ≡ ns ++ indices_from (is_named key) n records
 all_added_after key n [] ns b = search rules
 all_added_after key n (a ∷ rest) ns b =

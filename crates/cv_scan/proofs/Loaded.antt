@@ -16,7 +16,7 @@ use Rattle.cv_desk.specs.Loaded.{content_of, loaded, node_of, whole, whole_node}
 use Rattle.cv_desk.specs.Stored.{Dir, File, Item, Other, Stored}
 use Rattle.cv_overlay.specs.Fault.{fault, tree_fault}
 use Rattle.cv_overlay.specs.Mark.{is_dir_node, outline}
-use Rattle.cv_packages.specs.Files.{file_found, file_of, files_found}
+use Rattle.cv_packages.specs.Files.{file_of, files_found}
 use Rattle.cv_packages.specs.Found.{found_at}
 use Rattle.cv_packages.specs.Packages.{assembled, packages}
 use Rattle.cv_packages.specs.declared.found.Found.TheVariants as found

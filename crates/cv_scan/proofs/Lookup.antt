@@ -1,6 +1,6 @@
 -- The records that name a package by one of its keys give all its findings, so that only those are tried.
 use Rattle.std.specs.Prelude.{◌≡◌, ℕ, ◌+◌, Bool, true, false, cond, ◌||◌, List, [], ◌∷◌, ◌++◌, if◌then◌else◌, Result, Ok, Err, IfOk, suc, refl}
-use Rattle.std.specs.BTreeMap.{BTreeMap, get}
+use Rattle.std.specs.BTreeMap.{BTreeMap}
 use Rattle.std.specs.List.{flat_map, list_any, slice_get}
 use Rattle.std.specs.Option.{option_to_list}
 use Rattle.std.specs.declared.vec.Vec.{Vec}
@@ -13,10 +13,10 @@ use Rattle.cv_base.specs.declared.finding.Finding.{Finding}
 use Rattle.cv_base.specs.declared.«package».Package.{Package}
 use Rattle.cv_base.specs.declared.«package».PackageName.{PackageName}
 use Rattle.cv_match.specs.Findings.{found}
-use Rattle.cv_match.specs.Keys.{is_about, is_named, keys_of, name_cmp}
+use Rattle.cv_match.specs.Keys.{is_about, is_named, keys_of}
 use Rattle.cv_match.proofs.Keys.{says_nothing}
 use Rattle.cv_scan.specs.code.Found.{found_by}
-use Rattle.cv_scan.specs.code.Index.{Indexes, found_at, indices_from, indices_in, merged, merged_under}
+use Rattle.cv_scan.specs.code.Index.{Indexes, found_at, indices_from, merged, merged_under}
 use Rattle.cv_scan.proofs.Merged.{merged_indices}
 
 -- The indices under the keys.

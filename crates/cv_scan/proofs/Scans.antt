@@ -60,10 +60,10 @@ count_more tree (Ok ts) n h = ap suc h
 count_more tree (Err bad) n h = tt
 
 -- there are as many trees as layers
-count_from : (number : ℕ) (layers : List (Option (List TreeEntry))) → IfOk (trees_from number layers) (λ ts. length ts ≡ length layers)
-count_from number [] = refl
-count_from number (None ∷ layers) = tt
-count_from number (Some tree ∷ layers) = count_more tree (trees_from (number + 1) layers) (length layers) (count_from (number + 1) layers)
+count_from : (index : ℕ) (layers : List (Option (List TreeEntry))) → IfOk (trees_from index layers) (λ ts. length ts ≡ length layers)
+count_from index [] = refl
+count_from index (None ∷ layers) = tt
+count_from index (Some tree ∷ layers) = count_more tree (trees_from (index + 1) layers) (length layers) (count_from (index + 1) layers)
 
 count_map : {A B : Type 0} (f : A → B) (xs : List A) → length (map f xs) ≡ length xs
 count_map f [] = refl
@@ -82,6 +82,6 @@ trees_within f g layers trees h within =
 pub trees_good : (trees : List (List TreeEntry)) (root entries : List TreeEntry) (feeds : Feeds) (answer : Result (List Finding) ImageError)
     → bad_tree_from 0 trees ≡ None → entries ≡ root → AreAscending root → ((p : Path) → node_at root p ≡ root_of trees p)
     → Answers answer (as_scanned (root_findings entries feeds)) → Answers answer (scan_of trees feeds)
-trees_good trees root entries feeds answer good same rises laid h =
+trees_good trees root entries feeds answer good same ascending laid h =
     subst (λ bad. Answers answer (scan_good bad trees feeds)) (sym good)
-    (subst (λ es. Answers answer (as_scanned (root_findings es feeds))) (same ∙ laid_entries trees root rises laid) h)
+    (subst (λ es. Answers answer (as_scanned (root_findings es feeds))) (same ∙ laid_entries trees root ascending laid) h)

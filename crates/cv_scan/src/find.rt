@@ -51,7 +51,9 @@ fn find_counted<L: Ledger>(
     let mut slots = empty_slots(alloc, advisories)?;
     let mut out = Vec::new(alloc);
     for package in packages {
-        let found = find_in(alloc, package, feed, advisories, &names, &mut slots, &mut steps)?;
+        let found = find_in(
+            alloc, package, feed, advisories, &names, &mut slots, &mut steps,
+        )?;
         add_all(&mut out, found)?;
     }
     Ok(out)
@@ -92,13 +94,37 @@ fn find_by_kind<L: Ledger>(
 {
     match package.kind {
         PackageKind::Deb => {
-            find_indexed(alloc, package, feed, advisories, indices, &mut slots.deb, steps)
+            find_indexed(
+                alloc,
+                package,
+                feed,
+                advisories,
+                indices,
+                &mut slots.deb,
+                steps,
+            )
         }
         PackageKind::Apk => {
-            find_indexed(alloc, package, feed, advisories, indices, &mut slots.apk, steps)
+            find_indexed(
+                alloc,
+                package,
+                feed,
+                advisories,
+                indices,
+                &mut slots.apk,
+                steps,
+            )
         }
         PackageKind::Npm => {
-            find_indexed(alloc, package, feed, advisories, indices, &mut slots.npm, steps)
+            find_indexed(
+                alloc,
+                package,
+                feed,
+                advisories,
+                indices,
+                &mut slots.npm,
+                steps,
+            )
         }
     }
 }
@@ -121,7 +147,9 @@ fn find_indexed<L: Ledger>(
     let mut out = Vec::new(alloc);
     for index in indices {
         let ready = prepared_at(alloc, package.kind, advisories, *index, slots)?;
-        let found = find_at(alloc, package, &prepared, feed, advisories, *index, ready, steps)?;
+        let found = find_at(
+            alloc, package, &prepared, feed, advisories, *index, ready, steps,
+        )?;
         add(&mut out, found)?;
     }
     Ok(out)

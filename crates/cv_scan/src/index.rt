@@ -68,11 +68,7 @@ pub(crate) fn indices_for(
 }
 
 /// The indices of the records that name one of these packages, in ascending order.
-fn indices_under(
-    alloc: Global,
-    names: &Names,
-    keys: &[PackageName],
-) -> Result<Vec<usize>, NoMemory>
+fn indices_under(alloc: Global, names: &Names, keys: &[PackageName]) -> Result<Vec<usize>, NoMemory>
     ensures { IfOk result (λ indices. indices.items ≡ merged_under names.now [] keys.now) }
 {
     let mut indices = Vec::new(alloc);

@@ -1,4 +1,4 @@
-ghost use Rattle.std.specs.Prelude.{◌≡◌, ◌+◌, ◌^◌, ◌<◌, ◌≤◌, ◌∷◌, [], length, map, IfOk, IfErr, IfSome, None};
+ghost use Rattle.std.specs.Prelude.{◌≡◌, ◌^◌, ◌<◌, ◌≤◌, ◌∷◌, [], length, map, IfOk, IfErr, IfSome, None};
 ghost use Rattle.cv_base.specs.Answer.{Gives, Yields};
 ghost use Rattle.cv_base.specs.Path.{Path};
 ghost use Rattle.cv_overlay.specs.Lay.{node_at, root_of};

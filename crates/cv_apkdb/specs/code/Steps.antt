@@ -1,5 +1,5 @@
 -- How the lines of a package are read one after the other, and what the code holds meanwhile.
-use Rattle.std.specs.Prelude.{ℕ, if◌then◌else◌, List, Option, None, Some, Result, Ok, Err}
+use Rattle.std.specs.Prelude.{ℕ, if◌then◌else◌, List, Option, None, Some, Result, Err}
 use Rattle.std.specs.Option.{is_some, option_map}
 use Rattle.cv_base.specs.declared.fault.What.{What}
 use Rattle.cv_base.specs.declared.fault.What.TheVariants.{NoColon, Repeated}

@@ -1,9 +1,8 @@
 -- Reading the lines of a paragraph one after the other follows the rules.
-use Rattle.std.proofs.Common.{◌≡◌, ℕ, Bool, true, false, ◌||◌, if◌then◌else◌, not, List, [], ◌∷◌, ◌++◌, Option, None, Some, Result, Ok, Err, refl, sym, ap, ◌∙◌}
+use Rattle.std.proofs.Common.{◌≡◌, ℕ, Bool, true, false, ◌||◌, if◌then◌else◌, not, List, [], ◌∷◌, ◌++◌, Option, None, Some, Ok, Err, refl, sym, ap, ◌∙◌}
 use Rattle.std.specs.Prelude.{option_and_then}
 use Rattle.std.specs.Option.{option_map_or, option_or}
 use Rattle.cv_base.specs.Texts.{is_cons, is_nil}
-use Rattle.cv_base.specs.declared.fault.What.{What}
 use Rattle.cv_base.specs.declared.fault.What.TheVariants.{BadField, LooseContinuation, RepeatedField}
 use Rattle.cv_stanza.specs.code.Steps.{Agrees, or_fault}
 use Rattle.cv_stanza.proofs.Values.{last_value_snoc}

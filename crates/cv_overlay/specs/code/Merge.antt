@@ -1,15 +1,9 @@
 -- Two lists of entries in path order laid on one another, as lists.
-use Rattle.std.specs.Prelude.{◌≡◌, List, [], ◌∷◌, Option, Some, None}
+use Rattle.std.specs.Prelude.{List, [], ◌∷◌, Option, Some, None}
 use Rattle.std.specs.declared.cmp.Ordering.{Ordering}
 use Rattle.std.specs.declared.cmp.Ordering.TheVariants.{Less, Equal, Greater}
-use Rattle.std.specs.List.{AllByRecursion}
 use Rattle.cv_base.specs.Path.{path_cmp}
 use Rattle.cv_base.specs.declared.tree.TreeEntry.{TreeEntry}
-
--- entries that rise strictly by their paths
-abbrev pub AreAscending : List TreeEntry → Type 0
-AreAscending [] = Unit {0}
-AreAscending (e ∷ es) = AllByRecursion (λ later. path_cmp e.path later.path ≡ Less) es × AreAscending es
 
 -- what comes first of two, by the order of their paths: the lower one, or the upper one, which takes the place of a
 -- lower one at its path

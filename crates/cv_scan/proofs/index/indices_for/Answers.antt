@@ -1,4 +1,4 @@
-use Rattle.std.proofs.Common.{ap, rules}
+use Rattle.std.proofs.Common.{rules}
 use Rattle.cv_scan.proofs.Lookup.{merged_about}
 use Rattle.cv_scan.proofs.index.indices_for.Goals as goal
 
