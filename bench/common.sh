@@ -53,6 +53,7 @@ progress() {
     local line done=0 begun=$SECONDS
     while IFS= read -r line; do
         case $line in
+            '== summary') ;;
             '== '*)
                 done=$((done + 1))
                 printf '%3d of %d after %d:%02d: %s\n' "$done" "$1" $(((SECONDS - begun) / 60)) $(((SECONDS - begun) % 60)) "${line#== }"
