@@ -1,8 +1,8 @@
 #!/usr/bin/env bash
 # Times scans of a real root with many advisories: the package files of this Debian machine, and 1,000, 10,000, 100,000 and 200,000
 # generated records. One in ten names a source package that is installed here, and of these every second one affects it. Of each
-# it prints the MB of the input, the seconds, the peak of memory and the count of findings. The time for a record is to grow no
-# faster than the logarithm of the records.
+# it prints the MB of the input, the seconds, the peak of memory and the count of findings. The time for a record should grow
+# no faster than the logarithm of the records.
 set -euo pipefail
 # shellcheck source=bench/common.sh
 . "$(dirname "$0")/common.sh"

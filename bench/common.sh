@@ -2,20 +2,68 @@
 # What the scripts of bench/, examples/ and tools/ share. A script sources this file first; $top is the repository.
 top=$(cd "$(dirname "${BASH_SOURCE[0]}")/.." && pwd)
 
-# builds the program of crates/NAME with the kit's `rt`, and says where it is. The first build proves what it builds, which takes
-# some minutes
+# builds the program of crates/NAME with the kit's `rt`, and prints where it is. A build proves what it builds
 build() {
-    local log
+    local program=$top/crates/$1/out/$1 log
+    [ -e "$program" ] || prove "$1" || return
     log=$(cd "$top/crates/$1" && rt run </dev/null 2>&1) || true
     if ! grep -q "running out/$1" <<<"$log"; then
         echo "$log" >&2
         return 1
     fi
-    echo "$top/crates/$1/out/$1"
+    echo "$program"
 }
 
-# scans the image of the folder of examples/ that $1 stands in: its layers lie under layers/sha256, and input.jsonl has its manifest
-# and the OSV records. The answer is to be expected.jsonl, which is then printed
+# proves crates/NAME and the crates that it stands on for the first time, side by side as far as they do not stand on each other,
+# and says on standard error which are done
+prove() {
+    local count lanes log
+    count=$(crates_below "$1" | wc -l)
+    lanes=$(lanes)
+    log=$(mktemp)
+    echo "proving $1 and the crates below it, $count in all, $lanes side by side; the first time this takes some minutes" >&2
+    (cd "$top/crates/$1" && rt all check --jobs "$lanes" 2>&1) | tee "$log" | progress "$count" >&2 || {
+        cat "$log" >&2
+        rm "$log"
+        return 1
+    }
+    rm "$log"
+}
+
+# how many checks fit side by side: one a processor, with 2 GB of memory each
+lanes() {
+    awk -v most="$(nproc)" '/^MemAvailable:/ { lanes = int($2 / 2e6); print lanes < 1 ? 1 : lanes < most ? lanes : most }' /proc/meminfo
+}
+
+# crates/NAME and the crates of this repository that it stands on, as crates.txt has them
+crates_below() {
+    awk -v name="$1" -F'[: ]+' '
+        function walk(crate, i, words, count) {
+            if (!(crate in below) || seen[crate]++) return
+            count = split(below[crate], words, " ")
+            for (i = 1; i <= count; i++) walk(words[i])
+            print crate
+        }
+        /^[a-z]/ { crate = $1; sub(/^[^:]*:/, ""); below[crate] = $0 }
+        END { walk(name) }' "$top/crates.txt"
+}
+
+# prints a line for each of $1 crates when `rt all check`, whose output is read, is done with it
+progress() {
+    local line done=0 begun=$SECONDS
+    while IFS= read -r line; do
+        case $line in
+            '== summary') ;;
+            '== '*)
+                done=$((done + 1))
+                printf '%3d of %d after %d:%02d: %s\n' "$done" "$1" $(((SECONDS - begun) / 60)) $(((SECONDS - begun) % 60)) "${line#== }"
+                ;;
+        esac
+    done
+}
+
+# scans the image of the folder of examples/ that the script $1 stands in: its layers lie under layers/sha256, and input.jsonl has
+# its manifest and the OSV records. The answer has to be expected.jsonl, which is then printed
 example() {
     local program
     program=$(build cvwatch)
@@ -25,7 +73,7 @@ example() {
     cat expected.jsonl
 }
 
-# makes the folder of bench/data/ for what the script NAME generates, and says where it is
+# makes the folder of bench/data/ for what the script NAME generates, and prints where it is
 data_folder() { mkdir -p "$top/bench/data/$1" && echo "$top/bench/data/$1"; }
 
 # the 64 digits that stand for a word, as the name of a layer or an image
@@ -41,16 +89,28 @@ manifest() {
     printf '{"hash":"sha256:%s","layers":[%s]}\n' "$(digest "$image")" "${layers#,}"
 }
 
+# the line of a record with these entries, which the functions below write
+record() {
+    local IFS=,
+    printf '{"id":"X-1","modified":"2024-01-01T00:00:00Z","affected":[%s]}\n' "$*"
+}
+
+# an entry for the package NAME of an ecosystem, whose versions below a fix are affected, or all where no fix is given
+entry() {
+    printf '{"package":{"ecosystem":"%s","name":"%s"},"ranges":[{"type":"%s","events":[{"introduced":"0"}%s]}]}' \
+        "$1" "$2" "$([ "$1" = npm ] && echo SEMVER || echo ECOSYSTEM)" "${3:+,{\"fixed\":\"$3\"\}}"
+}
+
 # runs a command from the file $1 into the file $2, and leaves in $seconds the processor time that it took, which other work on the
 # machine does not change much, and in $peak the MB of memory that it had at most
 # shellcheck disable=SC2034
 measure() {
-    local input=$1 answer=$2 told
+    local input=$1 answer=$2 used
     shift 2
-    told=$(mktemp)
-    /usr/bin/time -q -f '%U %S %M' -o "$told" "$@" <"$input" >"$answer" || { rm "$told"; return 1; }
-    read -r seconds peak < <(awk '{ printf "%.2f %d\n", $1 + $2, $3 / 1024 }' "$told")
-    rm "$told"
+    used=$(mktemp)
+    /usr/bin/time -q -f '%U %S %M' -o "$used" "$@" <"$input" >"$answer" || { rm "$used"; return 1; }
+    read -r seconds peak < <(awk '{ printf "%.2f %d\n", $1 + $2, $3 / 1024 }' "$used")
+    rm "$used"
 }
 
 # the seconds of processor time of a command, to the millisecond
@@ -59,7 +119,7 @@ processor_seconds() {
     { time "$@" >/dev/null; } 2>&1 | awk '{ print $1 + $2 }'
 }
 
-# makes the layer own-root below the folder $1, of this Debian machine's own package files, and says its ecosystem
+# makes the layer own-root below the folder $1, of this Debian machine's own package files, and prints its ecosystem
 own_root() {
     local layer
     layer=$1/layers/sha256/$(digest own-root)

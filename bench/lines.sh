@@ -1,11 +1,11 @@
 #!/usr/bin/env bash
 # Prints the time that reading lines takes for each MB (2^20 bytes): of inputs of 1, 16 and 64 MB, as one line and as
-# many short ones, from a file and from a pipe of small pieces. The program is crates/bench_lines.
+# many short ones, from a file and from a pipe of small pieces.
 set -euo pipefail
 # shellcheck source=bench/common.sh
 . "$(dirname "$0")/common.sh"
 data=$(data_folder lines)
-program=$(build bench_lines)
+program=$(build bench)
 
 # one line of so many MB, its LF among them, so that 64 MB keep within the limit of a line
 one_line() { head -c "$(($1 * 1048576 - 1))" /dev/zero | tr '\0' 'a'; echo; }
@@ -27,8 +27,8 @@ microseconds() {
     echo "$best"
 }
 
-from_file() { "$program" <"$1"; }
-from_pipe() { dd if="$1" bs=512 status=none | "$program"; }
+from_file() { "$program" lines <"$1"; }
+from_pipe() { dd if="$1" bs=512 status=none | "$program" lines; }
 
 printf '%-12s %4s %14s %14s\n' input MB 'file, ms/MB' 'pipe, ms/MB'
 for size in 1 16 64; do

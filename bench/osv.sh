@@ -1,12 +1,11 @@
 #!/usr/bin/env bash
-# Times the reading of lists of OSV records: builds bench_osv, makes lists of 10,000 and of 200,000 records, and prints
-# how long each is parsed as JSON and read as records, and how long it is only parsed (a list within an object is no
-# list of records, and is refused at once).
+# Times the reading of lists of OSV records: makes lists of 10,000 and of 200,000 records, and prints how long each is parsed as
+# JSON and read as records, and how long it is only parsed (a list within an object is no list of records, and counts as none).
 set -euo pipefail
 # shellcheck source=bench/common.sh
 . "$(dirname "$0")/common.sh"
 data=$(data_folder osv)
-program=$(build bench_osv)
+program=$(build bench)
 
 # records N: a JSON list of N records, whose ids are in no order
 records() {
@@ -20,7 +19,7 @@ records() {
 
 # timed LABEL FILE
 timed() {
-    measure "$2" "$data/answer" "$program"
+    measure "$2" "$data/answer" "$program" osv
     echo "$1: $seconds s, $peak MB: $(cat "$data/answer")"
 }
 

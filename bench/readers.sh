@@ -1,7 +1,7 @@
 #!/usr/bin/env bash
 # Times the three readers of package files: whole scans of an image whose one layer has one generated file of 1, 10 and 32 MB (2^20
 # bytes): a dpkg status file, apk's database of installed packages, or an os-release. Of each it prints the seconds, the
-# milliseconds for each MB, the peak of memory and the count of findings; the time for each MB is to stay. One record affects one
+# milliseconds for each MB, the peak of memory and the count of findings; the time for each MB should stay. One record affects one
 # package in a thousand. The last line is the scan of a real root: the package files of this Debian machine.
 set -euo pipefail
 # shellcheck source=bench/common.sh
@@ -23,7 +23,7 @@ filled() {
     }'
 }
 
-status='Package: lib%d\nStatus: install ok installed\nVersion: 3.0.%d-1\nPriority: optional\nSection: libs\nInstalled-Size: %d\nSource: %s\nArchitecture: amd64\nMulti-Arch: same\nDepends: libc6 (>= 2.34)\nDescription: a library\n Text that goes on for a while, and tells what is in it.\n .\n More of it.\n\n'
+status='Package: lib%d\nStatus: install ok installed\nVersion: 3.0.%d-1\nPriority: optional\nSection: libs\nInstalled-Size: %d\nSource: %s\nArchitecture: amd64\nMulti-Arch: same\nDepends: libc6 (>= 2.34)\nDescription: a library\n Text that goes on for a while, and says what is in it.\n .\n More of it.\n\n'
 installed='C:Q1p78yvTLG094tHE1+dToJGbmYzQE=\nP:lib%d\nV:3.0.%d-r1\nA:x86_64\nS:306993\nI:%d\nT:a library\nU:https://example.org/\nL:MIT\no:%s\nt:1689267421\nF:usr/lib\nR:lib.so\na:0:0:755\nZ:Q1Aj3uK0N5eXOx4wTFUxKUgEyzqwI=\n\n'
 os='# line %d\nVARIANT_%d="variant \\"%d\\" of it"\nHOME_URL=https://example.org/%s\n\n'
 
@@ -56,13 +56,11 @@ layer() {
     esac
 }
 
-range() { printf '{"package":{"ecosystem":"%s","name":"openssl"},"ranges":[{"type":"ECOSYSTEM","events":[{"introduced":"0"},{"fixed":"%s"}]}]}' "$1" "$2"; }
-
 # the scan of a layer: its word, and its MB where they count
 scan() {
     {
         manifest image "$1"
-        printf '{"id":"X-1","modified":"2024-01-01T00:00:00Z","affected":[%s,%s]}\n' "$(range Debian 3.0.10-1)" "$(range Alpine:v3.18 3.0.10-r0)"
+        record "$(entry Debian openssl 3.0.10-1)" "$(entry Alpine:v3.18 openssl 3.0.10-r0)"
     } >input
     measure input answer "$program" scan
     awk -v layer="$1" -v megabytes="$2" -v seconds="$seconds" -v peak="$peak" -v findings="$(findings answer)" 'BEGIN {

@@ -1,7 +1,7 @@
 #!/usr/bin/env bash
 # Times whole scans by the built program: layers of 1,000, 10,000 and 100,000 entries with one small dpkg status file, and layers
 # with a status file of 1, 10 and 30 MB. Of each it prints the seconds, the peak of memory and the count of findings. The time
-# for an entry, and that for a megabyte, is to grow no faster than the logarithm.
+# for an entry, and that for a megabyte, should grow no faster than the logarithm.
 set -euo pipefail
 # shellcheck source=bench/common.sh
 . "$(dirname "$0")/common.sh"
@@ -44,7 +44,7 @@ scan() {
     local name=$1
     {
         manifest image "$name"
-        printf '{"id":"X-1","modified":"2024-01-01T00:00:00Z","affected":[{"package":{"ecosystem":"Debian:12","name":"openssl"},"ranges":[{"type":"ECOSYSTEM","events":[{"introduced":"0"},{"fixed":"3.0.11-1"}]}]}]}\n'
+        record "$(entry Debian:12 openssl 3.0.11-1)"
     } >"$data/input"
     cd "$data"
     measure input answer "$program" scan

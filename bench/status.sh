@@ -1,12 +1,12 @@
 #!/usr/bin/env bash
 # Times the reading of dpkg status files of 32 MB, the most that a package file may have: usual paragraphs, nothing but LFs, one
-# field over and over, one paragraph of two million fields, one line of a long value, one line of blanks. The program is
-# crates/bench_status. Of each it prints the seconds, the peak of memory, and what was read.
+# field over and over, one paragraph of two million fields, one line of a long value, one line of blanks. Of each it prints the
+# seconds, the peak of memory, and how many packages were read: none where the file is refused.
 set -euo pipefail
 # shellcheck source=bench/common.sh
 . "$(dirname "$0")/common.sh"
 data=$(data_folder status)
-program=$(build bench_status)
+program=$(build bench)
 bytes=33554432
 
 paragraph='Package: libc6
@@ -21,7 +21,7 @@ Source: glibc
 Version: 2.36-9+deb12u4
 Depends: libgcc-s1, libcrypt1
 Description: C library
- Text that goes on for a while and tells what is in it.
+ Text that goes on for a while and says what is in it.
  .
  More of it.
 '
@@ -38,6 +38,6 @@ printf '%-12s %8s %8s  %s\n' input seconds MB answer
 for shape in usual empty_lines one_field many_fields long_value blanks; do
     file=$data/$shape
     [ -f "$file" ] || "$shape" >"$file"
-    measure "$file" "$data/answer" "$program"
+    measure "$file" "$data/answer" "$program" status
     printf '%-12s %8s %8s  %s\n' "$shape" "$seconds" "$peak" "$(cat "$data/answer")"
 done

@@ -1,9 +1,9 @@
 #!/usr/bin/env bash
 # Shows that cvwatch reads this machine's own Debian root as dpkg does. It makes a layer of the root's package files and scans it
-# three times. First with one record that has an entry for each source package and affects every version: what is found is to be
+# three times. First with one record that has an entry for each source package and affects every version: what is found has to be
 # what `dpkg-query -W` lists. Then with one in which each source is fixed in the version of another one. Last with five records
-# for each third source, which are bound just below its version, at it and just above it. What is found then is to be what
-# `dpkg --compare-versions` says, the fixed version included. Prints the counts, and ends with 1 where the two differ.
+# for each third source, which are bound just below its version, at it and just above it. What is found then has to be what
+# `dpkg --compare-versions` says, the fixed version included. Prints the counts, and ends with 1 if the two differ.
 set -euo pipefail
 export LC_ALL=C
 # shellcheck source=bench/common.sh
@@ -26,14 +26,14 @@ scan() {
 }
 
 # a record with an entry for each source package, with a fix or with none
-record() {
+own_record() {
     jq -R -s -c --arg ecosystem "$ecosystem" --argjson fixed "$1" 'split("\n") | map(select(. != "") | split("\t")
         | {package: {ecosystem: $ecosystem, name: .[0]}, ranges: [{type: "ECOSYSTEM",
            events: ([{introduced: "0"}] + (if $fixed then [{fixed: .[1]}] else [] end))}]})
         | {id: "OWN-1", modified: "2024-01-01T00:00:00Z", affected: .}' "$work/fixes"
 }
 
-# $work/found is to be $work/wanted
+# $work/found has to be $work/wanted
 compare() {
     if ! diff <(sort -u "$work/wanted") <(sort -u "$work/found") >"$work/diff"; then
         echo "$1: cvwatch and dpkg differ:"
@@ -46,7 +46,7 @@ compare() {
 package='.name, .version, .source, .source_version'
 
 cp "$work/packages" "$work/wanted"
-record false | scan | jq -r "[$package] | @tsv" >"$work/found"
+own_record false | scan | jq -r "[$package] | @tsv" >"$work/found"
 compare 'all versions' packages
 
 # each package with what stands behind its source in a file that is sorted by sources
@@ -58,7 +58,7 @@ joined "$work/fixes" 2.2 |
             printf '%s\t%s\t%s\t%s\n' "$name" "$version" "$source" "$source_version"
         fi
     done >"$work/wanted"
-record true | scan | jq -r "[$package] | @tsv" >"$work/found"
+own_record true | scan | jq -r "[$package] | @tsv" >"$work/found"
 compare 'versions below the fix of another source' packages
 
 # source, id, introduced, last affected (or -) and fixed (or -). A version with ~ behind it stands just below it, and one with +

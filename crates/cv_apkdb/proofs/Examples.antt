@@ -10,7 +10,7 @@ use Rattle.cv_apkdb.specs.declared.package.ApkPackage.{ApkPackage}
 abbrev bad : ℕ → What → Result (List ApkPackage) FileBad
 bad n w = Err (record { line = n; what = w })
 
--- an ordinary package, with letters that are passed over, some of them twice
+-- an ordinary package, with letters that are ignored, some of them twice
 ordinary : installed (codes "C:Q1AA=\nP:musl\nV:1.2.4-r1\nA:x86_64\nS:383459\nT:the C library\nL:MIT\no:musl\nF:lib\nR:libc.so.1\na:0:0:755\nZ:Q1AA=\nF:usr\nR:x\n\n")
     ≡ Ok (record { name = codes "musl"; version = codes "1.2.4-r1"; arch = codes "x86_64"; origin = codes "musl" } ∷ [])
 ordinary = refl

@@ -1,5 +1,3 @@
-pub mod Held
 pub mod Installed
-pub mod Lines
 pub mod Package
-pub mod Reader
+pub mod code

@@ -1,12 +1,11 @@
-//! What the lines of a package tell.
-ghost use Rattle.std.specs.Prelude.{◌≡◌, ◌++◌, IfOk, false, option_and_then, unwrap_or};
+//! What the lines of a package say.
+ghost use Rattle.std.specs.Prelude.{◌≡◌, ◌++◌, IfOk, Some, option_and_then, unwrap_or};
 ghost use Rattle.std.specs.Option.{option_map};
-ghost use Rattle.cv_base.specs.Answer.{Gives};
+ghost use Rattle.cv_base.specs.Answer.{Yields};
 ghost use Rattle.cv_base.specs.Texts.{filled};
-ghost use Rattle.cv_apkdb.specs.Held.{entry_view, facts_view};
 ghost use Rattle.cv_apkdb.specs.Installed.{whole_fault};
-ghost use Rattle.cv_apkdb.specs.Package.{nothing, package_in, package_of};
-ghost use Rattle.cv_apkdb.specs.Reader.{entry_step, letter_step, taken};
+ghost use Rattle.cv_apkdb.specs.Package.{package_in, package_of};
+ghost use Rattle.cv_apkdb.specs.code.Steps.{entry_step, facts_view, new_value, nothing};
 ghost use Rattle.cv_apkdb.specs.declared.letter.Letter.TheVariants as letter;
 
 use crate::letter::{Entry, Letter};
@@ -15,7 +14,7 @@ use cv_base::{What, printing_text};
 use cv_seq::{NoMemory, Text};
 use std::alloc::Global;
 
-/// What is told so far. All of it is borrowed from the file.
+/// The values of the used letters so far. All of them are borrowed from the file.
 #[derive(Clone, Copy)]
 pub struct Facts<'a> {
     pub name: Option<&'a str>,
@@ -25,7 +24,7 @@ pub struct Facts<'a> {
 }
 
 impl<'a> Facts<'a> {
-    /// What is known before the first line: nothing.
+    /// No values.
     pub fn new() -> Facts<'a>
         ensures { facts_view result ≡ nothing }
     {
@@ -37,68 +36,21 @@ impl<'a> Facts<'a> {
         }
     }
 
-    /// Takes an entry, or tells what is wrong with it.
-    pub fn tell(&mut self, entry: Entry<'a>) -> Result<(), What>
-        ensures { Gives (λ _. false) (λ _. facts_view self.new) result (entry_step (facts_view self.old) (entry_view entry.entry)) }
+    /// Adds an entry, unless it is bad.
+    pub fn add(&mut self, entry: Entry<'a>) -> Result<(), What>
+        ensures { Yields Some (λ _. facts_view self.new) result (entry_step entry.entry.letter entry.entry.value.now (facts_view self.old)) }
     {
         match entry.letter {
-            Letter::Name => self.tell_name(entry.value),
-            Letter::Version => self.tell_version(entry.value),
-            Letter::Arch => self.tell_arch(entry.value),
-            Letter::Origin => self.tell_origin(entry.value),
-            Letter::Unused => Ok(()),
+            Letter::Name => self.name = Some(new_filled_value(self.name, entry.value)?),
+            Letter::Version => self.version = Some(new_filled_value(self.version, entry.value)?),
+            Letter::Arch => self.arch = Some(new_value(self.arch, entry.value)?),
+            Letter::Origin => self.origin = Some(new_value(self.origin, entry.value)?),
+            Letter::Unused => {}
         }
+        Ok(())
     }
 
-    fn tell_name(&mut self, value: &'a [u8]) -> Result<(), What>
-        ensures { Gives (λ _. false) (λ _. facts_view self.new) result (letter_step letter.Name value.now (facts_view self.old)) }
-    {
-        match new_filled_value(self.name, value) {
-            Ok(name) => {
-                self.name = Some(name);
-                Ok(())
-            }
-            Err(what) => Err(what),
-        }
-    }
-
-    fn tell_version(&mut self, value: &'a [u8]) -> Result<(), What>
-        ensures { Gives (λ _. false) (λ _. facts_view self.new) result (letter_step letter.Version value.now (facts_view self.old)) }
-    {
-        match new_filled_value(self.version, value) {
-            Ok(version) => {
-                self.version = Some(version);
-                Ok(())
-            }
-            Err(what) => Err(what),
-        }
-    }
-
-    fn tell_arch(&mut self, value: &'a [u8]) -> Result<(), What>
-        ensures { Gives (λ _. false) (λ _. facts_view self.new) result (letter_step letter.Arch value.now (facts_view self.old)) }
-    {
-        match new_value(self.arch, value) {
-            Ok(arch) => {
-                self.arch = Some(arch);
-                Ok(())
-            }
-            Err(what) => Err(what),
-        }
-    }
-
-    fn tell_origin(&mut self, value: &'a [u8]) -> Result<(), What>
-        ensures { Gives (λ _. false) (λ _. facts_view self.new) result (letter_step letter.Origin value.now (facts_view self.old)) }
-    {
-        match new_value(self.origin, value) {
-            Ok(origin) => {
-                self.origin = Some(origin);
-                Ok(())
-            }
-            Err(what) => Err(what),
-        }
-    }
-
-    /// What is wrong with the package as a whole.
+    /// The fault of the package as a whole.
     pub fn fault(&self) -> Option<What>
         ensures { result ≡ whole_fault (facts_view self.now) }
     {
@@ -143,7 +95,7 @@ impl<'a> Facts<'a> {
 
 /// The value of a letter that did not stand before.
 fn new_value<'a>(before: Option<&str>, value: &'a [u8]) -> Result<&'a str, What>
-    ensures { Gives (λ _. false) (λ text. text.now) result (taken letter.Arch (option_map (λ s. s.now) before.entry) value.now) }
+    ensures { Yields Some (λ text. text.now) result (new_value letter.Arch (option_map (λ s. s.now) before.entry) value.now) }
 {
     if before.is_some() {
         return Err(What::Repeated);
@@ -156,7 +108,7 @@ fn new_value<'a>(before: Option<&str>, value: &'a [u8]) -> Result<&'a str, What>
 
 /// The value, which is not empty, of a letter that did not stand before.
 fn new_filled_value<'a>(before: Option<&str>, value: &'a [u8]) -> Result<&'a str, What>
-    ensures { Gives (λ _. false) (λ text. text.now) result (taken letter.Name (option_map (λ s. s.now) before.entry) value.now) }
+    ensures { Yields Some (λ text. text.now) result (new_value letter.Name (option_map (λ s. s.now) before.entry) value.now) }
 {
     if before.is_none() && value.is_empty() {
         return Err(What::BadValue);

@@ -1,10 +1,10 @@
 //! Lines and the letters that begin them.
 ghost use Rattle.std.specs.Prelude.{◌≡◌};
 ghost use Rattle.std.specs.Option.{option_map};
-ghost use Rattle.cv_apkdb.specs.Held.{entry_view};
+ghost use Rattle.cv_apkdb.specs.code.Steps.{entry_view};
 ghost use Rattle.cv_apkdb.specs.Package.{entry_of, letter_of};
 
-/// What a line tells, by its letter. Every letter but P, V, A and o is passed over.
+/// The letter of a line. Every letter but P, V, A and o is ignored.
 #[derive(Clone, Copy, PartialEq, Eq)]
 pub enum Letter {
     Name,

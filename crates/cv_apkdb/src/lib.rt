@@ -1,13 +1,13 @@
 //! Reads apk's database of installed packages into the packages that it lists.
 //!
-//! The profile is cvwatch's own, after the format of apk's version 2.
+//! What is accepted is a profile of the format of apk's version 2, defined by this project.
 //!
 //! ```text
 //! let packages = read_installed(alloc, bytes)?;
 //! ```
 #![tactic(auto)]
 
-mod block;
+mod blocks;
 mod facts;
 mod installed;
 mod letter;

@@ -5,8 +5,8 @@ use cv_seq::Text;
 pub struct ApkPackage {
     pub name: Text,
     pub version: Text,
-    /// The empty text where there is none.
+    /// The empty text if there is none.
     pub arch: Text,
-    /// The package from whose build it came: its own name where none is told.
+    /// The package from whose build it came, which is its own name if no other is given.
     pub origin: Text,
 }

@@ -28,10 +28,10 @@ parts : key_of (codes "1.20.3d_beta2_p-r4") ≡ record {
 parts = refl
 
 -- each is less than the next
-rising : (version_cmp (codes "1.2_rc1") (codes "1.2") ≡ Less) × (version_cmp (codes "1.2") (codes "1.2_p1") ≡ Less)
+ascending : (version_cmp (codes "1.2_rc1") (codes "1.2") ≡ Less) × (version_cmp (codes "1.2") (codes "1.2_p1") ≡ Less)
     × (version_cmp (codes "1.2_p1") (codes "1.2a") ≡ Less) × (version_cmp (codes "1.2a") (codes "1.2.0") ≡ Less)
     × (version_cmp (codes "1.2.0") (codes "1.2.0-r1") ≡ Less)
-rising = (refl, refl, refl, refl, refl)
+ascending = (refl, refl, refl, refl, refl)
 
 -- what is absent counts as 0, and so do leading zeros
 equal : (version_cmp (codes "1.02_rc-r0") (codes "01.2_rc0") ≡ Equal) × (version_cmp (codes "1.2.0") (codes "1.2") ≡ Greater)

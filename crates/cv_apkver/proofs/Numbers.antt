@@ -19,7 +19,7 @@ pub number_some : (text : List ℕ) → 0 < length text → is_number text ≡ l
 number_some [] some = absurd (omega (arith, some))
 number_some (x ∷ xs) some = refl
 
--- a text that begins with a digit is `number[letter]` where one letter or nothing stands behind its digits
+-- a text that begins with a digit is `number[letter]` where one letter or nothing comes after its digits
 pub last_number : (text : List ℕ) → 0 < length text → is_digit (get_or text 0 0) ≡ true → is_last_number text ≡ is_letter_or_nothing (after_digits text)
 last_number [] some e = absurd (omega (arith, some))
 last_number (x ∷ xs) some e = simp (e, front_all xs)

@@ -8,7 +8,7 @@ use Rattle.std.proofs.lemmas.List.Splits.{join_with_byte-slice_split}
 use Rattle.cv_order.specs.Digits.{is_digit, front_while, front_digits, after_digits}
 use Rattle.cv_order.proofs.Places.{front_while-append-after_while}
 use Rattle.cv_apkver.specs.Grammar.{BUILD_MARK, DOT, HYPHEN, IsSuffixWritten, IsVersion, UNDERSCORE, WrittenSuffix, build_text, is_letter, is_number, rank_of, release_text, suffixes_text}
-use Rattle.cv_apkver.specs.Parts.{after_letters, before, behind, build_part, front_letters, is_build, is_last_number, is_letter_or_nothing, is_release, is_suffix, is_version, pieces, pieces_behind, release_part, suffix_parts}
+use Rattle.cv_apkver.specs.Parts.{after_letters, before, after, build_part, front_letters, is_build, is_last_number, is_letter_or_nothing, is_release, is_suffix, is_version, pieces, pieces_after, release_part, suffix_parts}
 use Rattle.cv_apkver.proofs.Pieces.{pieces_cut}
 use Rattle.cv_apkver.proofs.Spelled.{is_version-text_of}
 
@@ -17,12 +17,12 @@ abbrev marked : ℕ → Option (List ℕ) → List ℕ
 marked c None = []
 marked c (Some text) = c ∷ text
 
-join_step : (c x : ℕ) (xs : List ℕ) (b : Bool) → (x == c) ≡ b → xs ≡ before c xs ++ marked c (behind c xs) → x ∷ xs ≡ before c (x ∷ xs) ++ marked c (behind c (x ∷ xs))
+join_step : (c x : ℕ) (xs : List ℕ) (b : Bool) → (x == c) ≡ b → xs ≡ before c xs ++ marked c (after c xs) → x ∷ xs ≡ before c (x ∷ xs) ++ marked c (after c (x ∷ xs))
 join_step c x xs true h ih = simp h (ap (λ y. y ∷ xs) (eqb-true x c h))
 join_step c x xs false h ih = simp h (ap (λ r. x ∷ r) ih)
 
 -- the two sides of the first cut are the whole
-joined : (c : ℕ) (xs : List ℕ) → xs ≡ before c xs ++ marked c (behind c xs)
+joined : (c : ℕ) (xs : List ℕ) → xs ≡ before c xs ++ marked c (after c xs)
 joined c [] = refl
 joined c (x ∷ xs) = join_step c x xs (x == c) refl (joined c xs)
 
@@ -30,13 +30,13 @@ mark_pieces : (c : ℕ) (p : List ℕ) (ps : List (List ℕ)) → c ∷ join_wit
 mark_pieces c p [] = ap (λ r. c ∷ r) (sym (append-nil p))
 mark_pieces c p (q ∷ qs) = ap (λ r. c ∷ (p ++ r)) (mark_pieces c q qs)
 
--- what stands behind the first cut is its pieces, each behind a cut
-marked_is : (c : ℕ) (rest : Option (List ℕ)) → marked c rest ≡ flat_map (λ piece. c ∷ piece) (pieces_behind c rest)
+-- what comes after the first cut is its pieces, each after a cut
+marked_is : (c : ℕ) (rest : Option (List ℕ)) → marked c rest ≡ flat_map (λ piece. c ∷ piece) (pieces_after c rest)
 marked_is c None = refl
 marked_is c (Some text) =
     ap (λ r. c ∷ r) (sym (join_with_byte-slice_split c text))
     ∙ ap (λ ps. c ∷ join_with_byte c ps) (pieces_cut c text)
-    ∙ mark_pieces c (before c text) (pieces_behind c (behind c text))
+    ∙ mark_pieces c (before c text) (pieces_after c (after c text))
     ∙ ap (flat_map (λ piece. c ∷ piece)) (sym (pieces_cut c text))
 
 -- the suffixes, by their pieces
@@ -137,26 +137,26 @@ build_read (Some (mark ∷ number)) h =
 pub version_read : (text : List ℕ) → is_version text ≡ true → IsVersion text
 version_read text h =
     let parts = and_parts (is_release (pieces DOT (release_part text))) (list_all is_suffix (suffix_parts text) && is_build (build_part text)) h in
-    let behind_release = and_parts (list_all is_suffix (suffix_parts text)) (is_build (build_part text)) parts.1 in
+    let after_release = and_parts (list_all is_suffix (suffix_parts text)) (is_build (build_part text)) parts.1 in
     let release = release_read (pieces DOT (release_part text)) parts.0 in
-    let build = build_read (build_part text) behind_release.1 in
+    let build = build_read (build_part text) after_release.1 in
     let suffixes = map suffix_read (suffix_parts text) in
     let release_spelled : release_part text ≡ release_text release.first release.more release.letter =
     sym (join_with_byte-slice_split DOT (release_part text)) ∙ release.spelled in
-    let suffixes_are : marked UNDERSCORE (behind UNDERSCORE (before HYPHEN text)) ≡ suffixes_text suffixes =
-    marked_is UNDERSCORE (behind UNDERSCORE (before HYPHEN text)) ∙ suffixes_spelled (suffix_parts text) in
+    let suffixes_are : marked UNDERSCORE (after UNDERSCORE (before HYPHEN text)) ≡ suffixes_text suffixes =
+    marked_is UNDERSCORE (after UNDERSCORE (before HYPHEN text)) ∙ suffixes_spelled (suffix_parts text) in
     record {
       written = record { first = release.first; more = release.more; letter = release.letter; suffixes = suffixes; build = build.build };
       well = record {
         first = release.first_well;
         more = release.more_well;
         letter = release.letter_well;
-        suffixes = suffixes_well (suffix_parts text) behind_release.0;
+        suffixes = suffixes_well (suffix_parts text) after_release.0;
         build = build.well;
       };
       spelled =
           joined HYPHEN text
-          ∙ ap (λ r. r ++ marked HYPHEN (behind HYPHEN text)) (joined UNDERSCORE (before HYPHEN text))
+          ∙ ap (λ r. r ++ marked HYPHEN (after HYPHEN text)) (joined UNDERSCORE (before HYPHEN text))
           ∙ (λ i. (release_spelled i ++ suffixes_are i) ++ build.spelled i)
           ∙ append_assoc (release_text release.first release.more release.letter) (suffixes_text suffixes) (build_text build.build);
     }

@@ -8,7 +8,7 @@ use Rattle.std.proofs.lemmas.List.Folds.{list_all-append}
 use Rattle.cv_order.specs.Digits.{is_digit, front_while, after_while, front_digits, after_digits}
 use Rattle.cv_apkver.specs.Grammar.{BUILD_MARK, DOT, HYPHEN, IsSuffixWritten, IsWellWritten, UNDERSCORE, Written, WrittenSuffix, build_text, is_letter, is_number, rank_of, release_text, suffix_text, suffixes_text, text_of}
 use Rattle.cv_apkver.specs.Order.{suffix_from, build_digits, digits_of, key_of, suffix_of, written_key}
-use Rattle.cv_apkver.specs.Parts.{after_letters, before, behind, build_part, front_letters, is_build, is_last_number, is_letter_or_nothing, is_release, is_suffix, is_version, pieces, pieces_behind, release_part, rest_of, suffix_parts}
+use Rattle.cv_apkver.specs.Parts.{after_letters, before, after, build_part, front_letters, is_build, is_last_number, is_letter_or_nothing, is_release, is_suffix, is_version, pieces, pieces_after, release_part, rest_of, suffix_parts}
 use Rattle.cv_apkver.proofs.Pieces.{pieces_cut}
 
 -- a front that passes is passed over
@@ -97,18 +97,18 @@ module _ (test : ℕ → Bool) (digit : (x : ℕ) → is_digit x ≡ true → te
       (suffixes_all mark up ss w.1)
 
 -- the first piece ends at the first cut
-cut_first : (c : ℕ) (xs ys : List ℕ) → list_all (but c) xs ≡ true → before c ys ≡ [] → pieces c (xs ++ ys) ≡ xs ∷ pieces_behind c (behind c ys)
+cut_first : (c : ℕ) (xs ys : List ℕ) → list_all (but c) xs ≡ true → before c ys ≡ [] → pieces c (xs ++ ys) ≡ xs ∷ pieces_after c (after c ys)
 cut_first c xs ys h stop =
     let front : before c (xs ++ ys) ≡ xs = front-append (but c) xs ys h ∙ (ap (λ r. xs ++ r) stop ∙ append-nil xs) in
-    let rest : behind c (xs ++ ys) ≡ behind c ys = ap rest_of (after-append (but c) xs ys h) in
-    pieces_cut c (xs ++ ys) ∙ (λ i. front i ∷ pieces_behind c (rest i))
+    let rest : after c (xs ++ ys) ≡ after c ys = ap rest_of (after-append (but c) xs ys h) in
+    pieces_cut c (xs ++ ys) ∙ (λ i. front i ∷ pieces_after c (rest i))
 
 -- the parts of a text: the build number
 no_front : (build : Option (List ℕ)) → before HYPHEN (build_text build) ≡ []
 no_front None = refl
 no_front (Some number) = refl
 
-build_rest : (build : Option (List ℕ)) → behind HYPHEN (build_text build) ≡ option_map (λ number. BUILD_MARK ∷ number) build
+build_rest : (build : Option (List ℕ)) → after HYPHEN (build_text build) ≡ option_map (λ number. BUILD_MARK ∷ number) build
 build_rest None = refl
 build_rest (Some number) = refl
 
@@ -125,7 +125,7 @@ suffixes_front : (ss : List WrittenSuffix) → before UNDERSCORE (suffixes_text 
 suffixes_front [] = refl
 suffixes_front (s ∷ ss) = refl
 
-suffixes_cut : (ss : List WrittenSuffix) → AllByRecursion IsSuffixWritten ss → pieces_behind UNDERSCORE (behind UNDERSCORE (suffixes_text ss)) ≡ map suffix_text ss
+suffixes_cut : (ss : List WrittenSuffix) → AllByRecursion IsSuffixWritten ss → pieces_after UNDERSCORE (after UNDERSCORE (suffixes_text ss)) ≡ map suffix_text ss
 suffixes_cut [] w = refl
 suffixes_cut (s ∷ ss) w =
     cut_first UNDERSCORE (suffix_text s) (suffixes_text ss) (suffix_all (but UNDERSCORE) digit_no_underscore letter_no_underscore s w.0) (suffixes_front ss)
@@ -274,8 +274,8 @@ module _ (w : Written) (well : IsWellWritten w) where
 
   suffixes_are : suffix_parts (text_of w) ≡ map suffix_text w.suffixes
   suffixes_are =
-      ap (λ t. pieces_behind UNDERSCORE (behind UNDERSCORE t)) hyphen_front
-      ∙ ap (λ t. pieces_behind UNDERSCORE (rest_of t))
+      ap (λ t. pieces_after UNDERSCORE (after UNDERSCORE t)) hyphen_front
+      ∙ ap (λ t. pieces_after UNDERSCORE (rest_of t))
       (after-append (but UNDERSCORE) (release_text w.first w.more w.letter) (suffixes_text w.suffixes) (release_but UNDERSCORE refl digit_no_underscore letter_no_underscore))
       ∙ suffixes_cut w.suffixes well.suffixes
 

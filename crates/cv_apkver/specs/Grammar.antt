@@ -1,7 +1,7 @@
 -- Which texts are versions of Alpine packages, after apk-package(5): they are written
 --     number{.number}[letter]{_suffix[number]}[-rnumber]
 -- A number is one or more digits, however many; the letter is one of a to z; the suffix is one of a table. apk itself knows
--- a commit hash behind `~` too; this profile takes such a text for no version.
+-- a commit hash after `~` too; this profile takes such a text for no version.
 use Rattle.std.specs.Prelude.{◌≡◌, ℕ, Bool, false, ◌==◌, IsTrue, if◌then◌else◌, List, [], ◌∷◌, ◌++◌, Option, Some, None, is_some, codes}
 use Rattle.std.specs.Char.{is_ascii_lowercase}
 use Rattle.std.specs.List.{AllByRecursion, flat_map, list_all}
@@ -21,7 +21,7 @@ UNDERSCORE = 95
 abbrev pub HYPHEN : ℕ
 HYPHEN = 45
 
--- the byte `r` behind it
+-- the byte `r` after it
 abbrev pub BUILD_MARK : ℕ
 BUILD_MARK = 114
 

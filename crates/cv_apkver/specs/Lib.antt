@@ -1,4 +1,4 @@
 pub mod Grammar
 pub mod Order
 pub mod Parts
-pub mod Walk
+pub mod code

@@ -1,12 +1,12 @@
--- How the text of a version is cut, and the test for versions by its parts: the build number stands behind the only hyphen,
--- the suffixes behind the underscores before it, and the numbers between the dots before those. Each cut is defined for any
+-- How the text of a version is cut, and the test for versions by its parts: the build number comes after the only hyphen,
+-- the suffixes after the underscores before it, and the numbers between the dots before those. Each cut is defined for any
 -- text, and the test passes exactly the texts of the grammar.
 use Rattle.std.specs.Prelude.{ℕ, Bool, true, false, not, ◌&&◌, ◌==◌, List, [], ◌∷◌, Option, Some, None, is_some}
 use Rattle.std.specs.List.{list_all, slice_split}
 use Rattle.cv_order.specs.Digits.{is_digit, front_while, after_while, front_digits, after_digits}
 use Rattle.cv_apkver.specs.Grammar.{DOT, UNDERSCORE, HYPHEN, BUILD_MARK, is_letter, is_number, rank_of}
 
--- what stands before the first byte c: all, where there is none
+-- what comes before the first byte c: all of it, if there is none
 abbrev pub before : ℕ → List ℕ → List ℕ
 before c text = front_while (λ x. not (x == c)) text
 
@@ -15,18 +15,18 @@ abbrev pub rest_of : List ℕ → Option (List ℕ)
 rest_of [] = None
 rest_of (x ∷ xs) = Some xs
 
--- what stands behind the first byte c, where there is one
-abbrev pub behind : ℕ → List ℕ → Option (List ℕ)
-behind c text = rest_of (after_while (λ x. not (x == c)) text)
+-- what comes after the first byte c, where there is one
+abbrev pub after : ℕ → List ℕ → Option (List ℕ)
+after c text = rest_of (after_while (λ x. not (x == c)) text)
 
 -- the pieces of a text between the bytes c
 abbrev pub pieces : ℕ → List ℕ → List (List ℕ)
 pieces c text = slice_split (λ x. x == c) text
 
--- the pieces of what stands behind a byte: none, where it does not stand
-abbrev pub pieces_behind : ℕ → Option (List ℕ) → List (List ℕ)
-pieces_behind c None = []
-pieces_behind c (Some text) = pieces c text
+-- the pieces of what comes after a byte: none, where it does not stand
+abbrev pub pieces_after : ℕ → Option (List ℕ) → List (List ℕ)
+pieces_after c None = []
+pieces_after c (Some text) = pieces c text
 
 -- `number{.number}[letter]`: what stands before the suffixes and the build number
 abbrev pub release_part : List ℕ → List ℕ
@@ -34,17 +34,17 @@ release_part text = before UNDERSCORE (before HYPHEN text)
 
 -- each `suffix[number]`, in order
 abbrev pub suffix_parts : List ℕ → List (List ℕ)
-suffix_parts text = pieces_behind UNDERSCORE (behind UNDERSCORE (before HYPHEN text))
+suffix_parts text = pieces_after UNDERSCORE (after UNDERSCORE (before HYPHEN text))
 
 -- `rnumber`, where a build number is given
 abbrev pub build_part : List ℕ → Option (List ℕ)
-build_part text = behind HYPHEN text
+build_part text = after HYPHEN text
 
 -- the longest run of lower-case letters at the front of a text
 abbrev pub front_letters : List ℕ → List ℕ
 front_letters text = front_while is_letter text
 
--- what stands behind those letters
+-- what comes after those letters
 abbrev pub after_letters : List ℕ → List ℕ
 after_letters text = after_while is_letter text
 

@@ -3,7 +3,7 @@ ghost use Rattle.std.specs.List.{list_all};
 ghost use Rattle.std.specs.Option.{option_copied};
 ghost use Rattle.cv_order.specs.Digits.{is_digit};
 ghost use Rattle.cv_apkver.specs.Grammar.{DOT, IsVersion, UNDERSCORE, is_number, rank_of};
-ghost use Rattle.cv_apkver.specs.Parts.{is_build, is_last_number, is_letter_or_nothing, is_release, is_suffix, is_version, pieces, pieces_behind};
+ghost use Rattle.cv_apkver.specs.Parts.{is_build, is_last_number, is_letter_or_nothing, is_release, is_suffix, is_version, pieces, pieces_after};
 
 use crate::parts::{Parts, cut, split_word};
 use cv_order::{are_digits, skip_digits};
@@ -28,31 +28,31 @@ fn has_version_parts(text: &[u8]) -> bool
 fn is_release(text: &[u8]) -> bool
     ensures { result ≡ is_release (pieces DOT text.now) }
 {
-    let mut left = text;
+    let mut remaining = text;
     loop {
-        match cut(left, b'.') {
+        match cut(remaining, b'.') {
             (last, None) => return is_last_number(last),
             (number, Some(rest)) => {
                 if !is_number(number) {
                     return false;
                 }
-                left = rest;
+                remaining = rest;
             }
         }
     }
 }
 
-#[tactic(auto, using(crate::proofs::Pieces::pieces_cut, crate::proofs::Pieces::behind_len))]
+#[tactic(auto, using(crate::proofs::Pieces::pieces_cut, crate::proofs::Pieces::after_len))]
 fn are_suffixes(text: Option<&[u8]>) -> bool
-    ensures { result ≡ list_all is_suffix (pieces_behind UNDERSCORE (option_copied text.entry)) }
+    ensures { result ≡ list_all is_suffix (pieces_after UNDERSCORE (option_copied text.entry)) }
 {
-    let mut left = text;
-    while let Some(rest) = left {
+    let mut remaining = text;
+    while let Some(rest) = remaining {
         let (suffix, more) = cut(rest, b'_');
         if !is_suffix(suffix) {
             return false;
         }
-        left = more;
+        remaining = more;
     }
     true
 }
@@ -125,7 +125,7 @@ mod tests {
     use std::test::Fail;
 
     #[test]
-    fn tells_versions_from_other_texts(rt: HostRuntime) -> Result<(), Fail> {
+    fn versions_are_accepted_and_other_texts_are_not(rt: HostRuntime) -> Result<(), Fail> {
         for version in [
             "0",
             "1.2",

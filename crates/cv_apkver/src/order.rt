@@ -7,8 +7,8 @@ ghost use Rattle.cv_order.specs.Filled.{later};
 ghost use Rattle.cv_order.specs.Laws.{IsTotalPreorder};
 ghost use Rattle.cv_apkver.specs.Grammar.{DOT, IsWellWritten, UNDERSCORE, Written, is_letter, text_of};
 ghost use Rattle.cv_apkver.specs.Order.{build_digits, digits_of, key_of, suffix_of, suffixes_cmp, version_cmp, written_key};
-ghost use Rattle.cv_apkver.specs.Parts.{pieces, pieces_behind};
-ghost use Rattle.cv_apkver.specs.Walk.{first_suffix, left_len};
+ghost use Rattle.cv_apkver.specs.Parts.{pieces, pieces_after};
+ghost use Rattle.cv_apkver.specs.code.Walk.{first_suffix, remaining_len};
 
 use crate::grammar::rank;
 use crate::parts::{Parts, cut, split_word};
@@ -49,7 +49,7 @@ pub fn compare(a: &[u8], b: &[u8]) -> Ordering
         .then(compare_builds(a.build, b.build))
 }
 
-#[tactic(auto, using(crate::proofs::Places::number_place, crate::proofs::Places::numbers_left, crate::proofs::Places::numbers_right, crate::proofs::Pieces::behind_len))]
+#[tactic(auto, using(crate::proofs::Places::number_place, crate::proofs::Places::numbers_left, crate::proofs::Places::numbers_right, crate::proofs::Pieces::after_len))]
 fn compare_releases(a: &[u8], b: &[u8]) -> Ordering
     ensures { result ≡ slice_cmp number_cmp (digits_of (pieces DOT a.now)) (digits_of (pieces DOT b.now)) }
 {
@@ -86,11 +86,11 @@ fn letter(release: &[u8]) -> Option<u8>
 
 #[tactic(auto, using(crate::proofs::Places::suffix_place, crate::proofs::Places::suffixes_ended))]
 fn compare_suffixes(a: Option<&[u8]>, b: Option<&[u8]>) -> Ordering
-    ensures { result ≡ suffixes_cmp (map suffix_of (pieces_behind UNDERSCORE (option_copied a.entry))) (map suffix_of (pieces_behind UNDERSCORE (option_copied b.entry))) }
+    ensures { result ≡ suffixes_cmp (map suffix_of (pieces_after UNDERSCORE (option_copied a.entry))) (map suffix_of (pieces_after UNDERSCORE (option_copied b.entry))) }
 {
     let mut left = a;
     let mut right = b;
-    while is_any_left(left, right) {
+    while has_more(left, right) {
         let x = next_suffix(left);
         let y = next_suffix(right);
         let numbers = compare_numbers(x.number, y.number);
@@ -104,13 +104,13 @@ fn compare_suffixes(a: Option<&[u8]>, b: Option<&[u8]>) -> Ordering
     Ordering::Equal
 }
 
-fn is_any_left(a: Option<&[u8]>, b: Option<&[u8]>) -> bool
-    ensures { IsTrue result ↔ (0 < left_len (option_copied a.entry) + left_len (option_copied b.entry)) }
+fn has_more(a: Option<&[u8]>, b: Option<&[u8]>) -> bool
+    ensures { IsTrue result ↔ (0 < remaining_len (option_copied a.entry) + remaining_len (option_copied b.entry)) }
 {
     a.is_some() || b.is_some()
 }
 
-/// A suffix by its rank and its number, and the suffixes behind it.
+/// A suffix by its rank and its number, and the suffixes after it.
 #[derive(Clone, Copy)]
 struct NextSuffix<'a> {
     rank: u8,
@@ -119,13 +119,13 @@ struct NextSuffix<'a> {
 }
 
 /// The first suffix, or the end of the suffixes.
-#[tactic(auto, using(crate::proofs::Pieces::pieces_cut, crate::proofs::Pieces::behind_len))]
+#[tactic(auto, using(crate::proofs::Pieces::pieces_cut, crate::proofs::Pieces::after_len))]
 fn next_suffix(text: Option<&[u8]>) -> NextSuffix<'_>
-    ensures rank { result.rank ≡ (first_suffix (pieces_behind UNDERSCORE (option_copied text.entry))).rank }
-    ensures number { front_digits result.number.now ≡ (first_suffix (pieces_behind UNDERSCORE (option_copied text.entry))).number }
-    ensures more { pieces_behind UNDERSCORE (option_copied result.more) ≡ later (pieces_behind UNDERSCORE (option_copied text.entry)) }
-    ensures shorter { 0 < left_len (option_copied text.entry) → left_len (option_copied result.more) < left_len (option_copied text.entry) }
-    ensures ended { left_len (option_copied text.entry) ≡ 0 → left_len (option_copied result.more) ≡ 0 }
+    ensures rank { result.rank ≡ (first_suffix (pieces_after UNDERSCORE (option_copied text.entry))).rank }
+    ensures number { front_digits result.number.now ≡ (first_suffix (pieces_after UNDERSCORE (option_copied text.entry))).number }
+    ensures more { pieces_after UNDERSCORE (option_copied result.more) ≡ later (pieces_after UNDERSCORE (option_copied text.entry)) }
+    ensures shorter { 0 < remaining_len (option_copied text.entry) → remaining_len (option_copied result.more) < remaining_len (option_copied text.entry) }
+    ensures ended { remaining_len (option_copied text.entry) ≡ 0 → remaining_len (option_copied result.more) ≡ 0 }
 {
     let Some(rest) = text else {
         return NextSuffix {
@@ -146,10 +146,10 @@ fn next_suffix(text: Option<&[u8]>) -> NextSuffix<'_>
 fn compare_builds(a: Option<&[u8]>, b: Option<&[u8]>) -> Ordering
     ensures { result ≡ number_cmp (build_digits (option_copied a.entry)) (build_digits (option_copied b.entry)) }
 {
-    compare_numbers(digits_behind_mark(a), digits_behind_mark(b)).ordering
+    compare_numbers(digits_after_mark(a), digits_after_mark(b)).ordering
 }
 
-fn digits_behind_mark(build: Option<&[u8]>) -> &[u8]
+fn digits_after_mark(build: Option<&[u8]>) -> &[u8]
     ensures { front_digits result.now ≡ build_digits (option_copied build.entry) }
 {
     match build {

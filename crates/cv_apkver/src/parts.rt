@@ -1,7 +1,7 @@
 ghost use Rattle.std.specs.Prelude.{◌≡◌, not, position};
 ghost use Rattle.std.specs.Option.{option_copied};
 ghost use Rattle.cv_apkver.specs.Grammar.{UNDERSCORE, is_letter};
-ghost use Rattle.cv_apkver.specs.Parts.{after_letters, before, behind, build_part, front_letters, pieces_behind, release_part, suffix_parts};
+ghost use Rattle.cv_apkver.specs.Parts.{after_letters, before, after, build_part, front_letters, pieces_after, release_part, suffix_parts};
 
 use cv_order::find;
 
@@ -20,7 +20,7 @@ impl<'a> Parts<'a> {
     /// The parts of any text, whether it is a version or not.
     pub fn of(text: &'a [u8]) -> Parts<'a>
         ensures release { result.release.now ≡ release_part text.now }
-        ensures suffixes { pieces_behind UNDERSCORE (option_copied result.suffixes) ≡ suffix_parts text.now }
+        ensures suffixes { pieces_after UNDERSCORE (option_copied result.suffixes) ≡ suffix_parts text.now }
         ensures build { option_copied result.build ≡ build_part text.now }
     {
         let (before_build, build) = cut(text, b'-');
@@ -33,11 +33,11 @@ impl<'a> Parts<'a> {
     }
 }
 
-/// The text before the first such byte and the text behind it, where there is one.
-#[tactic(auto, using(crate::proofs::Fronts::before_some, crate::proofs::Fronts::before_none, crate::proofs::Fronts::behind_some, crate::proofs::Fronts::behind_none))]
+/// The text before the first such byte and the text after it, where there is one.
+#[tactic(auto, using(crate::proofs::Fronts::before_some, crate::proofs::Fronts::before_none, crate::proofs::Fronts::rest_some, crate::proofs::Fronts::rest_none))]
 pub(crate) fn cut(text: &[u8], byte: u8) -> (&[u8], Option<&[u8]>)
     ensures front { result.0.now ≡ before byte text.now }
-    ensures rest { option_copied result.1 ≡ behind byte text.now }
+    ensures rest { option_copied result.1 ≡ after byte text.now }
 {
     match find(text, byte) {
         Some(at) => (&text[..at], Some(&text[at + 1..])),
@@ -45,7 +45,7 @@ pub(crate) fn cut(text: &[u8], byte: u8) -> (&[u8], Option<&[u8]>)
     }
 }
 
-/// The lower-case letters at the front of a text, and what stands behind them.
+/// The lower-case letters at the front of a text, and what comes after them.
 #[tactic(auto, using(cv_order::proofs::Fronts::while_some, cv_order::proofs::Fronts::while_none, cv_order::proofs::Fronts::past_some, cv_order::proofs::Fronts::past_none))]
 pub(crate) fn split_word(text: &[u8]) -> (&[u8], &[u8])
     ensures word { result.0.now ≡ front_letters text.now }

@@ -9,7 +9,7 @@ use Rattle.std.proofs.lemmas.Bool.Decides.{nat_tests}
 use Rattle.std.proofs.lemmas.List.Splits.{join_with_byte-slice_split}
 use Rattle.std.proofs.Math.Bool.{and_assoc}
 use Rattle.cv_base.specs.Path.{Path, components, is_above, is_component, is_slash, is_special, path_cmp}
-use Rattle.cv_base.specs.PathText.{goes_on, rank, text_cmp, HasNoNul, is_above_text}
+use Rattle.cv_base.specs.code.PathText.{goes_on, rank, text_cmp, HasNoNul, is_above_text}
 use Rattle.cv_base.specs.Texts.{is_cons, same}
 use Rattle.cv_base.proofs.Bools.{and_left, and_right}
 

@@ -4,9 +4,9 @@ pub mod Digest
 pub mod InOrder
 pub mod Lines
 pub mod Path
-pub mod PathText
 pub mod Place
 pub mod Printing
 pub mod Reading
 pub mod Results
 pub mod Texts
+pub mod code

@@ -1,4 +1,4 @@
--- The bytes of ASCII that print (cvwatch's own: a space does not count).
+-- The printing bytes of ASCII (defined by this project: a space does not count).
 use Rattle.std.specs.Prelude.{ℕ, Bool, ◌&&◌, nat_le}
 
 -- a byte that prints

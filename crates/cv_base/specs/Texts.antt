@@ -1,4 +1,4 @@
--- Words on texts, seen as their bytes (cvwatch's own).
+-- Tests of texts, seen as their bytes (defined by this project).
 use Rattle.std.specs.Prelude.{ℕ, Bool, true, false, ◌==◌, List, [], ◌∷◌, Option, None, Some}
 use Rattle.std.specs.Cmp.Lexicographic.{pointwise}
 use Rattle.std.specs.List.{list_any}
@@ -7,17 +7,17 @@ use Rattle.std.specs.List.{list_any}
 abbrev pub same : List ℕ → List ℕ → Bool
 same = pointwise ◌==◌
 
--- whether a text, or another list, is not empty
+-- whether a text, or another list, has an item
 abbrev pub is_cons : {X : Type 0} → List X → Bool
 is_cons [] = false
 is_cons (x ∷ xs) = true
 
--- whether a list has nothing
+-- whether a list is empty
 abbrev pub is_nil : {A : Type 0} → List A → Bool
 is_nil [] = true
 is_nil (x ∷ xs) = false
 
--- the text, where it is not empty
+-- the text, if it is not empty
 abbrev pub filled : List ℕ → Option (List ℕ)
 filled [] = None
 filled (x ∷ xs) = Some (x ∷ xs)

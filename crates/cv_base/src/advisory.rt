@@ -3,7 +3,7 @@ use cv_seq::{Seq, Text};
 use std::alloc::AllocError;
 
 /// An event of a range, after the OSV schema: at this version the flaw comes in or is gone.
-#[derive(Clone, Debug, PartialEq, Eq, PartialOrd, Ord, Drop)]
+#[derive(Clone, Debug, PartialEq, Eq, Drop)]
 pub enum Turn {
     Introduced(Text),
     Fixed(Text),
@@ -20,23 +20,23 @@ pub enum RangeKind {
     Other,
 }
 
-/// A range of versions, told by its events.
-#[derive(Debug, PartialEq, Eq, PartialOrd, Ord, Drop)]
+/// A range of versions, given by its events.
+#[derive(Debug, PartialEq, Eq, Drop)]
 pub struct Range {
     pub kind: RangeKind,
     pub turns: Seq<Turn>,
 }
 
 /// One affected entry of an advisory: a package, with the versions that have the flaw.
-#[derive(Debug, PartialEq, Eq, PartialOrd, Ord, Drop)]
+#[derive(Debug, PartialEq, Eq, Drop)]
 pub struct Affected {
     pub package: Option<PackageName>,
     pub ranges: Seq<Range>,
     pub versions: Seq<Text>,
 }
 
-/// A record of the OSV schema, less what no answer needs.
-#[derive(Clone, Debug, PartialEq, Eq, PartialOrd, Ord, Drop)]
+/// A record of the OSV schema, with the fields that matching needs.
+#[derive(Clone, Debug, PartialEq, Eq, Drop)]
 pub struct Advisory {
     pub id: Text,
     pub modified: Text,

@@ -6,7 +6,7 @@ ghost use Rattle.cv_base.specs.Printing.{is_printing};
 
 use std::str;
 
-/// A text of printing bytes.
+/// The text of these bytes, if all of them print.
 #[tactic(auto, using(crate::proofs::Printing::printing_utf8))]
 pub fn printing_text(bytes: &[u8]) -> Option<&str>
     ensures { option_map (λ s. s.now) result ≡ (if list_all is_printing bytes.now then Some bytes.now else None) }

@@ -11,9 +11,9 @@ use std::alloc::Global;
 use std::marker::Model;
 use thiserror::Error;
 
-/// The text is no digest: not `sha256:` and 64 digits of `0-9a-f`.
+/// The text is not a digest: not `sha256:` and 64 digits of `0-9a-f`.
 #[derive(Clone, Copy, Debug, PartialEq, Eq, Error)]
-#[error("no digest: not sha256: and 64 digits of 0-9a-f")]
+#[error("a digest is sha256: and 64 digits of 0-9a-f")]
 pub struct BadDigest;
 
 /// The SHA-256 digest of an image or a layer, after the OCI image specification. Contracts see it as
@@ -71,14 +71,14 @@ impl Digest {
     }
 }
 
-/// `Digest::read` takes exactly the texts that `Digest::text` gives: the text of any 32 bytes reads as them, `read_back`,
+/// `Digest::read` accepts exactly the texts that `Digest::text` gives: the text of any 32 bytes reads as them, `read_back`,
 /// and a text that reads as bytes is the text of them, `written_back`.
 pub fn digest_round_trip()
     ensures read_back { (bytes : List ℕ) → length bytes ≡ 32 → IsBytes bytes → digest_of (digest_text bytes) ≡ Some bytes }
     ensures written_back { (text bytes : List ℕ) → digest_of text ≡ Some bytes → digest_text bytes ≡ text }
 {}
 
-/// The encoded part of a text, where the algorithm is SHA-256 and there are digits alone.
+/// The encoded part of a text, if the algorithm is SHA-256 and there are digits alone.
 fn digits_of(text: &[u8]) -> Option<&[u8]>
     ensures { option_map (λ digits. digits.now) result ≡ digits_of text.now }
 {

@@ -7,26 +7,26 @@ use thiserror::Error;
 /// What is wrong with a line of a package database: dpkg's status (deb-control(5), dpkg(1)) or apk's installed database.
 #[derive(Clone, Copy, Debug, PartialEq, Eq, PartialOrd, Ord)]
 pub enum What {
-    /// No colon stands behind the name of a field.
+    /// No colon follows the name of a field.
     NoColon,
     /// The name of a field is empty, begins with `#` or `-`, or has a byte that does not print.
     BadField,
-    /// The field stood in this paragraph before.
+    /// The field stands in this paragraph twice.
     RepeatedField,
-    /// A line that goes on with a field is the first one of its paragraph.
+    /// A continuation line is the first line of its paragraph.
     LooseContinuation,
-    /// A paragraph has no field Package. Told at its last line.
+    /// A paragraph has no field Package. Reported at its last line.
     NoPackage,
-    /// A package that counts has no version. Told at its last line.
+    /// An installed package has no version. Reported at its last line.
     NoVersion,
-    /// A status is not three words of which the third is a known state, or is wanting. What is wanting is told at the
-    /// last line of the paragraph.
+    /// A status is missing, or is not three words of which the third is a known state. A missing one is reported at
+    /// the last line of the paragraph.
     BadStatus,
     /// A value that is used is empty, has a byte that does not print, or is not of its form.
     BadValue,
-    /// A package of apk has no name. Told at its last line.
+    /// A package of apk has no name. Reported at its last line.
     NoName,
-    /// The letter stood in this package of apk before.
+    /// The letter stands in this package of apk twice.
     Repeated,
 }
 

@@ -3,7 +3,7 @@ use crate::package::Package;
 use cv_seq::Text;
 
 /// An advisory of a feed affects a package. `fixed` is the version that has the fix, where one is named.
-#[derive(Clone, Debug, PartialEq, Eq, PartialOrd, Ord, Drop)]
+#[derive(Clone, Debug, PartialEq, Eq, Drop)]
 pub struct Finding {
     pub package: Package,
     pub feed: Text,
@@ -20,7 +20,7 @@ pub enum Reason {
 }
 
 /// A row of a notification: what changed for an image.
-#[derive(Clone, Debug, PartialEq, Eq, PartialOrd, Ord, Drop)]
+#[derive(Clone, Debug, PartialEq, Eq, Drop)]
 pub struct Row {
     pub image: Digest,
     pub reason: Reason,

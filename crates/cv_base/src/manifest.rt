@@ -1,8 +1,8 @@
 use crate::digest::Digest;
 use cv_seq::Seq;
 
-/// An image, by its digest and those of its layers, the base first. A layer may stand more than once.
-#[derive(Clone, Debug, PartialEq, Eq, PartialOrd, Ord, Drop)]
+/// An image: its digest and those of its layers, the base first. A layer may occur more than once.
+#[derive(Clone, Debug, PartialEq, Eq, Drop)]
 pub struct Manifest {
     pub hash: Digest,
     pub layers: Seq<Digest>,

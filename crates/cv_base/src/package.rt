@@ -9,9 +9,9 @@ pub enum PackageKind {
     Npm,
 }
 
-/// An installed package. `path` is the package file that names it. `source` and `source_version` are
-/// those of the source package from which it was built, and its own where it has none besides.
-/// Packages are ordered by these fields, as they stand.
+/// An installed package. `path` is the package file that names it. `source` and `source_version` are those of the
+/// source package from which it was built, and its own if none is named. Packages are ordered by these fields, the
+/// first one first.
 #[derive(Clone, Debug, PartialEq, Eq, PartialOrd, Ord, Drop)]
 pub struct Package {
     pub kind: PackageKind,

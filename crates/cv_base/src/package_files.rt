@@ -1,10 +1,10 @@
-ghost use Rattle.std.specs.Prelude.{◌≡◌, ◌≤◌, ◌∷◌, length, codes};
-ghost use Rattle.std.specs.List.{list_any, slice_split};
-ghost use Rattle.std.specs.Option.{option_map, option_or};
-ghost use Rattle.cv_base.specs.Cuts.{left_len, parts_left};
-ghost use Rattle.cv_base.specs.Path.{components, is_slash};
-ghost use Rattle.cv_base.specs.Place.{ends_with, fixed_place, is_in_status_folder, is_npm, is_scope, is_status_name, names_package, open_place, place_of};
+ghost use Rattle.std.specs.Prelude.{◌≡◌, ◌≤◌, ◌∷◌, ◌==◌, length, codes};
+ghost use Rattle.std.specs.List.{ends_with, slice_split};
+ghost use Rattle.std.specs.Option.{option_map};
+ghost use Rattle.cv_base.specs.Path.{components, is_slash, parent_of, same_path};
+ghost use Rattle.cv_base.specs.Place.{fixed_places, is_npm, is_scope, is_status_file, is_status_name, names_package, open_place, place_in, place_of};
 ghost use Rattle.cv_base.specs.Texts.{same};
+ghost use Rattle.cv_base.specs.code.Cuts.{remaining_len, remaining_parts};
 
 use crate::path::RelPath;
 use crate::places::Place;
@@ -14,99 +14,106 @@ use crate::text::split_first;
 pub fn place(path: &RelPath) -> Option<Place>
     ensures { result ≡ place_of path.now }
 {
-    place_of_text(path.plain_text())
-}
-
-/// The same, of the path's text.
-fn place_of_text(text: &str) -> Option<Place>
-    ensures { result ≡ option_or (fixed_place text.now) (open_place text.now (components text.now)) }
-{
-    match fixed_place(text) {
+    match fixed_place(path) {
         Some(place) => Some(place),
-        None => open_place(text.as_bytes()),
+        None => open_place(path),
     }
 }
 
 /// The places that have one path.
-fn fixed_place(text: &str) -> Option<Place>
-    ensures { result ≡ fixed_place text.now }
+fn fixed_place(path: &RelPath) -> Option<Place>
+    ensures { result ≡ place_in fixed_places path.now }
 {
-    if text == "var/lib/dpkg/status" {
+    if is_at(path, "var/lib/dpkg/status") {
         Some(Place::Status)
-    } else if text == "lib/apk/db/installed" {
+    } else if is_at(path, "lib/apk/db/installed") {
         Some(Place::Installed)
-    } else if text == "usr/lib/apk/db/installed" {
+    } else if is_at(path, "usr/lib/apk/db/installed") {
         Some(Place::UsrInstalled)
-    } else if text == "etc/os-release" {
+    } else if is_at(path, "etc/os-release") {
         Some(Place::Os)
-    } else if text == "usr/lib/os-release" {
+    } else if is_at(path, "usr/lib/os-release") {
         Some(Place::UsrOs)
     } else {
         None
     }
 }
 
-/// The places that many paths have.
-#[tactic(auto, using(crate::proofs::PlaceLemmas::npm_components))]
-fn open_place(text: &[u8]) -> Option<Place>
-    ensures { result ≡ open_place text.now (components text.now) }
+/// Whether a path has these components.
+fn is_at(path: &RelPath, text: &str) -> bool
+    ensures { result ≡ same_path path.now (components text.now) }
 {
-    if is_in_status_folder(text) {
+    path.text() == text
+}
+
+/// The places that many paths are.
+fn open_place(path: &RelPath) -> Option<Place>
+    ensures { result ≡ open_place path.now }
+{
+    if is_status_file(path) {
         Some(Place::StatusFolder)
-    } else if is_npm(text) {
+    } else if is_npm_file(path) {
         Some(Place::Npm)
     } else {
         None
     }
 }
 
-/// Whether a text lies right in the folder of status files.
-fn is_in_status_folder(text: &[u8]) -> bool
-    ensures { result ≡ is_in_status_folder text.now }
+/// Whether a path lies right in the folder of status files.
+fn is_status_file(path: &RelPath) -> bool
+    ensures { result ≡ is_status_file path.now }
 {
-    match text.strip_prefix(b"var/lib/dpkg/status.d/") {
-        Some(name) => is_status_name(name),
+    is_in(path, "var/lib/dpkg/status.d") && is_status_name(path.file_name())
+}
+
+/// Whether the directory of a path has these components.
+fn is_in(path: &RelPath, text: &str) -> bool
+    ensures { result ≡ same_path (parent_of path.now) (components text.now) }
+{
+    path.parent_text() == text
+}
+
+/// Whether a file of that folder is read.
+fn is_status_name(name: Option<&str>) -> bool
+    ensures { result ≡ is_status_name (option_map (λ text. text.now) name.entry) }
+{
+    match name {
+        Some(name) => !is_list_of_checksums(name.as_bytes()),
         None => false,
     }
 }
 
-/// Whether a file of that folder is read.
-fn is_status_name(name: &[u8]) -> bool
-    ensures { result ≡ is_status_name name.now }
-{
-    !has_slash(name) && !is_list_of_checksums(name)
-}
-
-fn has_slash(text: &[u8]) -> bool
-    ensures { result ≡ list_any is_slash text.now }
-{
-    text.iter().any(|byte| *byte == b'/')
-}
-
 fn is_list_of_checksums(name: &[u8]) -> bool
-    ensures { result ≡ ends_with name.now (codes ".md5sums") }
+    ensures { result ≡ ends_with ◌==◌ name.now (codes ".md5sums") }
 {
     name.ends_with(b".md5sums")
 }
 
-/// Whether a path ends in the package.json of a package below a `node_modules`.
+/// Whether a path is the package.json of a package below a `node_modules`.
+fn is_npm_file(path: &RelPath) -> bool
+    ensures { result ≡ is_npm path.now }
+{
+    is_npm(path.text().as_bytes())
+}
+
+/// Whether a text ends in the package.json of a package below a `node_modules`.
 fn is_npm(text: &[u8]) -> bool
     ensures { result ≡ is_npm (slice_split is_slash text.now) }
 {
-    let mut left = Some(text);
-    while let Some(rest) = left {
+    let mut remaining = Some(text);
+    while let Some(rest) = remaining {
         let (part, after) = cut(rest);
         if part == b"node_modules".as_slice() && names_package_after(after) {
             return true;
         }
-        left = after;
+        remaining = after;
     }
     false
 }
 
-/// Whether what stands behind `node_modules/`, if anything does, names a package's own file.
+/// Whether the text after `node_modules/`, if there is one, names a package's own file.
 fn names_package_after(after: Option<&[u8]>) -> bool
-    ensures { result ≡ names_package (parts_left is_slash (option_map (λ text. text.now) after.entry)) }
+    ensures { result ≡ names_package (remaining_parts is_slash (option_map (λ text. text.now) after.entry)) }
 {
     match after {
         Some(text) => names_package(text),
@@ -146,10 +153,10 @@ fn is_scope(name: &[u8]) -> bool
     matches!(name, [b'@', _, ..])
 }
 
-/// The first component, and what stands behind its slash.
+/// The first component, and what stands after its slash.
 fn cut(text: &[u8]) -> (&[u8], Option<&[u8]>)
-    ensures parts { slice_split is_slash text.now ≡ result.0.now ∷ parts_left is_slash (option_map (λ rest. rest.now) result.1) }
-    ensures shorter { left_len (option_map (λ rest. rest.now) result.1) ≤ length text.now }
+    ensures parts { slice_split is_slash text.now ≡ result.0.now ∷ remaining_parts is_slash (option_map (λ rest. rest.now) result.1) }
+    ensures shorter { remaining_len (option_map (λ rest. rest.now) result.1) ≤ length text.now }
 {
     split_first(text, b'/')
 }

@@ -1,10 +1,16 @@
-ghost use Rattle.std.specs.Prelude.{◌≡◌, ◌↔◌, ◌==◌, ◌&&◌, ◌<◌, IsTrue, [], IfOk, MatchResult, map};
-ghost use Rattle.std.specs.List.{list_all, list_any, join_with_byte, AllByRecursion, slice_split};
+ghost use Rattle.std.specs.Prelude.{◌≡◌, ◌≤◌, [], IfOk, List, ℕ, length, take, true};
+ghost use Rattle.std.specs.List.{list_all};
+ghost use Rattle.std.specs.Option.{option_map};
 ghost use Rattle.cv_base.specs.Answer.{Gives};
-ghost use Rattle.cv_base.specs.Path.{components, is_above, is_component, is_slash, is_special, path_of, path_cmp};
-ghost use Rattle.cv_base.specs.PathText.{goes_on, rank, text_cmp, HasNoNul, is_above_text};
+ghost use Rattle.cv_base.specs.Path.{Path, IsPath, beside, components, file_name_of, is_above, is_name, parent_of, path_cmp, path_of, path_text};
 ghost use Rattle.cv_base.specs.Reading.{is_path_memory};
+ghost use Rattle.cv_base.specs.Texts.{is_cons};
 
+use crate::limits::MAX_PATH_LEN;
+use crate::path_text::{
+    are_components, count_components, front_order, is_above_text, is_name, is_too_long, joined,
+    split_last, text_order,
+};
 use cv_seq::{NoMemory, Text};
 use std::alloc::{AllocError, Global};
 use std::cmp::Ordering;
@@ -12,10 +18,7 @@ use std::fmt;
 use std::marker::Model;
 use thiserror::Error;
 
-/// The most bytes of a path.
-pub const MAX_PATH_LEN: usize = 4096;
-
-/// Why a text is no path.
+/// Why a text is not a path.
 #[derive(Clone, Copy, Debug, PartialEq, Eq, Error)]
 pub enum PathError {
     #[error("a path has at least one component")]
@@ -39,8 +42,9 @@ impl From<NoMemory> for PathError {
     }
 }
 
-/// A path within a layer, relative to its top. Contracts see it as the list of its components. Paths are
-/// ordered by them, and not as joined texts: `a/b` comes before `a-b`. A copy shares the text.
+/// A path within a layer, relative to its top: the top itself, or what `read` accepts. Contracts see it as the list
+/// of its components. Paths are ordered by them, and not as joined texts: `a/b` comes before `a-b`. A copy shares
+/// the text.
 #[derive(Drop)]
 pub struct RelPath {
     inner: Option<Text>,
@@ -48,15 +52,13 @@ pub struct RelPath {
 
 impl Model for RelPath {
     ghost use Rattle.std.specs.Prelude.{ℕ, List, [], unwrap_or};
-    ghost use Rattle.cv_base.specs.Path.{components};
-    ghost use Rattle.cv_base.specs.PathText.{HasNoNul};
+    ghost use Rattle.cv_base.specs.Path.{IsPath, components};
 
     ghost Value = { List (List ℕ) };
 
     ghost view = { λ p. components (unwrap_or p.inner []) };
 
-    // The order of two texts is that of their components where no byte is below the slash's rank.
-    ghost invariant = { λ p. HasNoNul (unwrap_or p.inner []) };
+    ghost invariant = { λ p. IsPath (components (unwrap_or p.inner [])) };
 }
 
 impl RelPath {
@@ -75,7 +77,7 @@ impl RelPath {
         if text.is_empty() {
             return Err(PathError::Empty);
         }
-        if text.len() > MAX_PATH_LEN {
+        if is_too_long(text) {
             return Err(PathError::TooLong);
         }
         if !are_components(text) {
@@ -87,24 +89,95 @@ impl RelPath {
     }
 
     /// The components with `/` between them, and the empty text for the top.
+    #[tactic(auto, using(crate::proofs::PathReads::path_short))]
     pub fn text(&self) -> &str
-        ensures value { result.now ≡ join_with_byte 47 self.now }
+        ensures value { result.now ≡ path_text self.now }
         ensures parts { components result.now ≡ self.now }
+        ensures accepted { IsPath self.now }
+        ensures at_most { length result.now ≤ MAX_PATH_LEN }
     {
-        self.plain_text()
+        self.inner_text()
+    }
+
+    /// The directory of the path. That of the top is the top.
+    pub fn parent(&self, alloc: Global) -> Result<RelPath, NoMemory>
+        ensures { IfOk result (λ parent. parent ≡ parent_of self.now) }
+    {
+        Ok(RelPath {
+            inner: Some(Text::of(alloc, self.parent_text())?),
+        })
+    }
+
+    /// The text of the directory.
+    pub fn parent_text(&self) -> &str
+        ensures value { result.now ≡ path_text (parent_of self.now) }
+        ensures parts { components result.now ≡ parent_of self.now }
+        ensures accepted { IsPath (parent_of self.now) }
+    {
+        match split_last(self.text()) {
+            Some((directory, _)) => directory,
+            None => "",
+        }
+    }
+
+    /// The name of the path in its directory. The top has none.
+    pub fn file_name(&self) -> Option<&str>
+        ensures { option_map (λ name. name.now) result ≡ file_name_of self.now }
+    {
+        let text = self.text();
+        match split_last(text) {
+            Some((_, name)) => Some(name),
+            None if text.is_empty() => None,
+            None => Some(text),
+        }
+    }
+
+    /// The path with this name in the same directory. The name is tested before the length.
+    pub fn with_file_name(&self, alloc: Global, name: &str) -> Result<RelPath, PathError>
+        ensures { Gives is_path_memory (λ p. p) result (beside self.now name.now) }
+    {
+        if !is_name(name.as_bytes()) {
+            return Err(PathError::BadComponent);
+        }
+        let text = joined(alloc, self.parent_text(), name)?;
+        if is_too_long(text.as_str()) {
+            return Err(PathError::TooLong);
+        }
+        Ok(RelPath {
+            inner: Some(Text::of(alloc, text.as_str())?),
+        })
+    }
+
+    /// The number of components.
+    pub fn depth(&self) -> usize
+        ensures { result ≡ length self.now }
+    {
+        count_components(self.text().as_bytes())
+    }
+
+    /// The order of this path and of the first components of the other one, so many of them.
+    pub fn compare_front(&self, other: &RelPath, depth: usize) -> Ordering
+        ensures { result ≡ path_cmp self.now (take depth other.now) }
+    {
+        let text = self.text().as_bytes();
+        if depth == 0 {
+            text_order(text, b"")
+        } else {
+            front_order(text, other.text().as_bytes(), depth - 1)
+        }
     }
 
     /// Whether this path is a proper prefix of the other one.
     pub fn is_above(&self, other: &RelPath) -> bool
         ensures { result ≡ is_above self.now other.now }
     {
-        is_above_text(self.plain_text().as_bytes(), other.plain_text().as_bytes())
+        is_above_text(self.text().as_bytes(), other.text().as_bytes())
     }
 
-    /// The text, with what the order rests on.
-    pub(crate) fn plain_text(&self) -> &str
+    /// The text that is kept, and the empty one for the top.
+    fn inner_text(&self) -> &str
         ensures parts { components result.now ≡ self.now }
-        ensures plain { HasNoNul result.now }
+        ensures accepted { IsPath self.now }
     {
         match &self.inner {
             None => "",
@@ -113,95 +186,18 @@ impl RelPath {
     }
 }
 
-/// Whether the path of one text is above that of another.
-fn is_above_text(upper: &[u8], lower: &[u8]) -> bool
-    ensures { result ≡ is_above_text upper.now lower.now }
-{
-    if upper.is_empty() {
-        !lower.is_empty()
-    } else {
-        goes_on(upper, lower)
-    }
-}
-
-/// Whether a text is components with slashes between them.
-fn are_components(text: &str) -> bool
-    ensures { result ≡ list_all is_component (slice_split is_slash text.now) }
-{
-    text.split('/')
-        .all(|component| is_component(component.as_bytes()))
-}
-
-/// Whether a text may stand between two slashes.
-fn is_component(text: &[u8]) -> bool
-    ensures { result ≡ is_component text.now }
-{
-    !is_special(text) && !has_nul(text)
-}
-
-/// Whether a text has a NUL.
-fn has_nul(text: &[u8]) -> bool
-    ensures { result ≡ list_any (λ b. b == 0) text.now }
-{
-    text.iter().any(|byte| *byte == 0)
-}
-
-/// Whether a text is empty, `.` or `..`, which are no components of a path.
-pub fn is_special(text: &[u8]) -> bool
-    ensures { result ≡ is_special text.now }
-{
-    text == b"".as_slice() || text == b".".as_slice() || text == b"..".as_slice()
-}
-
-/// Whether the second text goes on with a slash where the first one ends.
-fn goes_on(upper: &[u8], lower: &[u8]) -> bool
-    ensures { result ≡ goes_on upper.now lower.now }
-{
-    let mut left = upper;
-    let mut right = lower;
-    while let [x, xs @ ..] = left {
-        let [y, ys @ ..] = right else {
-            return false;
-        };
-        if x != y {
-            return false;
-        }
-        left = xs;
-        right = ys;
-    }
-    matches!(right, [b'/', ..])
-}
-
-/// The rank of a byte among the bytes of a path: a slash comes before all else.
-fn rank(byte: u8) -> u8
-    ensures { result ≡ rank byte }
-{
-    if byte == b'/' { 0 } else { byte }
-}
-
-/// The order of two texts by the ranks of their bytes.
-fn text_order(one: &[u8], other: &[u8]) -> Ordering
-    ensures { result ≡ text_cmp one.now other.now }
-{
-    let mut left = one;
-    let mut right = other;
-    while let [x, xs @ ..] = left {
-        let [y, ys @ ..] = right else {
-            return Ordering::Greater;
-        };
-        match rank(*x).cmp(&rank(*y)) {
-            Ordering::Equal => {}
-            order => return order,
-        }
-        left = xs;
-        right = ys;
-    }
-    if right.is_empty() {
-        Ordering::Equal
-    } else {
-        Ordering::Less
-    }
-}
+/// What holds of all paths. A text that reads as a path is the path's own, `spelled`. What is read is a path, `read`,
+/// and a path other than the top reads back from its text, `reads_back`. So its text has at most 4,096 bytes, `at_most`,
+/// and each component is the name of an entry: not empty, not `.` or `..`, without `/` and without NUL, `names`. All
+/// such lists of names are paths, `enough`.
+pub fn path_laws()
+    ensures spelled { (text : List ℕ) (path : Path) → path_of text ≡ Ok path → path_text path ≡ text }
+    ensures read { (text : List ℕ) (path : Path) → path_of text ≡ Ok path → IsPath path }
+    ensures reads_back { (path : Path) → IsPath path → is_cons path ≡ true → path_of (path_text path) ≡ Ok path }
+    ensures at_most { (path : Path) → IsPath path → length (path_text path) ≤ MAX_PATH_LEN }
+    ensures names { (path : Path) → IsPath path → list_all is_name path ≡ true }
+    ensures enough { (path : Path) → list_all is_name path ≡ true → length (path_text path) ≤ MAX_PATH_LEN → IsPath path }
+{}
 
 impl Clone for RelPath {
     ghost is_clone = { λ x y. y ≡ x };
@@ -269,6 +265,6 @@ impl Ord for RelPath {
     ghost matches_eq = { lists_ties (slice_cmp nat_cmp) texts_ties };
 
     fn cmp(&self, other: &RelPath) -> Ordering {
-        text_order(self.plain_text().as_bytes(), other.plain_text().as_bytes())
+        text_order(self.text().as_bytes(), other.text().as_bytes())
     }
 }

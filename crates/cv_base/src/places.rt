@@ -3,7 +3,7 @@
 pub enum Place {
     /// `var/lib/dpkg/status` (dpkg(1), FILES).
     Status,
-    /// A file of `var/lib/dpkg/status.d/` that is no list of checksums, as images without dpkg have them.
+    /// A file of `var/lib/dpkg/status.d/` other than a list of checksums, as images without dpkg have them.
     StatusFolder,
     /// `lib/apk/db/installed` (apk(8)).
     Installed,

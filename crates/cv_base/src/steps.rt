@@ -3,7 +3,7 @@ ghost use Rattle.std.specs.Prelude.{◌≡◌, ◌<◌, ◌+◌};
 use std::marker::Model;
 use std::sync::ledger::{Blank, Book, Ledger, Share};
 
-/// A count of steps that takes no bytes when the program runs. Contracts see it as a number.
+/// A count of steps that takes no memory when the program runs. Contracts see it as a number.
 #[derive(Drop)]
 pub struct Steps<L: Ledger> {
     book: Book<L>,

@@ -2,9 +2,10 @@
 ghost use Rattle.std.specs.Prelude.{◌≡◌, ◌∷◌, ◌==◌, ◌<◌, ◌≤◌, IfSome, Some, length};
 ghost use Rattle.std.specs.List.{position, slice_split};
 ghost use Rattle.std.specs.Option.{option_map};
-ghost use Rattle.cv_base.specs.Cuts.{cut, is_blank, is_dropped, left_len, parts_left, split_left, without_end};
+ghost use Rattle.cv_base.specs.Cuts.{cut, is_blank, is_dropped, without_end};
+ghost use Rattle.cv_base.specs.code.Cuts.{remaining_len, remaining_lines, remaining_parts};
 
-/// What stands before the first of these bytes, and what behind it.
+/// The text before the first of these bytes, and the text after it.
 #[tactic(auto, using(crate::proofs::Cuts::cut_is))]
 pub fn cut_at(text: &[u8], byte: u8) -> Option<(&[u8], &[u8])>
     ensures parts { option_map (λ p. (p.0.now, p.1.now)) result ≡ cut (λ b. b == byte) text.now }
@@ -25,11 +26,11 @@ fn find(text: &[u8], byte: u8) -> Option<usize>
     text.iter().position(|b| *b == byte)
 }
 
-/// What stands before the first of these bytes, and what behind it; all of a text that has none.
+/// The text before the first of these bytes, and the text after it; the whole text if it has none.
 #[tactic(auto, using(crate::proofs::Cuts::split_cut))]
 pub(crate) fn split_first(text: &[u8], byte: u8) -> (&[u8], Option<&[u8]>)
-    ensures parts { slice_split (λ b. b == byte) text.now ≡ result.0.now ∷ parts_left (λ b. b == byte) (option_map (λ s. s.now) result.1) }
-    ensures shorter { left_len (option_map (λ s. s.now) result.1) ≤ length text.now }
+    ensures parts { slice_split (λ b. b == byte) text.now ≡ result.0.now ∷ remaining_parts (λ b. b == byte) (option_map (λ s. s.now) result.1) }
+    ensures shorter { remaining_len (option_map (λ s. s.now) result.1) ≤ length text.now }
 {
     match cut_at(text, byte) {
         Some((front, rest)) => (front, Some(rest)),
@@ -37,10 +38,10 @@ pub(crate) fn split_first(text: &[u8], byte: u8) -> (&[u8], Option<&[u8]>)
     }
 }
 
-/// The first line, and what stands behind its LF, if it has one.
+/// The first line, and the text after its LF, if it has one.
 pub fn next_line(bytes: &[u8]) -> (&[u8], Option<&[u8]>)
-    ensures lines { split_left (Some bytes.now) ≡ result.0.now ∷ split_left (option_map (λ s. s.now) result.1) }
-    ensures shorter { left_len (option_map (λ s. s.now) result.1) ≤ length bytes.now }
+    ensures lines { remaining_lines (Some bytes.now) ≡ result.0.now ∷ remaining_lines (option_map (λ s. s.now) result.1) }
+    ensures shorter { remaining_len (option_map (λ s. s.now) result.1) ≤ length bytes.now }
 {
     split_first(bytes, b'\n')
 }
@@ -50,14 +51,14 @@ pub fn next_line(bytes: &[u8]) -> (&[u8], Option<&[u8]>)
 pub fn trim_line(line: &[u8]) -> &[u8]
     ensures { result.now ≡ without_end is_dropped line.now }
 {
-    let mut left = line;
-    while let Some((last, front)) = left.split_last() {
+    let mut kept = line;
+    while let Some((last, front)) = kept.split_last() {
         if !is_dropped(*last) {
-            return left;
+            return kept;
         }
-        left = front;
+        kept = front;
     }
-    left
+    kept
 }
 
 /// Whether a byte is dropped at the end of a line: a blank or a CR.

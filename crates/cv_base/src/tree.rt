@@ -1,9 +1,6 @@
 use crate::path::RelPath;
 use cv_seq::Seq;
 
-/// The most bytes that a package file may have to be read.
-pub const PACKAGE_FILE_LIMIT: u32 = 33_554_432;
-
 /// What stands at a path of a layer. A link or any special file is `Other`.
 #[derive(Clone, Copy, Debug, PartialEq, Eq, PartialOrd, Ord)]
 pub enum Kind {
@@ -12,7 +9,7 @@ pub enum Kind {
     Other,
 }
 
-/// An entry of a layer's listing. `size` counts the bytes of a file, and is 0 for all else.
+/// An entry of a layer's listing. `size` is the number of bytes of a file, and 0 for all else.
 #[derive(Clone, Debug, PartialEq, Eq, PartialOrd, Ord, Drop)]
 pub struct ListEntry {
     pub path: RelPath,
@@ -20,9 +17,9 @@ pub struct ListEntry {
     pub size: u64,
 }
 
-/// What is known of a file: its bytes, that it is above the limit for package files, or nothing,
-/// since it lies away from the places of package files.
-#[derive(Clone, Debug, PartialEq, Eq, PartialOrd, Ord, Drop)]
+/// What is known of a file: its bytes, that it is above the limit for package files, or nothing, since it is at no
+/// place of package files.
+#[derive(Clone, Debug, PartialEq, Eq, Drop)]
 pub enum Content {
     Bytes(Seq<u8>),
     TooLarge,
@@ -30,7 +27,7 @@ pub enum Content {
 }
 
 /// What stands at a path, with what is known of a file.
-#[derive(Clone, Debug, PartialEq, Eq, PartialOrd, Ord, Drop)]
+#[derive(Clone, Debug, PartialEq, Eq, Drop)]
 pub enum Node {
     Dir,
     File(Content),
@@ -38,14 +35,14 @@ pub enum Node {
 }
 
 /// A path of a layer, and what stands there.
-#[derive(Clone, Debug, PartialEq, Eq, PartialOrd, Ord, Drop)]
+#[derive(Clone, Debug, PartialEq, Eq, Drop)]
 pub struct TreeEntry {
     pub path: RelPath,
     pub node: Node,
 }
 
 /// A layer, as the list of its entries.
-#[derive(Clone, Debug, PartialEq, Eq, PartialOrd, Ord, Drop)]
+#[derive(Clone, Debug, PartialEq, Eq, Drop)]
 pub struct Tree {
     pub entries: Seq<TreeEntry>,
 }

@@ -23,7 +23,7 @@ tildes = (refl, refl, refl, refl)
 candidate : version_cmp (codes "1.0~rc1") (codes "1.0") ≡ Less
 candidate = refl
 
--- an absent revision is `0`, and a build behind the revision is more
+-- an absent revision is `0`, and a build after the revision is more
 revisions : (version_cmp (codes "1.0") (codes "1.0-0") ≡ Equal) × (version_cmp (codes "1.0-1") (codes "1.0-1+b1") ≡ Less)
 revisions = (refl, refl)
 

@@ -62,15 +62,15 @@ last_place : (p : ℕ → Bool) (xs ys : List ℕ) (y : ℕ) → list_any p ys �
 last_place p [] ys y none e = rw (last_none p ys none, e) refl
 last_place p (x ∷ xs) ys y none e = rw (last_place p xs ys y none e) (simp add-one)
 
--- What stands before and behind a byte.
-behind_byte : (xs ys : List ℕ) (y : ℕ) → drop (length xs + 1) (xs ++ y ∷ ys) ≡ ys
-behind_byte xs ys y = sym (drop-drop 1 (length xs) (xs ++ y ∷ ys)) ∙ ap (drop 1) (drop_at xs (y ∷ ys) (length xs) refl)
+-- What comes before and after a byte.
+after_byte : (xs ys : List ℕ) (y : ℕ) → drop (length xs + 1) (xs ++ y ∷ ys) ≡ ys
+after_byte xs ys y = sym (drop-drop 1 (length xs) (xs ++ y ∷ ys)) ∙ ap (drop 1) (drop_at xs (y ∷ ys) (length xs) refl)
 
 -- From the grammar to the parts.
 cut_at_colon : (epoch body : List ℕ) → list_any is_colon epoch ≡ false → version_of (epoch ++ 58 ∷ body) ≡ with_epoch epoch body
 cut_at_colon epoch body none =
     ap (split_at_colon (epoch ++ 58 ∷ body)) (position_first is_colon epoch body 58 none refl)
-    ∙ rw (take_at epoch (58 ∷ body) (length epoch) refl, behind_byte epoch body 58) refl
+    ∙ rw (take_at epoch (58 ∷ body) (length epoch) refl, after_byte epoch body 58) refl
 
 cut_at_no_colon : (body : List ℕ) → list_any is_colon body ≡ false → version_of body ≡ with_epoch (codes "0") body
 cut_at_no_colon body none = ap (split_at_colon body) (position_none is_colon body none)
@@ -78,7 +78,7 @@ cut_at_no_colon body none = ap (split_at_colon body) (position_none is_colon bod
 cut_at_hyphen : (epoch upstream revision : List ℕ) → list_any is_hyphen revision ≡ false → with_epoch epoch (upstream ++ 45 ∷ revision) ≡ record { epoch = epoch; upstream = upstream; revision = revision }
 cut_at_hyphen epoch upstream revision none =
     ap (split_at_hyphen epoch (upstream ++ 45 ∷ revision)) (last_place is_hyphen upstream revision 45 none refl)
-    ∙ rw (take_at upstream (45 ∷ revision) (length upstream) refl, behind_byte upstream revision 45) refl
+    ∙ rw (take_at upstream (45 ∷ revision) (length upstream) refl, after_byte upstream revision 45) refl
 
 cut_at_no_hyphen : (epoch upstream : List ℕ) → list_any is_hyphen upstream ≡ false → with_epoch epoch upstream ≡ record { epoch = epoch; upstream = upstream; revision = codes "0" }
 cut_at_no_hyphen epoch upstream none = ap (split_at_hyphen epoch upstream) (last_none is_hyphen upstream none)
@@ -113,8 +113,8 @@ is_version-from_IsVersion text v = ap is_version v.written ∙ written_passes v.
 parted_by : (xs : List ℕ) (y place : ℕ) → place < length xs → get_or xs place 0 ≡ y → xs ≡ take place xs ++ y ∷ drop (place + 1) xs
 parted_by xs y place inside e = sym (take-append-drop place xs) ∙ ap (λ ys. take place xs ++ ys) (drop_more xs place 0 inside ∙ rw e refl)
 
--- a byte that stands last is there, by whether more stand behind the first and whether the first passes
-last_by : (p : ℕ → Bool) (y x : ℕ) (xs : List ℕ) (behind : Option ℕ) (here : Bool) → ((x : ℕ) → p x ≡ true → x ≡ y) → last_position p xs ≡ behind → p x ≡ here
+-- a byte that stands last is there, by whether more come after the first and whether the first passes
+last_by : (p : ℕ → Bool) (y x : ℕ) (xs : List ℕ) (after : Option ℕ) (here : Bool) → ((x : ℕ) → p x ≡ true → x ≡ y) → last_position p xs ≡ after → p x ≡ here
     → ((place : ℕ) → last_position p xs ≡ Some place → (place < length xs) × (get_or xs place 0 ≡ y)) → (place : ℕ) → last_position p (x ∷ xs) ≡ Some place → (place < length (x ∷ xs)) × (get_or (x ∷ xs) place 0 ≡ y)
 last_by p y x xs (Some n) here means e t more place h =
     let k : (n < length xs) × (get_or xs n 0 ≡ y) = more n e in
@@ -131,7 +131,7 @@ last_is : (p : ℕ → Bool) (y : ℕ) → ((x : ℕ) → p x ≡ true → x ≡
 last_is p y means [] place h = cc
 last_is p y means (x ∷ xs) place h = last_by p y x xs (last_position p xs) (p x) means refl refl (last_is p y means xs) place h
 
-no_last_by : (p : ℕ → Bool) (x : ℕ) (xs : List ℕ) (behind : Option ℕ) (here : Bool) → last_position p xs ≡ behind → p x ≡ here → (last_position p xs ≡ None → list_any p xs ≡ false) → last_position p (x ∷ xs) ≡ None → list_any p (x ∷ xs) ≡ false
+no_last_by : (p : ℕ → Bool) (x : ℕ) (xs : List ℕ) (after : Option ℕ) (here : Bool) → last_position p xs ≡ after → p x ≡ here → (last_position p xs ≡ None → list_any p xs ≡ false) → last_position p (x ∷ xs) ≡ None → list_any p (x ∷ xs) ≡ false
 no_last_by p x xs (Some n) here e t more h = let q : Some (n + 1) ≡ None = rw e at h in cc
 no_last_by p x xs None true e t more h = let first : ℕ = 0 in let q : Some first ≡ None = rw (e, t) at h in cc
 no_last_by p x xs None false e t more h = rw (t, more e) refl

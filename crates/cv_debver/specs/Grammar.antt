@@ -1,5 +1,5 @@
--- Which texts are versions, after Debian Policy 5.6.12, but for one choice of cvwatch's own: a text with a colon in its
--- upstream version is no version.
+-- Which texts are versions, after Debian Policy 5.6.12, but for one choice defined by this project: a text
+-- with a colon in its upstream version is not a valid version.
 use Rattle.std.specs.Prelude.{◌≡◌, ℕ, Bool, false, IsTrue, ◌&&◌, ◌||◌, ◌==◌, List, ◌∷◌, ◌++◌, length, nat_lt, Option, Some, None, IfSome, IsNone}
 use Rattle.std.specs.List.{list_all, list_any}
 use Rattle.std.specs.Char.{is_ascii_alphanumeric}
@@ -32,7 +32,7 @@ abbrev pub with_colon : Option (List ℕ) → List ℕ → List ℕ
 with_colon None body = body
 with_colon (Some epoch) body = epoch ++ 58 ∷ body
 
--- a revision stands behind a hyphen
+-- a revision comes after a hyphen
 abbrev pub with_hyphen : List ℕ → Option (List ℕ) → List ℕ
 with_hyphen upstream None = upstream
 with_hyphen upstream (Some revision) = upstream ++ 45 ∷ revision

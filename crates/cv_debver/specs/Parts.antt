@@ -1,14 +1,15 @@
 -- How an upstream version or a revision is compared, after Debian Policy 5.6.12: it is cut into pairs of a part without
--- digits and a part of digits, and the first pair that differs decides, the shorter list going on with empty pairs.
-use Rattle.std.specs.Prelude.{ℕ, ◌+◌, not, List, [], ◌∷◌, map, if◌then◌else◌, ◌==◌}
+-- digits and the digits after it, each as long as it can be, and the first pair that differs decides; the shorter list goes
+-- on with empty pairs.
+use Rattle.std.specs.Prelude.{ℕ, ◌+◌, not, zero, suc, List, [], ◌∷◌, length, map, if◌then◌else◌, ◌==◌}
 use Rattle.std.specs.Char.{is_ascii_alphabetic}
 use Rattle.std.specs.declared.cmp.Ordering.{Ordering}
 use Rattle.std.specs.Ordering.{nat_cmp, on, then_cmp}
 use Rattle.std.specs.Cmp.{IsTotalOrder, on_total, then_total, nat_cmp_total}
-use Rattle.cv_order.specs.Digits.{is_digit, front_while, after_while, number_cmp, number_total}
+use Rattle.cv_order.specs.Digits.{is_digit, front_while, after_while, front_digits, after_digits, number_cmp, number_total}
 use Rattle.cv_order.specs.Filled.{filled_cmp, filled_total}
 
--- a part without digits, here a word, and the part of digits behind it; either may be empty
+-- a part without digits, here a word, and the digits after it; either may be empty
 pub data Pair : Type 0 where
   of : List ℕ → List ℕ → Pair
 
@@ -16,33 +17,35 @@ pub data Pair : Type 0 where
 abbrev pub word : Pair → List ℕ
 word (of letters figures) = letters
 
--- the digits behind it
+-- the digits after it
 abbrev pub number : Pair → List ℕ
 number (of letters figures) = figures
 
--- the pairs of a text with one more byte before them: a digit begins a run of digits, if it meets none
-abbrev pub digit_onto : ℕ → List Pair → List Pair
-digit_onto digit [] = of [] (digit ∷ []) ∷ []
-digit_onto digit (of [] figures ∷ rest) = of [] (digit ∷ figures) ∷ rest
-digit_onto digit (of (letter ∷ letters) figures ∷ rest) = of [] (digit ∷ []) ∷ of (letter ∷ letters) figures ∷ rest
-
--- any other byte begins the word of the first pair
-abbrev pub letter_onto : ℕ → List Pair → List Pair
-letter_onto letter [] = of (letter ∷ []) [] ∷ []
-letter_onto letter (of letters figures ∷ rest) = of (letter ∷ letters) figures ∷ rest
-
--- the pairs of a text: each part is as long as it can be
-abbrev pub pairs : List ℕ → List Pair
-pairs [] = []
-pairs (byte ∷ rest) = if is_digit byte then digit_onto byte (pairs rest) else letter_onto byte (pairs rest)
-
--- the word that a text begins with, which may be empty
+-- the longest part without digits that a text begins with
 abbrev pub front_word : List ℕ → List ℕ
 front_word text = front_while (λ byte. not (is_digit byte)) text
 
--- what stands behind that word
+-- what comes after that part
 abbrev pub after_word : List ℕ → List ℕ
 after_word text = after_while (λ byte. not (is_digit byte)) text
+
+-- the first pair of a text: the longest part without digits, then the longest run of digits
+abbrev pub first_pair : List ℕ → Pair
+first_pair text = of (front_word text) (front_digits (after_word text))
+
+-- what comes after the first pair
+abbrev pub after_pair : List ℕ → List ℕ
+after_pair text = after_digits (after_word text)
+
+-- the pairs that a text begins with, at most this many
+abbrev pub first_pairs : ℕ → List ℕ → List Pair
+first_pairs count [] = []
+first_pairs zero (byte ∷ rest) = []
+first_pairs (suc count) (byte ∷ rest) = first_pair (byte ∷ rest) ∷ first_pairs count (after_pair (byte ∷ rest))
+
+-- all pairs of a text, which are no more than its bytes
+abbrev pub pairs : List ℕ → List Pair
+pairs text = first_pairs (length text) text
 
 -- what a byte of a word weighs: `~`, which is 126, less than the word's end, the end less than a letter, a letter less than
 -- any other byte. Policy's numbers are -1, 0, the code and the code plus 256; here each is one higher, so that none is negative.

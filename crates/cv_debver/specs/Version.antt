@@ -14,7 +14,7 @@ pub record Version : Type 0 where
   pub upstream : List ℕ
   pub revision : List ℕ
 
--- the place behind, if there is one, or else this one if it passes
+-- the place after, if there is one, or else this one if it passes
 abbrev pub or_here : Bool → Option ℕ → Option ℕ
 or_here passes (Some place) = Some (place + 1)
 or_here true None = Some 0
@@ -33,7 +33,7 @@ is_colon byte = byte == 58
 abbrev pub is_hyphen : ℕ → Bool
 is_hyphen byte = byte == 45
 
--- upstream and revision of what stands behind the epoch: the last hyphen parts them, and an absent revision is `0`
+-- upstream and revision of what comes after the epoch: the last hyphen parts them, and an absent revision is `0`
 abbrev pub split_at_hyphen : List ℕ → List ℕ → Option ℕ → Version
 split_at_hyphen epoch text (Some place) = record { epoch = epoch; upstream = take place text; revision = drop (place + 1) text }
 split_at_hyphen epoch text None = record { epoch = epoch; upstream = text; revision = codes "0" }

@@ -6,8 +6,8 @@ ghost use Rattle.cv_debver.specs.Grammar.{IsVersion, is_revision_byte, is_upstre
 use crate::version::split;
 use cv_order::are_digits;
 
-/// Whether the text is a version: `[epoch:]upstream[-revision]`, where the epoch is what stands before the first colon and the
-/// revision what stands behind the last hyphen. A text with a colon in its upstream version is none.
+/// Whether the text is a version: `[epoch:]upstream[-revision]`. The epoch comes before the first colon, and the revision
+/// after the last hyphen. A text with a colon in its upstream version is not a version.
 pub fn is_version(text: &[u8]) -> bool
     ensures value { result ≡ is_version text.now }
     ensures grammar { IsTrue result ↔ IsVersion text.now }

@@ -1,4 +1,4 @@
-//! Tells which texts are versions of Debian packages and compares two, after Debian Policy 5.6.12. Nothing here takes memory.
+//! Which texts are versions of Debian packages, and how two compare, after Debian Policy 5.6.12. Nothing here takes memory.
 //!
 //! `compare(b"1.0~rc1", b"1.0")` is `Less`, and so is `compare(b"9", b"1:0")`.
 #![tactic(auto)]

@@ -15,7 +15,7 @@ pub(crate) fn compare_parts(a: &[u8], b: &[u8]) -> Ordering
 {
     let mut left = a;
     let mut right = b;
-    while is_some_left(left, right) {
+    while has_more(left, right) {
         let words = compare_words(left, right);
         if words.ordering.is_ne() {
             return words.ordering;
@@ -30,13 +30,13 @@ pub(crate) fn compare_parts(a: &[u8], b: &[u8]) -> Ordering
     Ordering::Equal
 }
 
-fn is_some_left(left: &[u8], right: &[u8]) -> bool
+fn has_more(left: &[u8], right: &[u8]) -> bool
     ensures { IsTrue result ↔ (0 < length left.now + length right.now) }
 {
     !left.is_empty() || !right.is_empty()
 }
 
-/// Compares the words that lead two texts. The rests are told where the words are equal.
+/// Compares the words that lead two texts. If they are equal, the remaining texts follow them.
 fn compare_words<'a>(a: &'a [u8], b: &'a [u8]) -> Compared<'a>
     ensures ordering { result.ordering ≡ word_cmp (front_word a.now) (front_word b.now) }
     ensures left { result.ordering ≡ Ordering.Equal → result.left.now ≡ after_word a.now }
@@ -74,7 +74,7 @@ fn compare_words<'a>(a: &'a [u8], b: &'a [u8]) -> Compared<'a>
     }
 }
 
-/// The byte that leads the text, if it is no digit, and what stands behind it.
+/// The byte that leads the text, if it is not a digit, and what comes after it.
 fn split_letter(text: &[u8]) -> Option<(u8, &[u8])>
     ensures letter { IfSome result (λ found. (text.now ≡ found.0 ∷ found.1.now) × (is_digit found.0 ≡ false)) }
     ensures none { IfNone result ((front_word text.now ≡ []) × (after_word text.now ≡ text.now)) }

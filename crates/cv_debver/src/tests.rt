@@ -124,7 +124,7 @@ const VERSIONS: [&str; 10] = [
     "1.0-+",
 ];
 
-/// Texts that are no versions here. Most of them it refuses as well, but not a colon in the upstream version or a sign
+/// Texts that are not versions here. Most of them it refuses as well, but not a colon in the upstream version or a sign
 /// before the epoch.
 const OTHERS: [&str; 20] = [
     "",
@@ -150,7 +150,7 @@ const OTHERS: [&str; 20] = [
 ];
 
 #[test]
-fn versions_are_told_from_other_texts(rt: HostRuntime) {
+fn versions_are_accepted_and_other_texts_are_not(rt: HostRuntime) {
     for text in VERSIONS {
         assert!(rt; is_version(text.as_bytes()), "{text}");
     }

@@ -12,7 +12,7 @@ const COLON: u8 = b':';
 
 const HYPHEN: u8 = b'-';
 
-/// A text's parts: the epoch before the first colon, the revision behind the last hyphen, and the upstream version between
+/// A text's parts: the epoch before the first colon, the revision after the last hyphen, and the upstream version between
 /// them. An absent epoch is `0`, and so is an absent revision.
 #[derive(Clone, Copy)]
 pub(crate) struct Parts<'a> {

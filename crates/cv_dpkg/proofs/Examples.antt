@@ -22,10 +22,10 @@ bad n w = Err (record { line = n; what = w })
 dropped : without_end is_dropped (codes "a b \r\t") ≡ codes "a b"
 dropped = refl
 
--- words are parted by any number of blanks, and the third one tells the state
-parted : (words (codes "install  ok\tinstalled") ≡ codes "install" ∷ codes "ok" ∷ codes "installed" ∷ []) × (state_of (codes "install ok") ≡ None)
+-- words lie between any number of blanks, and the third one is the state
+between : (words (codes "install  ok\tinstalled") ≡ codes "install" ∷ codes "ok" ∷ codes "installed" ∷ []) × (state_of (codes "install ok") ≡ None)
     × (state_of (codes "install ok Installed") ≡ None) × (state_of (codes "a b unpacked c") ≡ None) × (state_of (codes "a b unpacked") ≡ Some (codes "unpacked"))
-parted = (refl, refl, refl, refl, refl)
+between = (refl, refl, refl, refl, refl)
 
 -- a source is empty, a name, or a name and a version in brackets with blanks between them or none
 sources : (origin_of [] ≡ Some (record { name = None; version = None })) × (origin_of (codes "gcc") ≡ Some (record { name = Some (codes "gcc"); version = None }))
@@ -65,7 +65,7 @@ shaped : status (codes "\n \t\r\npackage:libssl3\nSTATUS:\thold ok config-files\
     ≡ Ok (record { name = codes "libssl3"; version = codes "3.0+b1"; source = codes "openssl"; source_version = codes "3.0"; arch = [] } ∷ [])
 shaped = refl
 
--- a continuation line is passed over, with that of Version too, but for one without a field before it
+-- a continuation line is ignored, that of Version too, unless no field stands before it
 continued : (status (codes "Package: a\nVersion: 1\n .2\n") Optional ≡ Ok (record { name = codes "a"; version = codes "1"; source = codes "a"; source_version = codes "1"; arch = [] } ∷ []))
     × (status (codes "Package: a\nVersion: 1\n\n .2\n") Optional ≡ bad 4 LooseContinuation)
 continued = (refl, refl)

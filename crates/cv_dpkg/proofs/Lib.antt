@@ -1,5 +1,4 @@
 mod Examples
 pub mod Printing
 pub mod SameNames
-pub mod States
-pub mod Told
+pub mod ThirdWord

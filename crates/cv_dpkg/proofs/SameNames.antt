@@ -4,7 +4,7 @@ use Rattle.std.specs.Char.{to_ascii_lowercase}
 use Rattle.std.specs.Cmp.Lexicographic.{texts_ties}
 use Rattle.std.specs.Ordering.{is_eq}
 use Rattle.cv_dpkg.specs.Fields.{same_name}
-use Rattle.cv_dpkg.specs.Names.{name_cmp}
+use Rattle.cv_dpkg.specs.code.Names.{name_cmp}
 
 -- two names are the same where the order puts neither before the other
 pub same_by_order : (a b : List ℕ) → is_eq (name_cmp a b) ≡ same_name a b

@@ -1,21 +1,31 @@
--- What a line of a dpkg status file tells: cvwatch's own profile of it, after deb-control(5) and Debian Policy 5.1. The used
--- fields are Package, Status, Version, Source and Architecture. Every other field is passed over.
-use Rattle.std.specs.Prelude.{ℕ, Bool, false, ◌&&◌, ◌||◌, ◌==◌, if◌then◌else◌, not, List, [], ◌∷◌, map, codes, Option, None, Some}
+-- The lines of a dpkg status file and the values of its fields (Debian Policy 5.1, deb-control(5)), as this project reads them.
+-- The used fields are Package, Status, Version, Source and Architecture. Every other field is ignored.
+use Rattle.std.specs.Prelude.{ℕ, Bool, false, ◌&&◌, ◌||◌, ◌==◌, if◌then◌else◌, not, List, [], ◌∷◌, map, codes, Option, None, Some, option_and_then}
 use Rattle.std.specs.Char.{to_ascii_lowercase}
 use Rattle.std.specs.List.{filter, list_all, list_any, slice_split}
-use Rattle.std.specs.Option.{option_map, option_map_or, option_or}
+use Rattle.std.specs.Option.{option_map}
 use Rattle.cv_base.specs.Cuts.{cut, is_blank, without_end}
 use Rattle.cv_base.specs.Printing.{is_printing}
 use Rattle.cv_base.specs.Texts.{is_nil, same}
-use Rattle.cv_dpkg.specs.Lines.{is_continuation, without_front}
+use Rattle.cv_stanza.specs.Values.{last_value}
 use Rattle.cv_dpkg.specs.declared.field.Field.{Field}
 use Rattle.cv_dpkg.specs.declared.field.Field.TheVariants.{Package, Status, Version, Source, Architecture, Unused}
+
+-- a text without the blanks at its front
+abbrev pub without_front : List ℕ → List ℕ
+without_front [] = []
+without_front (x ∷ xs) = if is_blank x then without_front xs else x ∷ xs
+
+-- a line that continues the field before it begins with a blank
+abbrev pub is_continuation : List ℕ → Bool
+is_continuation [] = false
+is_continuation (x ∷ xs) = is_blank x
 
 -- the byte between a field's name and its value
 abbrev pub is_colon : ℕ → Bool
 is_colon byte = byte == 58
 
--- a field: its name and its value without blanks at the ends (those at the value's end fell with the line's)
+-- a field: its name, and its value without blanks at the ends (those at the value's end are dropped with the line's)
 pub record Pair : Type 0 where
   pub name : List ℕ
   pub value : List ℕ
@@ -24,7 +34,7 @@ pub record Pair : Type 0 where
 abbrev pub pair_in : List ℕ → Option Pair
 pair_in text = option_map (λ p. record { name = p.0; value = without_front p.1 }) (cut is_colon text)
 
--- a line as a field, unless it goes on with another one or has no colon
+-- a line as a field, unless it continues another one or has no colon
 abbrev pub field_of : List ℕ → Option Pair
 field_of text = if is_continuation text then None else pair_in text
 
@@ -59,16 +69,16 @@ abbrev pub is_state : List ℕ → Bool
 is_state word = list_any (same word) (codes "not-installed" ∷ codes "config-files" ∷ codes "half-installed" ∷ codes "unpacked" ∷ codes "half-configured"
     ∷ codes "triggers-awaited" ∷ codes "triggers-pending" ∷ codes "installed" ∷ [])
 
--- the last of three words, which tells the state
-abbrev pub third : List (List ℕ) → Option (List ℕ)
-third (a ∷ b ∷ c ∷ []) = if is_state c then Some c else None
-third ws = None
+-- the last of three words, which is the state
+abbrev pub third_state : List (List ℕ) → Option (List ℕ)
+third_state (a ∷ b ∷ c ∷ []) = if is_state c then Some c else None
+third_state ws = None
 
--- the state that a value of Status tells: want, flag, state (dpkg's own order)
+-- the state in a value of Status: want, flag, state (dpkg's order)
 abbrev pub state_of : List ℕ → Option (List ℕ)
-state_of value = third (words value)
+state_of value = third_state (words value)
 
--- what a value of Source tells
+-- the source package and its version, as a value of Source names them
 pub record Origin : Type 0 where
   pub name : Option (List ℕ)
   pub version : Option (List ℕ)
@@ -89,7 +99,7 @@ is_word_byte byte = is_printing byte && (not (is_open byte) && not (is_close byt
 abbrev pub is_word : List ℕ → Bool
 is_word text = not (is_nil text) && list_all is_word_byte text
 
--- a name, and a version with nothing behind its bracket
+-- a name, and a version with nothing after its bracket
 abbrev pub versioned : List ℕ → Option (List ℕ × List ℕ) → Option Origin
 versioned name None = None
 versioned name (Some p) = if is_word name && (is_word p.0 && is_nil p.1) then Some (record { name = Some name; version = Some p.0 }) else None
@@ -104,7 +114,25 @@ abbrev pub origin_of : List ℕ → Option Origin
 origin_of [] = Some (record { name = None; version = None })
 origin_of (x ∷ xs) = origin_by (x ∷ xs) (cut is_open (x ∷ xs))
 
--- what lines tell of a package: values, the state among the words of Status, and the two parts of Source
+-- the index of a field
+abbrev pub index : Field → ℕ
+index Package = 0
+index Status = 1
+index Version = 2
+index Source = 3
+index Architecture = 4
+index Unused = 5
+
+-- the value that a line gives to a field, if it is that field
+abbrev pub value_by : Field → Option Pair → Option (List ℕ)
+value_by field None = None
+value_by field (Some f) = if index (named f.name) == index field then Some f.value else None
+
+-- the value of a field among lines. (No name stands twice where there is no fault.)
+abbrev pub value : Field → List (List ℕ) → Option (List ℕ)
+value field lines = last_value (λ t. value_by field (field_of t)) lines
+
+-- what lines say of a package: values, the state in Status, and the two parts of Source
 pub record Facts : Type 0 where
   pub name : Option (List ℕ)
   pub state : Option (List ℕ)
@@ -113,35 +141,21 @@ pub record Facts : Type 0 where
   pub source_version : Option (List ℕ)
   pub arch : Option (List ℕ)
 
--- nothing is told
-abbrev pub nothing : Facts
-nothing = record { name = None; state = None; version = None; source = None; source_version = None; arch = None }
+-- the name of a source
+abbrev pub source_name : Option Origin → Option (List ℕ)
+source_name = option_and_then (λ o. o.name)
 
--- what is told by later lines, and else by those before them. (No name stands twice where there is no fault.)
-abbrev pub join : Facts → Facts → Facts
-join later before = record {
-  name = option_or later.name before.name;
-  state = option_or later.state before.state;
-  version = option_or later.version before.version;
-  source = option_or later.source before.source;
-  source_version = option_or later.source_version before.source_version;
-  arch = option_or later.arch before.arch;
+-- the version of a source
+abbrev pub source_version : Option Origin → Option (List ℕ)
+source_version = option_and_then (λ o. o.version)
+
+-- what these lines say of a package
+abbrev pub facts : List (List ℕ) → Facts
+facts lines = record {
+  name = value Package lines;
+  state = option_and_then state_of (value Status lines);
+  version = value Version lines;
+  source = source_name (option_and_then origin_of (value Source lines));
+  source_version = source_version (option_and_then origin_of (value Source lines));
+  arch = value Architecture lines;
 }
-
--- what a value of Source tells of a package
-abbrev pub tells_origin : Option Origin → Facts
-tells_origin None = nothing
-tells_origin (Some o) = record { name = None; state = None; version = None; source = o.name; source_version = o.version; arch = None }
-
--- what a field tells of a package
-abbrev pub tells : Field → List ℕ → Facts
-tells Package v = record { name = Some v; state = None; version = None; source = None; source_version = None; arch = None }
-tells Status v = record { name = None; state = state_of v; version = None; source = None; source_version = None; arch = None }
-tells Version v = record { name = None; state = None; version = Some v; source = None; source_version = None; arch = None }
-tells Source v = tells_origin (origin_of v)
-tells Architecture v = record { name = None; state = None; version = None; source = None; source_version = None; arch = Some v }
-tells Unused v = nothing
-
--- what a line tells of a package
-abbrev pub told_by : List ℕ → Facts
-told_by text = option_map_or (λ f. tells (named f.name) f.value) (field_of text) nothing

@@ -1,9 +1,3 @@
 pub mod Fields
-pub mod Held
-pub mod Lines
-pub mod NameLaws
-pub mod Names
-pub mod Reader
 pub mod Status
-pub mod Values
-pub mod Words
+pub mod code

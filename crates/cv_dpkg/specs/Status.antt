@@ -1,29 +1,28 @@
--- A whole dpkg status file: cvwatch's own profile of it, after deb-control(5) and Debian Policy 5.1.
+-- A whole dpkg status file (Debian Policy 5.1, deb-control(5), dpkg(1)), as this project reads it. An empty line ends a
+-- paragraph, several are one end, and so is the end of the file.
 --
 -- `status bytes rule` takes the bytes of the file and the rule on paragraphs without Status. It gives the packages that
 -- count, in the order of their paragraphs, each as a `DebPackage` (name, version, source, source_version, arch), or the
--- fault at the least faulty line as a `FileBad` (its number from 1, and what is wrong). It lists all faults of all paragraphs
--- in the order in which they count, and answers the first; it stops at none.
-use Rattle.std.specs.Prelude.{ℕ, Bool, true, false, ◌&&◌, ◌||◌, if◌then◌else◌, not, List, [], ◌∷◌, ◌++◌, codes, Option, None, Some, Result, unwrap_or}
-use Rattle.std.specs.List.{flat_map, list_all, list_any}
+-- fault at the least faulty line as a `FileBad` (its number from 1, and what is wrong).
+use Rattle.std.specs.Prelude.{ℕ, Bool, true, false, ◌&&◌, ◌||◌, if◌then◌else◌, not, List, [], ◌∷◌, codes, map, Option, None, Some, Result, unwrap_or}
+use Rattle.std.specs.List.{list_all, list_any, slice_split}
 use Rattle.std.specs.Option.{is_some, option_map_or}
-use Rattle.cv_base.specs.Lines.{Line, at, last_number, line_faults, unless}
+use Rattle.cv_base.specs.Cuts.{is_dropped, is_lf, without_end}
 use Rattle.cv_base.specs.Printing.{is_printing}
 use Rattle.cv_base.specs.Texts.{is_nil, same}
 use Rattle.cv_base.specs.declared.fault.FileBad.{FileBad}
 use Rattle.cv_base.specs.declared.fault.What.{What}
 use Rattle.cv_base.specs.declared.fault.What.TheVariants.{NoColon, BadField, RepeatedField, LooseContinuation, NoPackage, NoVersion, BadStatus, BadValue}
-use Rattle.cv_base.specs.Results.{or_first_fault}
-use Rattle.cv_dpkg.specs.Fields.{Facts, Pair, field_of, is_name, join, named, nothing, origin_of, same_name, state_of, told_by}
-use Rattle.cv_dpkg.specs.Lines.{is_continuation, paragraphs}
+use Rattle.cv_stanza.specs.Blocks.{BlockRules, read_blocks, unless}
+use Rattle.cv_dpkg.specs.Fields.{Facts, Pair, facts, field_of, is_continuation, is_name, named, origin_of, same_name, state_of}
 use Rattle.cv_dpkg.specs.declared.field.Field.{Field}
 use Rattle.cv_dpkg.specs.declared.field.Field.TheVariants.{Package, Status, Version, Source, Architecture, Unused}
 use Rattle.cv_dpkg.specs.declared.package.DebPackage.{DebPackage}
 use Rattle.cv_dpkg.specs.declared.rule.StatusRule.{StatusRule}
 use Rattle.cv_dpkg.specs.declared.rule.StatusRule.TheVariants.{Needed, Optional}
 
--- the fault of a value. Package is not empty; Package, Version and Architecture are printing bytes; Status is three words and
--- tells a state; Source is empty, a name, or a name and a version in brackets; and other values may be anything.
+-- the fault of a value. Package is not empty; Package, Version and Architecture are printing bytes; Status is three words, the
+-- last one a state; Source is empty, a name, or a name and a version in brackets; and other values may be anything.
 abbrev pub value_fault : Field → List ℕ → Option What
 value_fault Package v = unless (not (is_nil v) && list_all is_printing v) BadValue
 value_fault Status v = unless (is_some (state_of v)) BadStatus
@@ -33,33 +32,28 @@ value_fault Architecture v = unless (list_all is_printing v) BadValue
 value_fault Unused v = None
 
 -- whether a field with this name stands among lines, used or not
-abbrev pub stands : List ℕ → List Line → Bool
-stands name ls = list_any (λ l. option_map_or (λ f. same_name f.name name) (field_of l.text) false) ls
+abbrev pub stands : List ℕ → List (List ℕ) → Bool
+stands name lines = list_any (λ t. option_map_or (λ f. same_name f.name name) (field_of t) false) lines
 
--- the fault of a field, where these lines stand before it in its paragraph: a bad name, then a name that stood before, then a bad value
-abbrev pub field_fault : List Line → Option Pair → Option What
+-- the fault of a field after these lines of its paragraph: a bad name, then a name that stood before, then a bad value
+abbrev pub field_fault : List (List ℕ) → Option Pair → Option What
 field_fault before None = Some NoColon
 field_fault before (Some f) =
     if not (is_name f.name) then Some BadField
     else (if stands f.name before then Some RepeatedField else value_fault (named f.name) f.value)
 
--- the fault of a line, where these lines stand before it in its paragraph
-abbrev pub line_fault : List Line → List ℕ → Option What
+-- the fault of a line after these lines of its paragraph
+abbrev pub line_fault : List (List ℕ) → List ℕ → Option What
 line_fault before text =
     if is_continuation text then (if is_nil before then Some LooseContinuation else None)
     else field_fault before (field_of text)
-
--- what the lines of a paragraph tell together
-abbrev pub facts : List Line → Facts
-facts [] = nothing
-facts (l ∷ ls) = join (facts ls) (told_by l.text)
 
 -- whether a value is absent or empty
 abbrev pub is_missing : Option (List ℕ) → Bool
 is_missing None = true
 is_missing (Some v) = is_nil v
 
--- a package of which nothing but its configuration may be left
+-- a package of which nothing but its configuration may remain
 abbrev pub is_gone : List ℕ → Bool
 is_gone state = same state (codes "not-installed") || same state (codes "config-files")
 
@@ -84,14 +78,6 @@ whole_fault rule f =
     else (if not (is_some f.state || is_optional rule) then Some BadStatus
     else unless (not (counts f.state f.version && is_missing f.version)) NoVersion)
 
--- the fault of a whole paragraph stands at its last line; no lines are no paragraph
-abbrev pub end_faults : StatusRule → List Line → List FileBad
-end_faults rule p = option_map_or (λ n. at n (whole_fault rule (facts p))) (last_number p) []
-
--- the faults of a paragraph in the order in which they count
-abbrev pub faults : StatusRule → List Line → List FileBad
-faults rule p = line_faults line_fault [] p ++ end_faults rule p
-
 -- a package with its name and version. Its source is Source's name, and else its own; the source's version is the one in
 -- brackets, and else its own. An absent architecture is the empty text.
 abbrev pub package_of : List ℕ → List ℕ → Facts → DebPackage
@@ -103,14 +89,22 @@ package_by None version f = []
 package_by (Some n) None f = []
 package_by (Some n) (Some v) f = package_of n v f ∷ []
 
--- the package that is told, if it counts
+-- the package of a paragraph, if it counts
 abbrev pub package_in : Facts → List DebPackage
 package_in f = if counts f.state f.version then package_by f.name f.version f else []
 
--- the package of a paragraph, if it counts
-abbrev pub packages : List Line → List DebPackage
-packages p = package_in (facts p)
+-- the rules of the blocks, each of which is a paragraph
+abbrev pub rules : StatusRule → BlockRules DebPackage
+rules rule = record {
+  line_fault = line_fault;
+  whole_fault = λ lines. whole_fault rule (facts lines);
+  items = λ lines. package_in (facts lines);
+}
+
+-- the lines of a file lie between LFs, and blanks and CRs at their ends are dropped
+abbrev pub lines : List ℕ → List (List ℕ)
+lines bytes = map (without_end is_dropped) (slice_split is_lf bytes)
 
 -- the packages of a status file, or its first fault
 abbrev pub status : List ℕ → StatusRule → Result (List DebPackage) FileBad
-status bytes rule = or_first_fault (flat_map (faults rule) (paragraphs bytes)) (flat_map packages (paragraphs bytes))
+status bytes rule = read_blocks (rules rule) (lines bytes)

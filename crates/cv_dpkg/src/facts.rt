@@ -1,21 +1,24 @@
-//! What the lines of a paragraph tell of its package.
-ghost use Rattle.std.specs.Prelude.{◌≡◌, ◌++◌, IfOk, codes, unwrap_or};
+//! What the lines of a paragraph say of its package.
+ghost use Rattle.std.specs.Prelude.{◌≡◌, ◌++◌, IfOk, MatchResult, None, Some, codes, unwrap_or};
 ghost use Rattle.std.specs.Option.{option_map};
+ghost use Rattle.cv_base.specs.Answer.{Yields};
 ghost use Rattle.cv_base.specs.Texts.{same};
-ghost use Rattle.cv_dpkg.specs.Fields.{nothing};
-ghost use Rattle.cv_dpkg.specs.Held.{Tells, facts_view};
-ghost use Rattle.cv_dpkg.specs.Status.{counts, is_gone, is_missing, package_in, package_of, whole_fault};
+ghost use Rattle.cv_base.specs.declared.fault.What.TheVariants as what;
+ghost use Rattle.cv_stanza.specs.code.Steps.{or_fault};
+ghost use Rattle.cv_dpkg.specs.Fields.{origin_of, state_of};
+ghost use Rattle.cv_dpkg.specs.Status.{counts, is_gone, is_missing, package_in, package_of, value_fault, whole_fault};
+ghost use Rattle.cv_dpkg.specs.code.Steps.{facts_view, nothing, source_view, value_step};
 ghost use Rattle.cv_dpkg.specs.declared.field.Field.TheVariants as field;
 
 use crate::field::Field;
 use crate::package::DebPackage;
 use crate::rule::StatusRule;
-use crate::value::{origin_of, state_of};
+use crate::value::{Source, origin_of, state_of};
 use cv_base::{What, printing_text};
 use cv_seq::{NoMemory, Text};
 use std::alloc::Global;
 
-/// What is told so far. All of it is borrowed from the file.
+/// What the lines so far say. All of it is borrowed from the file.
 #[derive(Clone, Copy)]
 pub struct Facts<'a> {
     pub name: Option<&'a str>,
@@ -28,7 +31,7 @@ pub struct Facts<'a> {
 }
 
 impl<'a> Facts<'a> {
-    /// What is known before the first field: nothing.
+    /// Before the first field nothing is known.
     pub fn new() -> Facts<'a>
         ensures { facts_view result ≡ nothing }
     {
@@ -42,75 +45,26 @@ impl<'a> Facts<'a> {
         }
     }
 
-    /// Takes the value of a field, or tells what is wrong with it.
-    pub fn tell(&mut self, field: Field, value: &'a [u8]) -> Result<(), What>
-        ensures { Tells field value.now (facts_view self.old) (facts_view self.new) result }
+    /// Adds the value of a field, unless it is bad.
+    pub fn add(&mut self, field: Field, value: &'a [u8]) -> Result<(), What>
+        ensures { Yields Some (λ _. facts_view self.new) result (value_step field value.now (facts_view self.old)) }
     {
         match field {
-            Field::Package => self.tell_name(value),
-            Field::Status => self.tell_state(value),
-            Field::Version => self.tell_version(value),
-            Field::Source => self.tell_source(value),
-            Field::Architecture => self.tell_arch(value),
-            Field::Unused => Ok(()),
+            Field::Package => self.name = Some(filled_value(value)?),
+            Field::Status => self.state = Some(state_value(value)?),
+            Field::Version => self.version = Some(printing_value(value)?),
+            Field::Source => {
+                let source = source_value(value)?;
+                self.source = source.name;
+                self.source_version = source.version;
+            }
+            Field::Architecture => self.arch = Some(printing_value(value)?),
+            Field::Unused => {}
         }
-    }
-
-    fn tell_name(&mut self, value: &'a [u8]) -> Result<(), What>
-        ensures { Tells field.Package value.now (facts_view self.old) (facts_view self.new) result }
-    {
-        if value.is_empty() {
-            return Err(What::BadValue);
-        }
-        let Some(name) = printing_text(value) else {
-            return Err(What::BadValue);
-        };
-        self.name = Some(name);
         Ok(())
     }
 
-    fn tell_state(&mut self, value: &'a [u8]) -> Result<(), What>
-        ensures { Tells field.Status value.now (facts_view self.old) (facts_view self.new) result }
-    {
-        let Some(state) = state_of(value) else {
-            return Err(What::BadStatus);
-        };
-        self.state = Some(state);
-        Ok(())
-    }
-
-    fn tell_version(&mut self, value: &'a [u8]) -> Result<(), What>
-        ensures { Tells field.Version value.now (facts_view self.old) (facts_view self.new) result }
-    {
-        let Some(version) = printing_text(value) else {
-            return Err(What::BadValue);
-        };
-        self.version = Some(version);
-        Ok(())
-    }
-
-    fn tell_source(&mut self, value: &'a [u8]) -> Result<(), What>
-        ensures { Tells field.Source value.now (facts_view self.old) (facts_view self.new) result }
-    {
-        let Some(source) = origin_of(value) else {
-            return Err(What::BadValue);
-        };
-        self.source = source.name.or(self.source);
-        self.source_version = source.version.or(self.source_version);
-        Ok(())
-    }
-
-    fn tell_arch(&mut self, value: &'a [u8]) -> Result<(), What>
-        ensures { Tells field.Architecture value.now (facts_view self.old) (facts_view self.new) result }
-    {
-        let Some(arch) = printing_text(value) else {
-            return Err(What::BadValue);
-        };
-        self.arch = Some(arch);
-        Ok(())
-    }
-
-    /// What is wrong with the paragraph as a whole.
+    /// The fault of the paragraph as a whole.
     pub fn fault(&self, rule: StatusRule) -> Option<What>
         ensures { result ≡ whole_fault rule (facts_view self.now) }
     {
@@ -135,7 +89,7 @@ impl<'a> Facts<'a> {
         }
     }
 
-    /// Whether the package counts as there.
+    /// Whether the package counts as installed.
     fn counts(&self) -> bool
         ensures { result ≡ counts (facts_view self.now).state (facts_view self.now).version }
     {
@@ -177,6 +131,46 @@ impl<'a> Facts<'a> {
             source_version,
             arch,
         })
+    }
+}
+
+/// A value of printing bytes.
+fn printing_value(value: &[u8]) -> Result<&str, What>
+    ensures { Yields Some (λ text. text.now) result (or_fault (value_fault field.Version value.now) value.now) }
+{
+    match printing_text(value) {
+        Some(text) => Ok(text),
+        None => Err(What::BadValue),
+    }
+}
+
+/// A value of printing bytes, at least one.
+fn filled_value(value: &[u8]) -> Result<&str, What>
+    ensures { Yields Some (λ text. text.now) result (or_fault (value_fault field.Package value.now) value.now) }
+{
+    if value.is_empty() {
+        return Err(What::BadValue);
+    }
+    printing_value(value)
+}
+
+/// The state in a value of Status.
+fn state_value(value: &[u8]) -> Result<&[u8], What>
+    ensures { MatchResult result (λ state. state_of value.now ≡ Some state.now) (λ error. (state_of value.now ≡ None) × (error ≡ what.BadStatus)) }
+{
+    match state_of(value) {
+        Some(state) => Ok(state),
+        None => Err(What::BadStatus),
+    }
+}
+
+/// The source in a value of Source.
+fn source_value(value: &[u8]) -> Result<Source<'_>, What>
+    ensures { MatchResult result (λ source. origin_of value.now ≡ Some (source_view source)) (λ error. (origin_of value.now ≡ None) × (error ≡ what.BadValue)) }
+{
+    match origin_of(value) {
+        Some(source) => Ok(source),
+        None => Err(What::BadValue),
     }
 }
 

@@ -2,13 +2,13 @@
 ghost use Rattle.std.specs.Prelude.{◌≡◌};
 ghost use Rattle.std.specs.Option.{option_map};
 ghost use Rattle.cv_dpkg.specs.Fields.{is_name, named, pair_in, same_name};
-ghost use Rattle.cv_dpkg.specs.Names.{entry_of, name_cmp};
+ghost use Rattle.cv_dpkg.specs.code.Names.{entry_of, name_cmp};
 
 use crate::text::trim_front;
 use cv_base::{are_printing, cut_at};
 use std::cmp::Ordering;
 
-/// The fields that are used. Every other one is passed over.
+/// The fields that are used. Every other one is ignored.
 #[derive(Clone, Copy, PartialEq, Eq)]
 pub enum Field {
     Package,
@@ -77,20 +77,20 @@ fn is_same_name(one: &[u8], other: &[u8]) -> bool
 pub fn name_order(one: &[u8], other: &[u8]) -> Ordering
     ensures { result ≡ name_cmp one.now other.now }
 {
-    let mut left = one;
-    let mut right = other;
-    while let [x, xs @ ..] = left {
-        let [y, ys @ ..] = right else {
+    let mut rest = one;
+    let mut other_rest = other;
+    while let [x, xs @ ..] = rest {
+        let [y, ys @ ..] = other_rest else {
             return Ordering::Greater;
         };
         match x.to_ascii_lowercase().cmp(&y.to_ascii_lowercase()) {
             Ordering::Equal => {}
             order => return order,
         }
-        left = xs;
-        right = ys;
+        rest = xs;
+        other_rest = ys;
     }
-    if right.is_empty() {
+    if other_rest.is_empty() {
         Ordering::Equal
     } else {
         Ordering::Less

@@ -1,6 +1,6 @@
-//! Reads a dpkg status file into the packages that it tells to be there.
+//! Reads a dpkg status file into the packages that are installed.
 //!
-//! The profile is cvwatch's own, after deb-control(5) and Debian Policy 5.1.
+//! What is accepted is a profile of deb-control(5) and Debian Policy 5.1, defined by this project.
 //!
 //! ```text
 //! let packages = read_status(alloc, bytes, StatusRule::Needed)?;
@@ -12,6 +12,7 @@ mod field;
 mod names;
 mod package;
 mod paragraph;
+mod paragraphs;
 mod rule;
 mod status;
 mod text;

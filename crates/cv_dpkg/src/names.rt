@@ -1,8 +1,8 @@
 //! The names of a paragraph's fields, found again without regard to the case of ASCII letters.
 ghost use Rattle.std.specs.Prelude.{◌≡◌, not, IfOk, OnOk};
-ghost use Rattle.cv_dpkg.specs.Held.{stood_in};
-ghost use Rattle.cv_dpkg.specs.Names.{name_cmp};
-ghost use Rattle.cv_dpkg.specs.Reader.{with_name};
+ghost use Rattle.cv_dpkg.specs.code.Steps.{stood_in};
+ghost use Rattle.cv_dpkg.specs.code.Names.{name_cmp};
+ghost use Rattle.cv_dpkg.specs.code.Steps.{with_name};
 
 use crate::field::name_order;
 use cv_seq::NoMemory;
@@ -19,7 +19,7 @@ pub struct FieldName<'a> {
 impl PartialEq for FieldName<'_> {
     ghost use Rattle.std.specs.Cmp.{eq_by_cmp_equiv, partial_equiv_from_equiv};
     ghost use Rattle.std.specs.Ordering.{eq_by_cmp};
-    ghost use Rattle.cv_dpkg.specs.NameLaws.{field_name_cmp, field_name_total};
+    ghost use Rattle.cv_dpkg.specs.code.NameLaws.{field_name_cmp, field_name_total};
 
     ghost eq = { eq_by_cmp field_name_cmp };
 
@@ -32,7 +32,7 @@ impl PartialEq for FieldName<'_> {
 
 impl Eq for FieldName<'_> {
     ghost use Rattle.std.specs.Cmp.{eq_by_cmp_equiv};
-    ghost use Rattle.cv_dpkg.specs.NameLaws.{field_name_total};
+    ghost use Rattle.cv_dpkg.specs.code.NameLaws.{field_name_total};
 
     ghost laws = { eq_by_cmp_equiv field_name_total };
 }
@@ -40,7 +40,7 @@ impl Eq for FieldName<'_> {
 impl PartialOrd for FieldName<'_> {
     ghost use Rattle.std.specs.Prelude.{Some, refl};
     ghost use Rattle.std.specs.Cmp.{partial_order_from_agreeing_total};
-    ghost use Rattle.cv_dpkg.specs.NameLaws.{field_name_cmp, field_name_total};
+    ghost use Rattle.cv_dpkg.specs.code.NameLaws.{field_name_cmp, field_name_total};
 
     ghost partial_cmp = { λ x y. Some (field_name_cmp x y) };
 
@@ -54,7 +54,7 @@ impl PartialOrd for FieldName<'_> {
 /// By bytes, with letters in lower case.
 impl Ord for FieldName<'_> {
     ghost use Rattle.std.specs.Prelude.{refl};
-    ghost use Rattle.cv_dpkg.specs.NameLaws.{field_name_cmp, field_name_total};
+    ghost use Rattle.cv_dpkg.specs.code.NameLaws.{field_name_cmp, field_name_total};
 
     ghost cmp = { field_name_cmp };
 
@@ -69,9 +69,9 @@ impl Ord for FieldName<'_> {
     }
 }
 
-/// Notes a name, and tells whether it is new.
-pub fn note<'a>(names: &mut BTreeSet<FieldName<'a>>, name: &'a [u8]) -> Result<bool, NoMemory>
-    ensures told { IfOk result (λ fresh. fresh ≡ not (stood_in names.old name.now)) }
+/// Adds a name. The result is whether it is new.
+pub fn add_name<'a>(names: &mut BTreeSet<FieldName<'a>>, name: &'a [u8]) -> Result<bool, NoMemory>
+    ensures fresh { IfOk result (λ fresh. fresh ≡ not (stood_in names.old name.now)) }
     ensures kept { OnOk result (stood_in names.new ≡ with_name name.now (stood_in names.old)) }
 {
     Ok(names.insert(FieldName { text: name })?)

@@ -1,18 +1,16 @@
 //! A paragraph, line by line.
 ghost use Rattle.std.specs.Prelude.{◌≡◌, Some};
-ghost use Rattle.cv_base.specs.Answer.{Gives};
-ghost use Rattle.cv_base.specs.Reading.{is_read_memory};
-ghost use Rattle.cv_dpkg.specs.Held.{Takes, state_view, value_step};
-ghost use Rattle.cv_dpkg.specs.Names.{entry_of};
-ghost use Rattle.cv_dpkg.specs.Reader.{close, continuation_step, field_step, line_step, opening};
+ghost use Rattle.cv_base.specs.Answer.{Yields};
+ghost use Rattle.cv_stanza.specs.code.Steps.{line_fault};
+ghost use Rattle.cv_dpkg.specs.code.Names.{entry_of};
+ghost use Rattle.cv_dpkg.specs.code.Steps.{field_step, line_step, opening, state_view};
 
 use crate::facts::Facts;
 use crate::field::{Entry, is_name, named, split_field};
-use crate::names::{FieldName, note};
-use crate::package::DebPackage;
-use crate::rule::StatusRule;
+use crate::names::{FieldName, add_name};
 use crate::text::begins_with_blank;
-use cv_base::{ReadBad, What};
+use cv_base::What;
+use cv_stanza::LineError;
 use std::alloc::Global;
 use std::collections::BTreeSet;
 
@@ -21,8 +19,8 @@ use std::collections::BTreeSet;
 pub struct Paragraph<'a> {
     pub names: BTreeSet<FieldName<'a>>,
     pub facts: Facts<'a>,
-    /// The number of its last line, and none before the first one.
-    pub last: Option<u64>,
+    /// Whether a line was read.
+    pub begun: bool,
 }
 
 impl<'a> Paragraph<'a> {
@@ -33,73 +31,38 @@ impl<'a> Paragraph<'a> {
         Paragraph {
             names: BTreeSet::new(alloc),
             facts: Facts::new(),
-            last: None,
+            begun: false,
         }
     }
 
     /// Takes one more line, which is not empty.
-    pub fn take(&mut self, line: &'a [u8], number: u64) -> Result<(), ReadBad>
-        ensures { Takes (line_step (state_view self.old) number line.now) (state_view self.new) result }
+    pub fn take(&mut self, line: &'a [u8]) -> Result<(), LineError>
+        ensures { Yields line_fault (λ _. state_view self.new) result (line_step (state_view self.old) line.now) }
     {
         if begins_with_blank(line) {
-            return self.go_on(number);
+            return if self.begun {
+                Ok(())
+            } else {
+                Err(LineError::Bad(What::LooseContinuation))
+            };
         }
         match split_field(line) {
-            None => Err(ReadBad::at(number, What::NoColon)),
-            Some(entry) => self.take_field(entry, number),
+            None => Err(LineError::Bad(What::NoColon)),
+            Some(entry) => self.take_field(entry),
         }
     }
 
-    /// A line that goes on with a field, if there is one.
-    fn go_on(&mut self, number: u64) -> Result<(), ReadBad>
-        ensures { Takes (continuation_step (state_view self.old) number self.old.last) (state_view self.new) result }
-    {
-        if self.last.is_none() {
-            return Err(ReadBad::at(number, What::LooseContinuation));
-        }
-        self.last = Some(number);
-        Ok(())
-    }
-
-    fn take_field(&mut self, entry: Entry<'a>, number: u64) -> Result<(), ReadBad>
-        ensures { Takes (field_step (state_view self.old) number (Some (entry_of entry.entry))) (state_view self.new) result }
+    fn take_field(&mut self, entry: Entry<'a>) -> Result<(), LineError>
+        ensures { Yields line_fault (λ _. state_view self.new) result (field_step (state_view self.old) (Some (entry_of entry.entry))) }
     {
         if !is_name(entry.name) {
-            return Err(ReadBad::at(number, What::BadField));
+            return Err(LineError::Bad(What::BadField));
         }
-        if !note(&mut self.names, entry.name)? {
-            return Err(ReadBad::at(number, What::RepeatedField));
+        if !add_name(&mut self.names, entry.name)? {
+            return Err(LineError::Bad(What::RepeatedField));
         }
-        self.take_value(entry, number)
-    }
-
-    fn take_value(&mut self, entry: Entry<'a>, number: u64) -> Result<(), ReadBad>
-        ensures { Takes (value_step self.old number (entry_of entry.entry)) (state_view self.new) result }
-    {
-        match self.facts.tell(named(entry.name), entry.value) {
-            Err(what) => Err(ReadBad::at(number, what)),
-            Ok(()) => {
-                self.last = Some(number);
-                Ok(())
-            }
-        }
-    }
-
-    /// Ends the paragraph: adds its package, or tells what is wrong with it.
-    pub fn close(
-        &self,
-        alloc: Global,
-        rule: StatusRule,
-        found: &mut Vec<DebPackage>,
-    ) -> Result<(), ReadBad>
-        ensures { Gives is_read_memory (λ _. found.new.items) result (close rule (state_view self.now) found.old.items) }
-    {
-        let Some(line) = self.last else {
-            return Ok(());
-        };
-        match self.facts.fault(rule) {
-            Some(what) => Err(ReadBad::at(line, what)),
-            None => Ok(self.facts.push_package(alloc, found)?),
-        }
+        self.facts.add(named(entry.name), entry.value)?;
+        self.begun = true;
+        Ok(())
     }
 }

@@ -3,8 +3,8 @@ ghost use Rattle.std.specs.Prelude.{◌≡◌};
 ghost use Rattle.std.specs.List.{position};
 ghost use Rattle.std.specs.Option.{option_map};
 ghost use Rattle.cv_base.specs.Cuts.{cut, is_blank, without_end};
-ghost use Rattle.cv_dpkg.specs.Lines.{is_continuation, without_front};
-ghost use Rattle.cv_dpkg.specs.Words.{next_word};
+ghost use Rattle.cv_dpkg.specs.Fields.{is_continuation, without_front};
+ghost use Rattle.cv_dpkg.specs.code.NextWord.{next_word};
 
 use cv_base::is_blank;
 
@@ -13,28 +13,28 @@ use cv_base::is_blank;
 pub fn trim_end(text: &[u8]) -> &[u8]
     ensures { result.now ≡ without_end is_blank text.now }
 {
-    let mut left = text;
-    while let Some((last, front)) = left.split_last() {
+    let mut rest = text;
+    while let Some((last, front)) = rest.split_last() {
         if !is_blank(*last) {
-            return left;
+            return rest;
         }
-        left = front;
+        rest = front;
     }
-    left
+    rest
 }
 
 /// A text without the blanks at its front.
 pub fn trim_front(text: &[u8]) -> &[u8]
     ensures { result.now ≡ without_front text.now }
 {
-    let mut left = text;
-    while let [first, rest @ ..] = left {
+    let mut rest = text;
+    while let [first, after @ ..] = rest {
         if !is_blank(*first) {
-            return left;
+            return rest;
         }
-        left = rest;
+        rest = after;
     }
-    left
+    rest
 }
 
 /// Whether a text begins with a blank.
@@ -47,7 +47,7 @@ pub fn begins_with_blank(text: &[u8]) -> bool
     }
 }
 
-/// What stands before the first blank, and what behind it.
+/// What stands before the first blank, and what after it.
 #[tactic(auto, using(cv_base::proofs::Cuts::cut_is))]
 fn cut_at_blank(text: &[u8]) -> Option<(&[u8], &[u8])>
     ensures { option_map (λ p. (p.0.now, p.1.now)) result ≡ cut is_blank text.now }
@@ -66,7 +66,7 @@ fn find_blank(text: &[u8]) -> Option<usize>
     text.iter().position(|byte| is_blank(*byte))
 }
 
-/// The first word of a text, and what stands behind it. Words are parted by blanks.
+/// The first word of a text, and what stands after it. Words lie between blanks.
 pub fn next_word(text: &[u8]) -> Option<(&[u8], &[u8])>
     ensures { option_map (λ p. (p.0.now, p.1.now)) result ≡ next_word text.now }
 {

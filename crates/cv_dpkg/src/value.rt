@@ -4,8 +4,8 @@ ghost use Rattle.std.specs.List.{list_all};
 ghost use Rattle.std.specs.Option.{option_map};
 ghost use Rattle.cv_base.specs.Cuts.{cut};
 ghost use Rattle.cv_dpkg.specs.Fields.{is_close, is_state, is_word, is_word_byte, origin_of, state_of, versioned};
-ghost use Rattle.cv_dpkg.specs.Values.{source_view};
-ghost use Rattle.cv_dpkg.specs.Words.{state_by};
+ghost use Rattle.cv_dpkg.specs.code.NextWord.{state_by};
+ghost use Rattle.cv_dpkg.specs.code.Steps.{source_view};
 
 use crate::text::{next_word, trim_end};
 use cv_base::cut_at;
@@ -17,8 +17,8 @@ pub struct Source<'a> {
     pub version: Option<&'a str>,
 }
 
-/// The state that a value of Status tells: the last of its three words.
-#[tactic(auto, using(crate::proofs::States::state_steps))]
+/// The state in a value of Status: the last of its three words.
+#[tactic(auto, using(crate::proofs::ThirdWord::state_steps))]
 pub fn state_of(value: &[u8]) -> Option<&[u8]>
     ensures { option_map (λ s. s.now) result ≡ state_of value.now }
 {
@@ -72,7 +72,7 @@ pub fn origin_of(value: &[u8]) -> Option<Source<'_>>
     versioned(trim_end(front), back)
 }
 
-/// A name and a version, where nothing stands behind the version's bracket.
+/// A name and a version, where nothing stands after the version's bracket.
 fn versioned<'a>(name: &'a [u8], back: &'a [u8]) -> Option<Source<'a>>
     ensures { option_map source_view result ≡ versioned name.now (cut is_close back.now) }
 {

@@ -5,7 +5,7 @@ use Rattle.cv_base.specs.declared.«package».PackageKind.{PackageKind}
 use Rattle.cv_base.specs.declared.advisory.Range.{Range}
 use Rattle.cv_base.specs.declared.advisory.Turn.{Turn}
 use Rattle.cv_match.specs.declared.placed.Placed.{Placed}
-use Rattle.cv_match.specs.Ready.{cons_read, events_of, onto, read_event, read_events}
+use Rattle.cv_match.specs.code.Reading.{cons_read, events_of, onto, read_event, read_events}
 use Rattle.cv_match.specs.Within.{belongs, is_readable, placed}
 
 -- one event more was read

@@ -40,11 +40,11 @@ abbrev advisory : List ℕ → Bool → List Affected → Advisory
 advisory id withdrawn entries = record { id = id; modified = codes "2024-01-01T00:00:00Z"; withdrawn = withdrawn; affected = entries }
 
 -- a record with one range for a source package of Debian 12
-abbrev told : List Turn → Advisory
-told turns = advisory (codes "X-1") false (entry (codes "Debian:12") (codes "openssl") (range Ecosystem turns ∷ []) [] ∷ [])
+abbrev record_of : List Turn → Advisory
+record_of turns = advisory (codes "X-1") false (entry (codes "Debian:12") (codes "openssl") (range Ecosystem turns ∷ []) [] ∷ [])
 
 abbrev twice : Advisory
-twice = told (Introduced (codes "0") ∷ Fixed (codes "1.5") ∷ Introduced (codes "2.0") ∷ LastAffected (codes "2.3") ∷ [])
+twice = record_of (Introduced (codes "0") ∷ Fixed (codes "1.5") ∷ Introduced (codes "2.0") ∷ LastAffected (codes "2.3") ∷ [])
 
 -- before the fix, at the fix, at the last affected version, and above it
 before_fix : (affects twice (openssl (codes "1.4")) ≡ true) × (fixed twice (openssl (codes "1.4")) ≡ Some (codes "1.5"))
@@ -64,19 +64,19 @@ unfolding affects within
 above_last = refl
 
 -- at equal versions an introduction outweighs a fix
-fixed_at_once : (affects (told (Introduced (codes "3.0") ∷ Fixed (codes "3.0") ∷ [])) (openssl (codes "3.0")) ≡ true)
-    × (fixed (told (Introduced (codes "3.0") ∷ Fixed (codes "3.0") ∷ [])) (openssl (codes "3.0")) ≡ None)
+fixed_at_once : (affects (record_of (Introduced (codes "3.0") ∷ Fixed (codes "3.0") ∷ [])) (openssl (codes "3.0")) ≡ true)
+    × (fixed (record_of (Introduced (codes "3.0") ∷ Fixed (codes "3.0") ∷ [])) (openssl (codes "3.0")) ≡ None)
 unfolding affects within fixed
 fixed_at_once = (refl, refl)
 
 -- and with a last affected version it affects exactly that one
-one_version : (affects (told (Introduced (codes "3.0") ∷ LastAffected (codes "3.0") ∷ [])) (openssl (codes "3.0")) ≡ true)
-    × (affects (told (Introduced (codes "3.0") ∷ LastAffected (codes "3.0") ∷ [])) (openssl (codes "3.1")) ≡ false)
+one_version : (affects (record_of (Introduced (codes "3.0") ∷ LastAffected (codes "3.0") ∷ [])) (openssl (codes "3.0")) ≡ true)
+    × (affects (record_of (Introduced (codes "3.0") ∷ LastAffected (codes "3.0") ∷ [])) (openssl (codes "3.1")) ≡ false)
 unfolding affects within
 one_version = (refl, refl)
 
 -- the order of the events in the record does not count
-any_order : affects (told (LastAffected (codes "2.3") ∷ Fixed (codes "1.5") ∷ Introduced (codes "2.0") ∷ [])) (openssl (codes "2.3")) ≡ true
+any_order : affects (record_of (LastAffected (codes "2.3") ∷ Fixed (codes "1.5") ∷ Introduced (codes "2.0") ∷ [])) (openssl (codes "2.3")) ≡ true
 unfolding affects within
 any_order = refl
 
@@ -87,7 +87,7 @@ bounds : (within Deb (range Ecosystem (Introduced (codes "0") ∷ Limit (codes "
 unfolding within
 bounds = (refl, refl, refl)
 
--- nothing is within a range of another type, of a type that does not belong to the kind, or with a text that is no version
+-- nothing is within a range of another type, of a type that does not belong to the kind, or with a text that is not a version
 excluded : (within Deb (range Other (Introduced (codes "0") ∷ [])) (codes "1") ≡ false)
     × (within Deb (range Semver (Introduced (codes "0") ∷ [])) (codes "1") ≡ false)
     × (within Apk (range Semver (Introduced (codes "0") ∷ [])) (codes "1") ≡ false)
@@ -113,7 +113,7 @@ alpine : (within Apk (range Ecosystem (Introduced (codes "1.2_rc1") ∷ Fixed (c
 unfolding within
 alpine = (refl, refl)
 
--- a version that is listed is affected, also where it is no version of the order, and as a text
+-- a version that is listed is affected, also if it is not a valid version, and as a text
 listed : (affects (advisory (codes "L-1") false (entry (codes "Debian:12") (codes "openssl") [] (codes "1:" ∷ []) ∷ [])) (openssl (codes "1:")) ≡ true)
     × (affects (advisory (codes "L-1") false (entry (codes "Debian:12") (codes "openssl") [] (codes "1.0-0" ∷ []) ∷ [])) (openssl (codes "1.0")) ≡ false)
 unfolding affects within
@@ -125,13 +125,13 @@ no_effect : (affects (advisory (codes "W-1") true (entry (codes "Debian:12") (co
 unfolding affects within
 no_effect = (refl, refl)
 
--- the first range that has the version within tells the fix: none, where it has none above, even if a later range has one; and
+-- the first range that has the version within decides the fix: none, if it has none above, even if a later range has one; and
 -- the least one above the version, whatever its place
 first_range : (fixed (advisory (codes "F-1") false (entry (codes "Debian:12") (codes "openssl")
     (range Ecosystem (Introduced (codes "5") ∷ Fixed (codes "6") ∷ [])
     ∷ range Ecosystem (Introduced (codes "0") ∷ []) ∷ range Ecosystem (Introduced (codes "0") ∷ Fixed (codes "2") ∷ []) ∷ []) [] ∷ []))
     (openssl (codes "1")) ≡ None)
-    × (fixed (told (Fixed (codes "4") ∷ Introduced (codes "1.2") ∷ Fixed (codes "2.0") ∷ Fixed (codes "2.00") ∷ Fixed (codes "1") ∷ [])) (openssl (codes "1.5")) ≡ Some (codes "2.0"))
+    × (fixed (record_of (Fixed (codes "4") ∷ Introduced (codes "1.2") ∷ Fixed (codes "2.0") ∷ Fixed (codes "2.00") ∷ Fixed (codes "1") ∷ [])) (openssl (codes "1.5")) ≡ Some (codes "2.0"))
 unfolding fixed within
 first_range = (refl, refl)
 
@@ -164,7 +164,7 @@ ecosystems = (refl, refl, refl, refl, refl)
 
 -- findings are in order of package, feed and advisory, and each stands once, though the package is listed twice
 abbrev finding : List ℕ → List ℕ → List ℕ → Option (List ℕ) → Finding
-finding version feed id told = record { «package» = openssl version; feed = feed; advisory = id; fixed = told }
+finding version feed id record_of = record { «package» = openssl version; feed = feed; advisory = id; fixed = record_of }
 
 ordered : findings (openssl (codes "2.1") ∷ openssl (codes "1.4") ∷ openssl (codes "2.1") ∷ openssl (codes "3") ∷ [])
     ((codes "b", zlib_of (codes "Debian") ∷ twice ∷ []) ∷ (codes "a", twice ∷ []) ∷ [])

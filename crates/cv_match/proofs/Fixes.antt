@@ -11,7 +11,7 @@ use Rattle.cv_match.specs.declared.placed.Placed.{Placed}
 use Rattle.cv_match.specs.declared.placed.Placed.TheVariants.{Introduced, Fixed, LastAffected, Limit}
 use Rattle.cv_match.specs.Affects.{is_fix_between, is_least_fix}
 use Rattle.cv_match.specs.Within.{bound_cmp, bound_total, le, lt}
-use Rattle.cv_match.specs.Walk.{least_place, lesser_of}
+use Rattle.cv_match.specs.code.Walk.{least_place, lesser_of}
 use Rattle.cv_match.proofs.Introductions.{any_more, weaker, le_other, lt_to}
 
 -- two tests that agree on a list find the same place
@@ -63,7 +63,7 @@ module _ {V : Type 0} (R : V → V → Ordering) (o : IsTotalOrder R) (v : V) wh
       rw (above, not_itself f, e) (sym (place_same (is_least_fix R (Fixed f ∷ ts) v) (is_least_fix R ts v) (hidden f ts e) (i + 1) ts))
   settled f ts i above false e = rw (above, not_itself f, e) refl
 
-  -- what the least so far and the events that are left give
+  -- what the least so far and the events that remain give
   abbrev given : ℕ × V → ℕ → List (Placed V) → Option ℕ
   given b i ts = if list_any (is_fix_between R v b.1) ts then position_from (is_least_fix R ts v) i ts else Some b.0
 

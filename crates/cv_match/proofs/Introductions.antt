@@ -11,7 +11,7 @@ use Rattle.cv_match.specs.declared.placed.Bound.TheVariants.{At}
 use Rattle.cv_match.specs.declared.placed.Placed.{Placed}
 use Rattle.cv_match.specs.declared.placed.Placed.TheVariants.{Introduced, Fixed, LastAffected, Limit}
 use Rattle.cv_match.specs.Within.{bound_cmp, bound_total, brings, ends, le, lt}
-use Rattle.cv_match.specs.Walk.{lasts, last_start, later_of, later_start}
+use Rattle.cv_match.specs.code.Walk.{lasts, last_start, later_of, later_start}
 
 -- ---- orders, by their answers
 
@@ -108,7 +108,7 @@ module _ {V : Type 0} (R : V → V → Ordering) (o : IsTotalOrder R) where
   lasts_more : (all : List (Placed V)) (v : V) (x y : Bound V) → le R x y ≡ true → not (list_any (ends R x v) all) ≡ true → not (list_any (ends R y v) all) ≡ true
   lasts_more all v x y h = not_more (list_any (ends R y v) all) (list_any (ends R x v) all) (any_more (ends R y v) (ends R x v) (ends_more x y v h) all)
 
-  -- one introduction more, of those that are left
+  -- one introduction more, of those that remain
   one_more : (all : List (Placed V)) (v : V) (i : Bound V) (best : Option (Bound V)) (r : Bool)
       → (not (list_any (ends R i v) all) || r) || lasts R all v best ≡ r || lasts R all v (Some (later_of R i best))
   one_more all v i None r = or_none (not (list_any (ends R i v) all)) r

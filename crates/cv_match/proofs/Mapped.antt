@@ -3,15 +3,15 @@ use Rattle.std.proofs.Common.{◌≡◌, ℕ, ◌+◌, zero, suc, Bool, List, []
 use Rattle.std.specs.List.{list_any, position_from, slice_get}
 use Rattle.std.specs.declared.cmp.Ordering.{Ordering}
 use Rattle.std.specs.Ordering.{on}
-use Rattle.cv_match.specs.declared.entry.ReadyEntry.{ReadyEntry}
+use Rattle.cv_match.specs.declared.entry.PreparedEntry.{PreparedEntry}
 use Rattle.cv_match.specs.declared.key.PackageKey.{PackageKey}
 use Rattle.cv_match.specs.declared.placed.Bound.{Bound}
 use Rattle.cv_match.specs.declared.placed.Bound.TheVariants.{Start, At, End}
 use Rattle.cv_match.specs.declared.placed.Placed.{Placed}
 use Rattle.cv_match.specs.declared.placed.Placed.TheVariants.{Introduced, Fixed, LastAffected, Limit}
 use Rattle.cv_match.specs.Affects.{is_fix_between, is_least_fix}
-use Rattle.cv_match.specs.Hit.{entry_holds, entry_lists, range_holds}
-use Rattle.cv_match.specs.Ready.{bound_text, entry_text, event_text, range_text}
+use Rattle.cv_match.specs.code.Hit.{entry_holds, entry_lists, range_holds}
+use Rattle.cv_match.specs.code.Reading.{bound_text, entry_text, event_text, range_text}
 use Rattle.cv_match.specs.Within.{bound_cmp, brings, ends, holds, is_limit, is_limit_above}
 
 -- ---- lists
@@ -104,10 +104,10 @@ pub place_ranges : {V : Type 0} (f : V → List ℕ) (R : List ℕ → List ℕ 
     → position_from (range_holds R v) 0 (map (range_text f) xs) ≡ position_from (λ range. range_holds R v (range_text f range)) 0 xs
 place_ranges f R v xs = place_map (range_text f) (range_holds R v) (λ range. range_holds R v (range_text f range)) (λ x. refl) 0 xs
 
-pub place_entries : {V : Type 0} (f : V → List ℕ) (R : List ℕ → List ℕ → Ordering) (key : PackageKey) (v : List ℕ) (xs : List (ReadyEntry V))
+pub place_entries : {V : Type 0} (f : V → List ℕ) (R : List ℕ → List ℕ → Ordering) (key : PackageKey) (v : List ℕ) (xs : List (PreparedEntry V))
     → position_from (entry_holds R key v) 0 (map (entry_text f) xs) ≡ position_from (λ entry. entry_holds R key v (entry_text f entry)) 0 xs
 place_entries f R key v xs = place_map (entry_text f) (entry_holds R key v) (λ entry. entry_holds R key v (entry_text f entry)) (λ x. refl) 0 xs
 
-pub any_entries : {V : Type 0} (f : V → List ℕ) (key : PackageKey) (xs : List (ReadyEntry V))
+pub any_entries : {V : Type 0} (f : V → List ℕ) (key : PackageKey) (xs : List (PreparedEntry V))
     → list_any (entry_lists key) (map (entry_text f) xs) ≡ list_any (λ entry. entry_lists key (entry_text f entry)) xs
 any_entries f key xs = any_map (entry_text f) (entry_lists key) (λ entry. entry_lists key (entry_text f entry)) (λ x. refl) xs

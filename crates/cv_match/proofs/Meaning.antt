@@ -16,15 +16,15 @@ use Rattle.cv_base.specs.declared.advisory.Range.{Range}
 use Rattle.cv_base.specs.declared.advisory.Turn.{Turn}
 use Rattle.cv_base.specs.declared.advisory.Turn.TheVariants as turn
 use Rattle.cv_match.specs.declared.answer.Hit.TheVariants.{No, Yes}
-use Rattle.cv_match.specs.declared.entry.ReadyEntry.{ReadyEntry}
+use Rattle.cv_match.specs.declared.entry.PreparedEntry.{PreparedEntry}
 use Rattle.cv_match.specs.declared.key.PackageKey.{PackageKey}
 use Rattle.cv_match.specs.declared.placed.Placed.{Placed}
 use Rattle.cv_match.specs.declared.placed.Placed.TheVariants.{Introduced, Fixed, LastAffected, Limit}
 use Rattle.cv_match.specs.Affects.{affects, fix_text, fixed, has_within, is_affected_by, is_least_fix, least_fix, lists, matched_version, matches, matching_ranges}
-use Rattle.cv_match.specs.Answer.{Answers, TellsFixed, fix_of}
-use Rattle.cv_match.specs.Hit.{entry_holds, entry_lists, fixed_at, fixed_in, hit_listed, hit_of, hit_within, key_matches, key_of, range_holds}
+use Rattle.cv_match.specs.Answer.{Answers, NamesFixed, fix_of}
+use Rattle.cv_match.specs.code.Hit.{entry_holds, entry_lists, fixed_at, fixed_in, hit_listed, hit_of, hit_within, key_matches, key_of, range_holds}
 use Rattle.cv_match.specs.Order.{is_version_of, version_cmp_of, version_in}
-use Rattle.cv_match.specs.Ready.{events_of, ready_entry}
+use Rattle.cv_match.specs.code.Reading.{events_of, prepared_entry}
 use Rattle.cv_match.specs.Within.{holds, is_range_of, placed, within}
 use Rattle.cv_base.proofs.Bools.{or_swap_inner}
 use Rattle.cv_match.proofs.Mapped.{any_map, get_map, place_map}
@@ -129,18 +129,18 @@ ranges_are : (p : Package) → is_version_of p.kind (matched_version p) ≡ true
 ranges_are p e xs = any_map (events_of p.kind) (range_holds (version_cmp_of p.kind) (matched_version p)) (has_within p) (range_is p.kind (matched_version p) e) xs
 
 holds_is : (p : Package) → is_version_of p.kind (matched_version p) ≡ true → (x : Affected)
-    → entry_holds (version_cmp_of p.kind) (key_of p) (matched_version p) (ready_entry p.kind x) ≡ entry_has p x
+    → entry_holds (version_cmp_of p.kind) (key_of p) (matched_version p) (prepared_entry p.kind x) ≡ entry_has p x
 holds_is p e x = rw (matches_is p x.«package», ranges_are p e x.ranges) refl
 
-lists_is : (p : Package) (x : Affected) → entry_lists (key_of p) (ready_entry p.kind x) ≡ entry_has_listed p x
+lists_is : (p : Package) (x : Affected) → entry_lists (key_of p) (prepared_entry p.kind x) ≡ entry_has_listed p x
 lists_is p x = rw (matches_is p x.«package») refl
 
-listed_is : (p : Package) (xs : List Affected) → list_any (entry_lists (key_of p)) (map (ready_entry p.kind) xs) ≡ list_any (entry_has_listed p) xs
-listed_is p xs = any_map (ready_entry p.kind) (entry_lists (key_of p)) (entry_has_listed p) (lists_is p) xs
+listed_is : (p : Package) (xs : List Affected) → list_any (entry_lists (key_of p)) (map (prepared_entry p.kind) xs) ≡ list_any (entry_has_listed p) xs
+listed_is p xs = any_map (prepared_entry p.kind) (entry_lists (key_of p)) (entry_has_listed p) (lists_is p) xs
 
 entry_place_is : (p : Package) → is_version_of p.kind (matched_version p) ≡ true → (xs : List Affected)
-    → position_from (entry_holds (version_cmp_of p.kind) (key_of p) (matched_version p)) 0 (map (ready_entry p.kind) xs) ≡ position_from (entry_has p) 0 xs
-entry_place_is p e xs = place_map (ready_entry p.kind) (entry_holds (version_cmp_of p.kind) (key_of p) (matched_version p)) (entry_has p) (holds_is p e) 0 xs
+    → position_from (entry_holds (version_cmp_of p.kind) (key_of p) (matched_version p)) 0 (map (prepared_entry p.kind) xs) ≡ position_from (entry_has p) 0 xs
+entry_place_is p e xs = place_map (prepared_entry p.kind) (entry_holds (version_cmp_of p.kind) (key_of p) (matched_version p)) (entry_has p) (holds_is p e) 0 xs
 
 -- the entries list the version, or have it within a range
 affected_is : (p : Package) (xs : List Affected) → list_any (is_affected_by p) xs ≡ list_any (entry_has_listed p) xs || list_any (entry_has p) xs
@@ -206,17 +206,17 @@ turn_text : (found : Option Turn) (x : Placed (List ℕ)) → option_map placed 
 turn_text None x = λ h. cc
 turn_text (Some t) x = λ h. fix_placed t ∙ ap fix_text (same_Some (placed t) x h)
 
--- what the place in a range tells
+-- the fix at the place in a range
 abbrev RangeTells : Package → Range → Option ℕ → Type 0
 RangeTells p r None = least_fix p r ≡ None
 RangeTells p r (Some i) = IsSome (least_fix p r) × (option_and_then fix_of (slice_get r.turns i) ≡ least_fix p r)
 
-range_tells : (p : Package) (r : Range) (i : Option ℕ)
+range_names : (p : Package) (r : Range) (i : Option ℕ)
     → position_from (is_least_fix (version_cmp_of p.kind) (map placed r.turns) (matched_version p)) 0 (map placed r.turns) ≡ i → RangeTells p r i
-range_tells p r None e =
+range_names p r None e =
     let none = absent (is_least_fix (version_cmp_of p.kind) (map placed r.turns) (matched_version p)) (map placed r.turns) 0 e in
     rw none.first refl
-range_tells p r (Some i) e =
+range_names p r (Some i) e =
     let here = locate (is_least_fix (version_cmp_of p.kind) (map placed r.turns) (matched_version p)) (map placed r.turns) 0 i e in
     let at : i ≡ here.place = omega (arith, here.is) in
     let turned : option_map placed (slice_get r.turns i) ≡ Some here.item =
@@ -229,7 +229,7 @@ ranges_place : (p : Package) → is_version_of p.kind (matched_version p) ≡ tr
     → position_from (range_holds (version_cmp_of p.kind) (matched_version p)) 0 (map (events_of p.kind) xs) ≡ position_from (has_within p) 0 xs
 ranges_place p e xs = place_map (events_of p.kind) (range_holds (version_cmp_of p.kind) (matched_version p)) (has_within p) (range_is p.kind (matched_version p) e) 0 xs
 
--- the first entry that has the version within a range tells
+-- the first entry that has the version within a range decides
 fixed_is : (a : Advisory) (p : Package) (x : Affected) → find (entry_has p) a.affected ≡ Some x
     → fixed a p ≡ option_and_then (least_fix p) (find (has_within p) x.ranges)
 unfolding fixed
@@ -237,16 +237,16 @@ fixed_is a p x e = rw (first_is p a.affected, e) refl
 
 at_range : (a : Advisory) (p : Package) (n : ℕ) (x : Affected) (j : ℕ) (r : Range) (place : Option ℕ)
     → slice_get a.affected n ≡ Some x → slice_get x.ranges j ≡ Some r → fixed a p ≡ least_fix p r → RangeTells p r place
-    → TellsFixed a p (option_map (λ i. record { entry = n; range = j; turn = i }) place)
+    → NamesFixed a p (option_map (λ i. record { entry = n; range = j; turn = i }) place)
 at_range a p n x j r None h g f t = f ∙ t
 at_range a p n x j r (Some i) h g f t = (rw f t.0, rw (h, g, f) t.1)
 
-entry_tells : (a : Advisory) (p : Package) → is_version_of p.kind (matched_version p) ≡ true → (n : ℕ) (x : Affected)
+entry_names : (a : Advisory) (p : Package) → is_version_of p.kind (matched_version p) ≡ true → (n : ℕ) (x : Affected)
     → slice_get a.affected n ≡ Some x → entry_has p x ≡ true → find (entry_has p) a.affected ≡ Some x
-    → TellsFixed a p (fixed_at (version_cmp_of p.kind) (matched_version p) n (ready_entry p.kind x))
-entry_tells a p e n x h q f = rw (ranges_place p e x.ranges) (by_place (position_from (has_within p) 0 x.ranges) refl) where
+    → NamesFixed a p (fixed_at (version_cmp_of p.kind) (matched_version p) n (prepared_entry p.kind x))
+entry_names a p e n x h q f = rw (ranges_place p e x.ranges) (by_place (position_from (has_within p) 0 x.ranges) refl) where
   by_place : (place : Option ℕ) → position_from (has_within p) 0 x.ranges ≡ place
-      → TellsFixed a p (option_and_then (λ range. fixed_in (version_cmp_of p.kind) (matched_version p) n (map (events_of p.kind) x.ranges) range) place)
+      → NamesFixed a p (option_and_then (λ range. fixed_in (version_cmp_of p.kind) (matched_version p) n (map (events_of p.kind) x.ranges) range) place)
   by_place None g =
       let none : list_any (has_within p) x.ranges ≡ false = (absent (has_within p) x.ranges 0 g).none in
       let some : list_any (has_within p) x.ranges ≡ true = (and_parts (matches p x.«package») (list_any (has_within p) x.ranges) q).1 in
@@ -255,10 +255,10 @@ entry_tells a p e n x h q f = rw (ranges_place p e x.ranges) (by_place (position
       let here = locate (has_within p) x.ranges 0 j g in
       let at : j ≡ here.place = omega (arith, here.is) in
       let got : slice_get x.ranges j ≡ Some here.item = ap (λ n. slice_get x.ranges n) at ∙ here.located.at in
-      let told : fixed a p ≡ least_fix p here.item = fixed_is a p x f ∙ ap (option_and_then (least_fix p)) here.located.first in
+      let named : fixed a p ≡ least_fix p here.item = fixed_is a p x f ∙ ap (option_and_then (least_fix p)) here.located.first in
       rw (get_map (events_of p.kind) x.ranges j, got, events_are p.kind (matched_version p) here.item here.located.passes)
       (at_range a p n x j here.item (position_from (is_least_fix (version_cmp_of p.kind) (map placed here.item.turns) (matched_version p)) 0 (map placed here.item.turns))
-      h got told (range_tells p here.item (position_from (is_least_fix (version_cmp_of p.kind) (map placed here.item.turns) (matched_version p)) 0 (map placed here.item.turns)) refl))
+      h got named (range_names p here.item (position_from (is_least_fix (version_cmp_of p.kind) (map placed here.item.turns) (matched_version p)) 0 (map placed here.item.turns)) refl))
 
 -- ---- the answer
 
@@ -277,7 +277,7 @@ any_none q none (x ∷ xs) = rw (none x) (any_none q none xs)
 
 -- where no range has the version within
 listed_answer : (a : Advisory) (p : Package) → a.withdrawn ≡ false → list_any (entry_has p) a.affected ≡ false → fixed a p ≡ None
-    → Answers a p (hit_listed (key_of p) (map (ready_entry p.kind) a.affected))
+    → Answers a p (hit_listed (key_of p) (map (prepared_entry p.kind) a.affected))
 listed_answer a p kept none no_fix =
     rw (listed_is p a.affected) (by_listed (list_any (entry_has_listed p) a.affected)
     (affects_is a p kept ∙ (ap (λ b. list_any (entry_has_listed p) a.affected || b) none ∙ or-false (list_any (entry_has_listed p) a.affected)))) where
@@ -298,32 +298,32 @@ none_within p none x = rw (any_none (has_within p) none x.ranges) (and-false (ma
 
 -- where the version is one of the order
 version_answer : (a : Advisory) (p : Package) → a.withdrawn ≡ false → is_version_of p.kind (matched_version p) ≡ true
-    → Answers a p (hit_within (version_cmp_of p.kind) (key_of p) (matched_version p) (map (ready_entry p.kind) a.affected)
-    (position_from (entry_holds (version_cmp_of p.kind) (key_of p) (matched_version p)) 0 (map (ready_entry p.kind) a.affected)))
+    → Answers a p (hit_within (version_cmp_of p.kind) (key_of p) (matched_version p) (map (prepared_entry p.kind) a.affected)
+    (position_from (entry_holds (version_cmp_of p.kind) (key_of p) (matched_version p)) 0 (map (prepared_entry p.kind) a.affected)))
 version_answer a p kept e = rw (entry_place_is p e a.affected) (by_place (position_from (entry_has p) 0 a.affected) refl) where
   by_place : (place : Option ℕ) → position_from (entry_has p) 0 a.affected ≡ place
-      → Answers a p (hit_within (version_cmp_of p.kind) (key_of p) (matched_version p) (map (ready_entry p.kind) a.affected) place)
+      → Answers a p (hit_within (version_cmp_of p.kind) (key_of p) (matched_version p) (map (prepared_entry p.kind) a.affected) place)
   by_place None g = let none = absent (entry_has p) a.affected 0 g in listed_answer a p kept none.none (no_fix_absent a p none.first)
   by_place (Some n) g =
       let here = locate (entry_has p) a.affected 0 n g in
       let at : n ≡ here.place = omega (arith, here.is) in
       let got : slice_get a.affected n ≡ Some here.item = ap (λ m. slice_get a.affected m) at ∙ here.located.at in (
         affects_is a p kept ∙ (ap (λ b. list_any (entry_has_listed p) a.affected || b) here.located.some ∙ or-true (list_any (entry_has_listed p) a.affected)),
-        rw (get_map (ready_entry p.kind) a.affected n, got) (entry_tells a p e n here.item got here.located.passes here.located.first),
+        rw (get_map (prepared_entry p.kind) a.affected n, got) (entry_names a p e n here.item got here.located.passes here.located.first),
       )
 
 -- what the entries of a record answer, once they are read
 pub entries_answer : (a : Advisory) (p : Package) → a.withdrawn ≡ false
-    → Answers a p (hit_of p.kind (key_of p) (version_in p.kind (matched_version p)) (map (ready_entry p.kind) a.affected))
+    → Answers a p (hit_of p.kind (key_of p) (version_in p.kind (matched_version p)) (map (prepared_entry p.kind) a.affected))
 entries_answer a p kept = by_version (is_version_of p.kind (matched_version p)) refl where
   by_version : (s : Bool) → is_version_of p.kind (matched_version p) ≡ s
-      → Answers a p (hit_of p.kind (key_of p) (if s then Some (matched_version p) else None) (map (ready_entry p.kind) a.affected))
+      → Answers a p (hit_of p.kind (key_of p) (if s then Some (matched_version p) else None) (map (prepared_entry p.kind) a.affected))
   by_version true e = version_answer a p kept e
   by_version false e = let none = no_version p.kind (matched_version p) e in
       listed_answer a p kept (any_none (entry_has p) (none_within p none) a.affected) (no_fix_without a p none)
 
 -- the same for a record and a package as they are kept
-pub ready_answer : (a : Advisory) (p : Package) (kind : PackageKind) (es : List (ReadyEntry (List ℕ))) (key : PackageKey) (v : Option (List ℕ))
-    → kind ≡ p.kind → es ≡ map (ready_entry kind) a.affected → key ≡ key_of p → v ≡ version_in p.kind (matched_version p)
+pub prepared_answer : (a : Advisory) (p : Package) (kind : PackageKind) (es : List (PreparedEntry (List ℕ))) (key : PackageKey) (v : Option (List ℕ))
+    → kind ≡ p.kind → es ≡ map (prepared_entry kind) a.affected → key ≡ key_of p → v ≡ version_in p.kind (matched_version p)
     → a.withdrawn ≡ false → Answers a p (hit_of kind key v es)
-ready_answer a p kind es key v k f g h w = rw (f, g, h, k) (entries_answer a p w)
+prepared_answer a p kind es key v k f g h w = rw (f, g, h, k) (entries_answer a p w)

@@ -1,5 +1,5 @@
--- Which packages an advisory affects, and which version has the fix, after the OSV schema 1.6. cvwatch's own are how the
--- ecosystem of a record matches that of a package, and the choice of the fixed version.
+-- Which packages an advisory affects, and which version has the fix, after the OSV schema 1.6. Defined by this project
+-- are how the ecosystem of a record matches that of a package, and the choice of the fixed version.
 use Rattle.std.specs.Prelude.{ℕ, Bool, false, not, ◌&&◌, ◌||◌, ◌==◌, List, take, Option, Some, None, map, find, filter, option_and_then}
 use Rattle.std.specs.List.{flat_map, list_any, position}
 use Rattle.std.specs.declared.cmp.Ordering.{Ordering}
@@ -21,7 +21,7 @@ use Rattle.cv_match.specs.Within.{lt, placed, within}
 abbrev pub is_colon : ℕ → Bool
 is_colon byte = byte == 58
 
--- what stands before the first colon of an ecosystem, as `Debian` of `Debian:12`; all of it, where there is none
+-- what comes before the first colon of an ecosystem, as `Debian` of `Debian:12`; all of it, if there is none
 abbrev pub cut_at : List ℕ → Option ℕ → List ℕ
 cut_at ecosystem None = ecosystem
 cut_at ecosystem (Some place) = take place ecosystem
@@ -105,7 +105,7 @@ least_fix p range = let events = map placed range.turns in
 abbrev pub matching_ranges : Package → List Affected → List Range
 matching_ranges p entries = flat_map (λ entry. entry.ranges) (filter (λ entry. matches p entry.«package») entries)
 
--- the fixed version that the record names for the package; takes a record and a package. The first range that has the
--- version within tells it, and where that range has none above, there is none
+-- the fixed version that the record names for the package; takes a record and a package. It is that of the first range that
+-- has the version within, and none if that range has no fix above the version
 unfoldable pub fixed : Advisory → Package → Option (List ℕ)
 fixed a p = option_and_then (least_fix p) (find (has_within p) (matching_ranges p a.affected))

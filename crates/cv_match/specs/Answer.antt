@@ -24,11 +24,11 @@ text_at a place =
     option_and_then (λ entry. option_and_then (λ range. option_and_then fix_of (slice_get range.turns place.turn)) (slice_get entry.ranges place.range)) (slice_get a.affected place.entry)
 
 -- the text at the place is the fixed version that the record names for the package; there is no place where it names none
-abbrev pub TellsFixed : Advisory → Package → Option FixedAt → Type 0
-TellsFixed a p None = fixed a p ≡ None
-TellsFixed a p (Some place) = IsSome (fixed a p) × (text_at a place ≡ fixed a p)
+abbrev pub NamesFixed : Advisory → Package → Option FixedAt → Type 0
+NamesFixed a p None = fixed a p ≡ None
+NamesFixed a p (Some place) = IsSome (fixed a p) × (text_at a place ≡ fixed a p)
 
 -- No where the record does not affect the package, and else Yes, with the place of the fixed version
 abbrev pub Answers : Advisory → Package → Hit → Type 0
 Answers a p No = affects a p ≡ false
-Answers a p (Yes place) = (affects a p ≡ true) × TellsFixed a p place
+Answers a p (Yes place) = (affects a p ≡ true) × NamesFixed a p place

@@ -1,4 +1,4 @@
--- The findings of an image (cvwatch's own): all pairs of a package and a record that affects it.
+-- The findings of an image (defined by this project): all pairs of a package and a record that affects it.
 use Rattle.std.specs.Prelude.{ℕ, Bool, List, [], ◌∷◌, if◌then◌else◌}
 use Rattle.std.specs.List.{flat_map}
 use Rattle.std.specs.declared.cmp.Ordering.{Ordering}

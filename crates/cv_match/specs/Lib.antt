@@ -1,9 +1,8 @@
 pub mod Affects
 pub mod Answer
 pub mod Findings
-pub mod Hit
-pub mod Kinds
+pub mod Keys
 pub mod Order
-pub mod Ready
-pub mod Walk
+pub mod Prepared
 pub mod Within
+pub mod code

@@ -26,7 +26,7 @@ precedence = then_cmp (on (λ p. p.0) nat_cmp) (then_cmp (on (λ p. p.1) nat_cmp
 abbrev pub is_semantic : List ℕ → Bool
 is_semantic text = is_ok (version_parts text)
 
--- texts by the precedence of the versions that they spell; what is no version stands before all that are
+-- texts by the precedence of the versions that they spell; what is not a version comes before all that are
 abbrev pub semantic_cmp : List ℕ → List ℕ → Ordering
 semantic_cmp = on (λ text. result_ok (version_parts text)) (option_cmp precedence)
 

@@ -1,5 +1,5 @@
--- When a version lies within a range of an advisory, after the evaluation of the OSV schema 1.6. cvwatch's own are the ties,
--- and that nothing is within a range that the order of the package cannot read. The events stay as they stand in the record:
+-- When a version lies within a range of an advisory, after the evaluation of the OSV schema 1.6. Defined by this project are
+-- the ties, and that nothing is within a range that the order of the package cannot read. The events stay as they stand in the record:
 -- nothing is sorted.
 use Rattle.std.specs.Prelude.{ℕ, Bool, true, false, not, ◌&&◌, ◌||◌, if◌then◌else◌, List, codes, map, Option, Some, None}
 use Rattle.std.specs.List.{list_all, list_any}

@@ -5,7 +5,7 @@ use cv_base::{PackageName, Seq, Text};
 
 /// An affected entry of an advisory with its versions read. A range in which nothing can lie has no events.
 #[derive(Drop)]
-pub(crate) struct ReadyEntry<V> {
+pub(crate) struct PreparedEntry<V> {
     pub package: Option<PackageName>,
     pub ranges: Seq<Option<Seq<Placed<V>>>>,
     pub versions: Seq<Text>,
@@ -13,15 +13,15 @@ pub(crate) struct ReadyEntry<V> {
 
 /// The entries of an advisory, read for one kind of package.
 #[derive(Drop)]
-pub(crate) enum ReadyEntries {
-    Deb(Seq<ReadyEntry<DebVersion>>),
-    Apk(Seq<ReadyEntry<ApkVersion>>),
-    Npm(Seq<ReadyEntry<SemanticVersion>>),
+pub(crate) enum PreparedEntries {
+    Deb(Seq<PreparedEntry<DebVersion>>),
+    Apk(Seq<PreparedEntry<ApkVersion>>),
+    Npm(Seq<PreparedEntry<SemanticVersion>>),
 }
 
-/// The version of a package, read for its kind: none where the text is no version.
+/// The version of a package, read for its kind: `None` if the text is not a valid version.
 #[derive(Drop)]
-pub(crate) enum ReadyVersion {
+pub(crate) enum PreparedVersion {
     Deb(Option<DebVersion>),
     Apk(Option<ApkVersion>),
     Npm(Option<SemanticVersion>),

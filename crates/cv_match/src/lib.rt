@@ -1,4 +1,4 @@
-//! Tells which packages an advisory affects, and which version has the fix, after the evaluation of the OSV schema 1.6.
+//! Which packages an advisory affects, and which version has the fix, after the evaluation of the OSV schema 1.6.
 //!
 //! ```text
 //! let record = prepare(alloc, &advisory, PackageKind::Deb)?;
@@ -10,14 +10,16 @@
 #![tactic(auto)]
 
 mod answer;
-mod asking;
 mod entry;
+mod evaluate;
 mod key;
+mod kinds;
 mod laws;
 mod matching;
+mod order;
 mod placed;
+mod prepared;
 mod reading;
-mod ready;
 mod semantic;
 #[cfg(test)]
 mod tests;
@@ -25,8 +27,10 @@ mod version;
 mod within;
 
 pub use answer::{FixedAt, Hit};
-pub use asking::{affects, fixed_text};
-pub use key::{family, key_name};
-pub use laws::findings_laws;
-pub use ready::{ReadyAdvisory, ReadyPackage, prepare, prepare_package};
+pub use evaluate::{affects, fixed_text};
+pub use key::{family, key_name, package_keys};
+pub use kinds::{PreparedForKinds, prepare_for_kinds};
+pub use laws::{findings_laws, key_laws};
+pub use order::in_order;
+pub use prepared::{ReadyAdvisory, ReadyPackage, prepare, prepare_package};
 pub use semantic::{SemanticVersion, semantic_order_laws};

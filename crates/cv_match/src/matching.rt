@@ -3,21 +3,22 @@ ghost use Rattle.std.specs.List.{list_any, position_from, slice_get};
 ghost use Rattle.std.specs.Option.{option_and_then};
 ghost use Rattle.cv_base.specs.Texts.{same};
 ghost use Rattle.cv_match.specs.Affects.{matches_ecosystem};
-ghost use Rattle.cv_match.specs.Hit.{entry_holds, entry_lists, fix_in, fixed_at, fixed_in, hit_listed, hit_of, hit_within, key_matches, range_holds};
+ghost use Rattle.cv_match.specs.code.Hit.{entry_holds, entry_lists, fix_in, fixed_at, fixed_in, hit_listed, hit_of, hit_within, key_matches, range_holds};
 ghost use Rattle.cv_match.specs.Order.{version_cmp_of};
-ghost use Rattle.cv_match.specs.Ready.{entry_text, range_text};
+ghost use Rattle.cv_match.specs.code.Reading.{entry_text, range_text};
 
 use crate::answer::{FixedAt, Hit};
-use crate::entry::ReadyEntry;
+use crate::entry::PreparedEntry;
 use crate::key::{PackageKey, family};
 use crate::placed::Placed;
 use crate::version::Version;
 use crate::within::{holds, least_fix};
 use cv_base::{PackageName, Seq, Text};
 
-/// The answer of a record's entries about a package. `version` is none where the package's text is no version.
+/// The answer of a record's entries about a package. `version` is `None` if the text of the package is not a
+/// valid version.
 pub(crate) fn hit<V: Version>(
-    entries: &[ReadyEntry<V>],
+    entries: &[PreparedEntry<V>],
     key: &PackageKey,
     version: &Option<V>,
 ) -> Hit
@@ -31,7 +32,7 @@ pub(crate) fn hit<V: Version>(
 
 #[tactic(auto, using(crate::proofs::Mapped::get_map))]
 fn hit_within<V: Version>(
-    entries: &[ReadyEntry<V>],
+    entries: &[PreparedEntry<V>],
     key: &PackageKey,
     version: &V,
     first: Option<usize>,
@@ -48,7 +49,7 @@ fn hit_within<V: Version>(
 
 #[tactic(auto, using(crate::proofs::Mapped::get_map))]
 fn fixed_at_place<V: Version>(
-    entries: &[ReadyEntry<V>],
+    entries: &[PreparedEntry<V>],
     place: usize,
     version: &V,
 ) -> Option<FixedAt>
@@ -61,7 +62,7 @@ fn fixed_at_place<V: Version>(
 }
 
 #[tactic(auto, using(crate::proofs::Mapped::any_entries))]
-fn hit_listed<V: Version>(entries: &[ReadyEntry<V>], key: &PackageKey) -> Hit
+fn hit_listed<V: Version>(entries: &[PreparedEntry<V>], key: &PackageKey) -> Hit
     ensures { result ≡ hit_listed key.now (map (entry_text V.text) entries.now) }
 {
     if is_listed(entries, key) {
@@ -71,7 +72,7 @@ fn hit_listed<V: Version>(entries: &[ReadyEntry<V>], key: &PackageKey) -> Hit
     }
 }
 
-fn is_listed<V: Version>(entries: &[ReadyEntry<V>], key: &PackageKey) -> bool
+fn is_listed<V: Version>(entries: &[PreparedEntry<V>], key: &PackageKey) -> bool
     ensures { result ≡ list_any (λ entry. entry_lists key.now (entry_text V.text entry)) entries.now }
 {
     entries.iter().any(|entry| entry_lists(entry, key))
@@ -79,7 +80,7 @@ fn is_listed<V: Version>(entries: &[ReadyEntry<V>], key: &PackageKey) -> bool
 
 /// The first entry about the package that has the version within a range.
 fn first_entry<V: Version>(
-    entries: &[ReadyEntry<V>],
+    entries: &[PreparedEntry<V>],
     key: &PackageKey,
     version: &V,
 ) -> Option<usize>
@@ -89,7 +90,7 @@ fn first_entry<V: Version>(
 }
 
 fn entry_place<V: Version>(
-    entries: &[ReadyEntry<V>],
+    entries: &[PreparedEntry<V>],
     key: &PackageKey,
     version: &V,
 ) -> Option<usize>
@@ -100,7 +101,7 @@ fn entry_place<V: Version>(
         .position(|entry| entry_holds(entry, key, version))
 }
 
-fn entry_lists<V: Version>(entry: &ReadyEntry<V>, key: &PackageKey) -> bool
+fn entry_lists<V: Version>(entry: &PreparedEntry<V>, key: &PackageKey) -> bool
     ensures { result ≡ entry_lists key.now (entry_text V.text entry.now) }
 {
     key_matches(&entry.package, key) && contains_text(entry.versions.as_slice(), &key.version)
@@ -112,7 +113,7 @@ fn contains_text(texts: &[Text], text: &Text) -> bool
     texts.iter().any(|x| *x == *text)
 }
 
-fn entry_holds<V: Version>(entry: &ReadyEntry<V>, key: &PackageKey, version: &V) -> bool
+fn entry_holds<V: Version>(entry: &PreparedEntry<V>, key: &PackageKey, version: &V) -> bool
     ensures { result ≡ entry_holds (version_cmp_of V.kind) key.now (V.text version.now) (entry_text V.text entry.now) }
 {
     key_matches(&entry.package, key) && some_range_holds(entry.ranges.as_slice(), version)
@@ -149,7 +150,7 @@ fn fix_in<V: Version>(range: &Option<Seq<Placed<V>>>, version: &V) -> Option<usi
 }
 
 /// The fixed version of an entry, which has this number: that of its first range that has the version within.
-fn fixed_at<V: Version>(place: usize, entry: &ReadyEntry<V>, version: &V) -> Option<FixedAt>
+fn fixed_at<V: Version>(place: usize, entry: &PreparedEntry<V>, version: &V) -> Option<FixedAt>
     ensures { result ≡ fixed_at (version_cmp_of V.kind) (V.text version.now) place (entry_text V.text entry.now) }
 {
     let ranges = entry.ranges.as_slice();

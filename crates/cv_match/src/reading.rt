@@ -1,67 +1,67 @@
 ghost use Rattle.std.specs.Prelude.{◌≡◌, IfOk, if◌then◌else◌, map, option_map, Some, None};
-ghost use Rattle.cv_match.specs.Ready.{bound_text, entry_text, event_text, events_of, range_text, read_bound, read_event, read_events, ready_entry};
+ghost use Rattle.cv_match.specs.code.Reading.{bound_text, entry_text, event_text, events_of, prepared_entry, range_text, read_bound, read_event, read_events};
 ghost use Rattle.cv_match.specs.Within.{belongs, introduced_at, limited_at};
 
-use crate::entry::ReadyEntry;
+use crate::entry::PreparedEntry;
 use crate::placed::{Bound, Placed};
 use crate::version::Version;
 use cv_base::{Affected, NoMemory, PackageKind, Range, RangeKind, Seq, Text, Turn};
 use std::alloc::Global;
 
 /// The entries of a record, with each version read once.
-pub(crate) fn ready_entries<V: Version>(
+pub(crate) fn prepare_entries<V: Version>(
     alloc: Global,
     kind: PackageKind,
     entries: &[Affected],
-) -> Result<Seq<ReadyEntry<V>>, NoMemory>
+) -> Result<Seq<PreparedEntry<V>>, NoMemory>
     requires { kind ≡ V.kind }
-    ensures { IfOk result (λ ready. map (entry_text V.text) ready ≡ map (ready_entry V.kind) entries.now) }
+    ensures { IfOk result (λ prepared. map (entry_text V.text) prepared ≡ map (prepared_entry V.kind) entries.now) }
 {
-    let mut ready = Vec::new(alloc);
+    let mut prepared = Vec::new(alloc);
     for entry in entries {
-        ready.push(ready_entry(alloc, kind, entry)?)?;
+        prepared.push(prepare_entry(alloc, kind, entry)?)?;
     }
-    Ok(Seq::of(ready))
+    Ok(Seq::of(prepared))
 }
 
-fn ready_entry<V: Version>(
+fn prepare_entry<V: Version>(
     alloc: Global,
     kind: PackageKind,
     entry: &Affected,
-) -> Result<ReadyEntry<V>, NoMemory>
+) -> Result<PreparedEntry<V>, NoMemory>
     requires { kind ≡ V.kind }
-    ensures { IfOk result (λ ready. entry_text V.text ready ≡ ready_entry V.kind entry.now) }
+    ensures { IfOk result (λ prepared. entry_text V.text prepared ≡ prepared_entry V.kind entry.now) }
 {
-    Ok(ReadyEntry {
+    Ok(PreparedEntry {
         package: entry.package.clone()?,
-        ranges: ready_ranges(alloc, kind, entry.ranges.as_slice())?,
+        ranges: prepare_ranges(alloc, kind, entry.ranges.as_slice())?,
         versions: entry.versions.clone()?,
     })
 }
 
-fn ready_ranges<V: Version>(
+fn prepare_ranges<V: Version>(
     alloc: Global,
     kind: PackageKind,
     ranges: &[Range],
 ) -> Result<Seq<Option<Seq<Placed<V>>>>, NoMemory>
     requires { kind ≡ V.kind }
-    ensures { IfOk result (λ ready. map (range_text V.text) ready ≡ map (events_of V.kind) ranges.now) }
+    ensures { IfOk result (λ prepared. map (range_text V.text) prepared ≡ map (events_of V.kind) ranges.now) }
 {
-    let mut ready = Vec::new(alloc);
+    let mut prepared = Vec::new(alloc);
     for range in ranges {
-        ready.push(ready_range(alloc, kind, range)?)?;
+        prepared.push(prepare_range(alloc, kind, range)?)?;
     }
-    Ok(Seq::of(ready))
+    Ok(Seq::of(prepared))
 }
 
 #[tactic(auto, using(crate::proofs::EventsRead::events_read, crate::proofs::EventsRead::no_events))]
-fn ready_range<V: Version>(
+fn prepare_range<V: Version>(
     alloc: Global,
     kind: PackageKind,
     range: &Range,
 ) -> Result<Option<Seq<Placed<V>>>, NoMemory>
     requires { kind ≡ V.kind }
-    ensures { IfOk result (λ ready. range_text V.text ready ≡ events_of V.kind range.now) }
+    ensures { IfOk result (λ prepared. range_text V.text prepared ≡ events_of V.kind range.now) }
 {
     if belongs(kind, range.kind) {
         read_events(alloc, range.turns.as_slice())
@@ -86,16 +86,16 @@ fn read_events<V: Version>(
     alloc: Global,
     turns: &[Turn],
 ) -> Result<Option<Seq<Placed<V>>>, NoMemory>
-    ensures { IfOk result (λ ready. range_text V.text ready ≡ read_events V.kind turns.now) }
+    ensures { IfOk result (λ prepared. range_text V.text prepared ≡ read_events V.kind turns.now) }
 {
     let mut events = Vec::new(alloc);
-    let mut left = turns;
-    while let [turn, rest @ ..] = left {
+    let mut remaining = turns;
+    while let [turn, rest @ ..] = remaining {
         match read_event(alloc, turn)? {
             Some(event) => events.push(event)?,
             None => return Ok(None),
         }
-        left = rest;
+        remaining = rest;
     }
     Ok(Some(Seq::of(events)))
 }

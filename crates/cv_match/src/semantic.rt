@@ -32,7 +32,7 @@ impl Model for SemanticVersion {
 }
 
 impl SemanticVersion {
-    /// The version that the text spells, or none where `semver` reads none: SemVer 2.0.0, with numbers up to 64 bits.
+    /// The version that the text spells, or `None` if `semver` reads none: SemVer 2.0.0, with numbers up to 64 bits.
     pub fn read(alloc: Global, text: &Text) -> Result<Option<SemanticVersion>, NoMemory>
         ensures { IfOk result (λ found. found ≡ version_in Npm text.now) }
     {

@@ -63,7 +63,7 @@ fn advisory(alloc: Global, withdrawn: bool, affected: Seq<Affected>) -> Result<A
 }
 
 /// A record with one range about the source package `a`.
-fn told(
+fn record(
     alloc: Global,
     ecosystem: &str,
     kind: RangeKind,
@@ -106,9 +106,9 @@ fn answer<L: Ledger>(
     requires some { 0 < L.parts }
 {
     let mut steps = Steps::<L>::open(blank);
-    let ready = prepare(alloc, advisory, package.kind)?;
+    let prepared = prepare(alloc, advisory, package.kind)?;
     let package = prepare_package(alloc, package)?;
-    match affects(&ready, &package, &mut steps) {
+    match affects(&prepared, &package, &mut steps) {
         Hit::No => Text::of(alloc, "no"),
         Hit::Yes { fixed: None } => Text::of(alloc, "yes"),
         Hit::Yes { fixed: Some(at) } => match fixed_text(advisory, at) {
@@ -131,7 +131,7 @@ fn row(
     events: &[(&str, &str)],
     version: &str,
 ) -> Result<Text, Fail> {
-    let record = told(alloc, ecosystem.0, range, events)?;
+    let record = record(alloc, ecosystem.0, range, events)?;
     let package = installed(alloc, kind, ecosystem.1, version)?;
     Ok(answered(alloc, &record, &package)?)
 }
@@ -227,7 +227,7 @@ fn the_ecosystem_before_the_colon_matches(rt: HostRuntime) -> Result<(), Fail> {
         ("Debian:12", "1:1.3"),
         ("Debian:11", "no"),
     ] {
-        let told = row(
+        let answer = row(
             alloc,
             PackageKind::Deb,
             (ecosystem, "Debian:12"),
@@ -235,7 +235,7 @@ fn the_ecosystem_before_the_colon_matches(rt: HostRuntime) -> Result<(), Fail> {
             &events,
             "1:1.2.13.dfsg-1",
         )?;
-        assert_eq!(rt; told.as_str(), want, "of {ecosystem}");
+        assert_eq!(rt; answer.as_str(), want, "of {ecosystem}");
     }
     Ok(())
 }
@@ -270,15 +270,15 @@ fn records_of_each_ecosystem_answer_for_its_packages(rt: HostRuntime) -> Result<
         ),
     ] {
         let events: [(&str, &str); 2] = [("introduced", "0"), ("fixed", fixed)];
-        let told = row(alloc, kind, (ecosystem, ecosystem), range, &events, version)?;
-        assert_eq!(rt; told.as_str(), want, "{ecosystem} at {version}");
+        let answer = row(alloc, kind, (ecosystem, ecosystem), range, &events, version)?;
+        assert_eq!(rt; answer.as_str(), want, "{ecosystem} at {version}");
     }
     Ok(())
 }
 
 #[test]
 fn a_version_at_the_fix_is_not_affected(rt: HostRuntime) -> Result<(), Fail> {
-    let told = row(
+    let answer = row(
         rt.alloc(),
         PackageKind::Deb,
         ("Debian:12", "Debian:12"),
@@ -286,13 +286,13 @@ fn a_version_at_the_fix_is_not_affected(rt: HostRuntime) -> Result<(), Fail> {
         &[("introduced", "0"), ("fixed", "3.0.11-1")],
         "3.0.11-1",
     )?;
-    assert_eq!(rt; told.as_str(), "no");
+    assert_eq!(rt; answer.as_str(), "no");
     Ok(())
 }
 
 #[test]
 fn an_introduction_that_nothing_ends_affects_later_versions(rt: HostRuntime) -> Result<(), Fail> {
-    let told = row(
+    let answer = row(
         rt.alloc(),
         PackageKind::Npm,
         ("npm", "npm"),
@@ -300,7 +300,7 @@ fn an_introduction_that_nothing_ends_affects_later_versions(rt: HostRuntime) -> 
         &[("introduced", "0")],
         "1.0.0",
     )?;
-    assert_eq!(rt; told.as_str(), "yes");
+    assert_eq!(rt; answer.as_str(), "yes");
     Ok(())
 }
 
@@ -326,5 +326,87 @@ fn semantic_versions_compare_by_precedence(rt: HostRuntime) -> Result<(), Fail> 
     ] {
         assert!(rt; ordering(alloc, a, b)? == want, "{a} and {b}");
     }
+    Ok(())
+}
+
+#[test]
+fn numbers_above_64_bits_are_in_pre_releases_alone(rt: HostRuntime) -> Result<(), Fail> {
+    let alloc = rt.alloc();
+    for (a, b, want) in [
+        ("18446744073709551616.0.0", "1.0.0", None),
+        ("18446744073709551615.0.0", "1.0.0", Some(Ordering::Greater)),
+        (
+            "1.0.0-9999999999999999999999998",
+            "1.0.0-9999999999999999999999999",
+            Some(Ordering::Less),
+        ),
+        (
+            "1.0.0-1000000000000000000000000",
+            "1.0.0-999999999999999999999999",
+            Some(Ordering::Greater),
+        ),
+        (
+            "1.0.0-1000000000000000000000000",
+            "1.0.0-a",
+            Some(Ordering::Less),
+        ),
+    ] {
+        assert!(rt; ordering(alloc, a, b)? == want, "{a} and {b}");
+    }
+    Ok(())
+}
+
+#[test]
+fn a_package_has_a_key_for_its_ecosystem_and_one_for_the_part_before_the_colon(
+    rt: HostRuntime,
+) -> Result<(), Fail> {
+    let alloc = rt.alloc();
+    for (kind, want) in [
+        (PackageKind::Deb, ["Debian:12", "Debian"].as_slice()),
+        (PackageKind::Npm, ["npm"].as_slice()),
+        (PackageKind::Apk, ["a:b:c", "a"].as_slice()),
+    ] {
+        for ecosystem in want.iter().take(1) {
+            let keys = package_keys(alloc, &installed(alloc, kind, ecosystem, "1")?)?;
+            assert_eq!(rt; keys.as_slice().len(), want.len());
+            for (key, ecosystem) in keys.as_slice().iter().zip(want) {
+                assert_eq!(rt; key.name.as_str(), "a");
+                assert_eq!(rt; key.ecosystem.as_str(), *ecosystem);
+            }
+        }
+    }
+    Ok(())
+}
+
+fn sent<T: Send + Sync>(value: T) -> T {
+    value
+}
+
+#[test]
+fn prepared_records_are_shared_and_go_to_other_threads(rt: HostRuntime) -> Result<(), Fail> {
+    let alloc = rt.alloc();
+    let record = record(
+        alloc,
+        "npm",
+        RangeKind::Semver,
+        &[("introduced", "0"), ("fixed", "1.0.1")],
+    )?;
+    let package = installed(alloc, PackageKind::Npm, "npm", "1.0.0")?;
+    let prepared = sent(prepare(alloc, &record, package.kind)?);
+    let shared = sent(prepared.clone()?);
+    drop(prepared);
+    let kind = package.kind;
+    let package = sent(prepare_package(alloc, &package)?);
+    let at = sent(FixedAt {
+        entry: 0,
+        range: 0,
+        turn: 1,
+    });
+    assert_eq!(rt; sent(shared.hit(&package)), Hit::Yes { fixed: Some(at) });
+    let kinds = sent(prepare_for_kinds(alloc, &record)?).clone()?;
+    let npm = kinds.for_kind(kind);
+    assert_eq!(rt; npm.hit(&package), Hit::Yes { fixed: Some(at) });
+    let version = SemanticVersion::read(alloc, &Text::of(alloc, "1.0.0")?)?;
+    assert!(rt; sent(version).is_some());
     Ok(())
 }

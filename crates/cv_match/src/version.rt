@@ -17,7 +17,7 @@ pub(crate) trait Version: Sized + Drop {
     /// The text that was read.
     ghost text: { Self → List ℕ };
 
-    /// The version that the text spells, or none where it spells none.
+    /// The version that the text spells, or `None` if it is not a valid version.
     fn read(alloc: Global, source: &Text) -> Result<Option<Self>, NoMemory>
         ensures { IfOk result (λ found. option_map text found ≡ version_in kind source.now) };
 

@@ -4,8 +4,8 @@ ghost use Rattle.std.specs.Option.{option_copied};
 ghost use Rattle.std.specs.Ordering.{on};
 ghost use Rattle.cv_match.specs.Affects.{is_least_fix};
 ghost use Rattle.cv_match.specs.Order.{version_cmp_of};
-ghost use Rattle.cv_match.specs.Ready.{event_text};
-ghost use Rattle.cv_match.specs.Walk.{last_start, lasts, later_of, later_start, least_place, lesser_fix, lesser_of, numbered};
+ghost use Rattle.cv_match.specs.code.Reading.{event_text};
+ghost use Rattle.cv_match.specs.code.Walk.{last_start, lasts, later_of, later_start, least_place, lesser_fix, lesser_of, numbered};
 ghost use Rattle.cv_match.specs.Within.{bound_cmp, brings, ends, holds, is_below_limits, is_limit, is_limit_above};
 
 use crate::placed::{Bound, Placed};
@@ -72,10 +72,10 @@ fn last_start<'a, V: Version>(events: &'a [Placed<V>], version: &V) -> Option<&'
     ensures { option_copied result ≡ last_start (on V.text (version_cmp_of V.kind)) version.now None events.now }
 {
     let mut best = None;
-    let mut left = events;
-    while let [event, rest @ ..] = left {
+    let mut remaining = events;
+    while let [event, rest @ ..] = remaining {
         best = later_start(best, event, version);
-        left = rest;
+        remaining = rest;
     }
     best
 }

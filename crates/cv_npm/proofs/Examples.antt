@@ -11,13 +11,13 @@ read : package_in (object (member (codes "name") (string (codes "x")) (member (c
 read = refl
 
 -- no object, a member that is absent, an empty one, and one that is no text
-passed_over : (package_in (array no_items) ≡ None) × (package_in (object (member (codes "version") (string (codes "1")) no_members)) ≡ None)
+no_package : (package_in (array no_items) ≡ None) × (package_in (object (member (codes "version") (string (codes "1")) no_members)) ≡ None)
     × (package_in (object (member (codes "name") (string (codes "x")) no_members)) ≡ None)
     × (package_in (object (member (codes "name") (string []) (member (codes "version") (string (codes "1")) no_members))) ≡ None)
     × (package_in (object (member (codes "name") (string (codes "x")) (member (codes "version") (string []) no_members))) ≡ None)
     × (package_in (object (member (codes "name") null (member (codes "version") (string (codes "1")) no_members))) ≡ None)
     × (package_in (object (member (codes "name") (string (codes "x")) (member (codes "version") (number (unsigned 1)) no_members))) ≡ None)
-passed_over = (refl, refl, refl, refl, refl, refl, refl)
+no_package = (refl, refl, refl, refl, refl, refl, refl)
 
 -- a whole file
 file : npm (codes "{\"name\":\"x\",\"version\":\"1.0.0\"}") ≡ Some (record { name = codes "x"; version = codes "1.0.0" })

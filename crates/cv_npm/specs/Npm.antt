@@ -1,9 +1,8 @@
--- What npm's package.json tells of its package: cvwatch's own profile of it, after "name" and "version" of
--- npm's documentation of package.json. What is JSON is what `serde_json` reads.
+-- The package that npm's package.json names (npm's documentation of package.json, "name" and "version"), as this project reads
+-- it. What is JSON is what `serde_json` reads.
 --
--- `npm bytes` takes the bytes of the file. It gives the package that has the members `name` and `version`
--- where the bytes are an object with both, each a text that is not empty. In every other case it gives
--- none: no JSON, not UTF-8, no object, a member that is absent, no text or empty. A file has no fault.
+-- `npm bytes` takes the bytes of the file. It gives the package of the members `name` and `version`, if the bytes are an object
+-- with both, each a text that is not empty. In every other case it gives none: no JSON, not UTF-8, no object, a member that is absent, no text or empty. A file has no fault.
 use Rattle.std.specs.Prelude.{ℕ, if◌then◌else◌, List, codes, Option, None, option_and_then}
 use Rattle.std.specs.Option.{option_map}
 use Rattle.std.specs.Str.{is_utf8}
@@ -21,11 +20,11 @@ json_of bytes = if is_utf8 bytes then read bytes else None
 abbrev pub text_at : List ℕ → Data → Option (List ℕ)
 text_at key value = option_and_then filled (option_and_then as_str (get key value))
 
--- a package of a name and a version, where both are there
+-- a package of a name and a version, if both are present
 abbrev pub package_of : Option (List ℕ) → Option (List ℕ) → Option NpmPackage
 package_of name version = option_and_then (λ n. option_map (λ v. record { name = n; version = v }) version) name
 
--- the package that a value tells of
+-- the package that a value names
 abbrev pub package_in : Data → Option NpmPackage
 package_in value = package_of (text_at (codes "name") value) (text_at (codes "version") value)
 

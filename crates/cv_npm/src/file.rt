@@ -10,7 +10,7 @@ use serde_json::Value;
 use std::alloc::Global;
 use std::str;
 
-/// The package that a package.json tells of, or none where it has no name or no version that is a text and not empty.
+/// The package that a package.json names, or none if it has no name or no version that is a text and not empty.
 ///
 /// What is JSON is what `serde_json` reads. Only the two texts are copied out of it.
 #[tactic(auto, using(cv_seq::proofs::Utf8::text_found, cv_seq::proofs::Utf8::none_found))]
@@ -32,7 +32,7 @@ pub fn read_package(alloc: Global, bytes: &[u8]) -> Result<Option<NpmPackage>, N
     }
 }
 
-/// The package that a value tells of.
+/// The package that a value names.
 fn package_in(alloc: Global, value: &Value) -> Result<Option<NpmPackage>, NoMemory>
     ensures { IfOk result (λ found. found ≡ package_in (view value.now)) }
 {

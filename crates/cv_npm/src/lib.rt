@@ -1,4 +1,4 @@
-//! Reads npm's package.json into the package that it tells of.
+//! Reads npm's package.json into the package that it names.
 //!
 //! ```text
 //! let package = read_package(alloc, bytes)?;

@@ -1,6 +1,6 @@
 use cv_seq::Text;
 
-/// A package of npm. Both texts are not empty where it was read.
+/// A package of npm. `read_package` gives no empty text.
 #[derive(Clone, Debug, PartialEq, Eq, PartialOrd, Ord, Drop)]
 pub struct NpmPackage {
     pub name: Text,

@@ -3,7 +3,7 @@ use Rattle.std.proofs.Common.{◌≡◌, ℕ, Bool, true, false, ◌==◌, List,
 use Rattle.std.proofs.lemmas.Bool.Decides.{nat_tests}
 use Rattle.cv_order.specs.Digits.{is_digit, front_digits, after_digits, without_zeros}
 
--- what is no digit is no zero
+-- a byte that is not a digit is not a zero
 no_zero : (byte : ℕ) → is_digit byte ≡ false → (byte == 48) ≡ false
 no_zero byte no_digit = grind (arith, nat_tests)
 

@@ -16,7 +16,7 @@ abbrev pub front_while : (ℕ → Bool) → List ℕ → List ℕ
 front_while test [] = []
 front_while test (x ∷ xs) = if test x then x ∷ front_while test xs else []
 
--- what stands behind that part
+-- what comes after that part
 abbrev pub after_while : (ℕ → Bool) → List ℕ → List ℕ
 after_while test [] = []
 after_while test (x ∷ xs) = if test x then after_while test xs else x ∷ xs
@@ -25,7 +25,7 @@ after_while test (x ∷ xs) = if test x then after_while test xs else x ∷ xs
 abbrev pub front_digits : List ℕ → List ℕ
 front_digits text = front_while is_digit text
 
--- what stands behind that run
+-- what comes after that run
 abbrev pub after_digits : List ℕ → List ℕ
 after_digits text = after_while is_digit text
 

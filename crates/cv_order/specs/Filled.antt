@@ -14,7 +14,7 @@ filled_cmp R filler [] (y ∷ ys) = ordering_then (R filler y) (filled_cmp R fil
 filled_cmp R filler (x ∷ xs) [] = ordering_then (R x filler) (filled_cmp R filler xs [])
 filled_cmp R filler (x ∷ xs) (y ∷ ys) = ordering_then (R x y) (filled_cmp R filler xs ys)
 
--- the places behind the first one
+-- the places after the first one
 abbrev pub later : {K : Type 0} → List K → List K
 later [] = []
 later (x ∷ xs) = xs

@@ -8,7 +8,7 @@ use std::cmp::Ordering;
 
 const ZERO: u8 = b'0';
 
-/// What the fronts of two texts compare to, and what stands behind both fronts.
+/// What the fronts of two texts compare to, and what comes after both fronts.
 #[derive(Clone, Copy)]
 pub struct Compared<'a> {
     pub ordering: Ordering,
@@ -26,28 +26,28 @@ pub fn number_order_laws()
 pub fn significant(text: &[u8]) -> &[u8]
     ensures { result.now ≡ without_zeros text.now }
 {
-    let mut left = text;
-    while let [byte, rest @ ..] = left {
+    let mut remaining = text;
+    while let [byte, rest @ ..] = remaining {
         if *byte != ZERO {
-            return left;
+            return remaining;
         }
-        left = rest;
+        remaining = rest;
     }
-    left
+    remaining
 }
 
-/// What stands behind the digits that lead the text.
+/// What comes after the digits that lead the text.
 pub fn skip_digits(text: &[u8]) -> &[u8]
     ensures { result.now ≡ after_digits text.now }
 {
-    let mut left = text;
-    while let Some((_, rest)) = split_digit(left) {
-        left = rest;
+    let mut remaining = text;
+    while let Some((_, rest)) = split_digit(remaining) {
+        remaining = rest;
     }
-    left
+    remaining
 }
 
-/// The digits that lead the text, and what stands behind them.
+/// The digits that lead the text, and what comes after them.
 #[tactic(auto, using(crate::proofs::Fronts::while_some, crate::proofs::Fronts::while_none, crate::proofs::Fronts::past_some, crate::proofs::Fronts::past_none))]
 pub fn split_digits(text: &[u8]) -> (&[u8], &[u8])
     ensures digits { result.0.now ≡ front_digits text.now }
@@ -59,7 +59,7 @@ pub fn split_digits(text: &[u8]) -> (&[u8], &[u8])
     }
 }
 
-/// The index of the first byte that is no digit.
+/// The index of the first byte that is not a digit.
 fn digits_end(text: &[u8]) -> Option<usize>
     ensures { result ≡ position (λ byte. not (is_digit byte)) text.now }
 {
@@ -118,7 +118,7 @@ fn compare_runs<'a>(a: &'a [u8], b: &'a [u8]) -> Compared<'a>
     }
 }
 
-/// The digit that leads the text, and what stands behind it.
+/// The digit that leads the text, and what comes after it.
 fn split_digit(text: &[u8]) -> Option<(u8, &[u8])>
     ensures digit { IfSome result (λ found. (text.now ≡ found.0 ∷ found.1.now) × (is_digit found.0 ≡ true)) }
     ensures none { IfNone result ((front_digits text.now ≡ []) × (after_digits text.now ≡ text.now)) }
@@ -164,7 +164,7 @@ mod tests {
     }
 
     #[test]
-    fn the_rests_stand_behind_the_digits(rt: HostRuntime) {
+    fn the_rests_come_after_the_digits(rt: HostRuntime) {
         let found = compare_numbers(b"010-a", b"9+b");
         assert_eq!(rt; found.ordering, Ordering::Greater);
         assert_eq!(rt; found.left, b"-a".as_slice());

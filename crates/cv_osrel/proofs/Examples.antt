@@ -7,7 +7,7 @@ use Rattle.cv_osrel.specs.System.{os_of, trimmed, value_by}
 use Rattle.cv_osrel.specs.Value.{value_of}
 use Rattle.cv_osrel.specs.declared.name.OsName.{OsName}
 
--- the three forms, with nothing behind a closing quote
+-- the three forms, with nothing after a closing quote
 forms : (value_of (codes "\"a b\"") ≡ Some (codes "a b")) × (value_of (codes "'a \"\\ b'") ≡ Some (codes "a \"\\ b")) × (value_of (codes "3.18") ≡ Some (codes "3.18"))
     × (value_of [] ≡ Some []) × (value_of (codes "\"\"") ≡ Some []) × (value_of (codes "''") ≡ Some [])
 forms = (refl, refl, refl, refl, refl, refl)
@@ -25,7 +25,7 @@ no_values = (refl, refl, refl, refl, refl, refl, refl, refl)
 ends : trimmed (codes " \t\rID=a b \r") ≡ codes "ID=a b"
 ends = refl
 
--- a name stands right before its `=`, and the value right behind it
+-- a name stands right before its `=`, and the value right after it
 assignments : (value_by (codes "ID") (codes "ID=debian") ≡ Some (codes "debian")) × (value_by (codes "ID") (codes "ID=a=b") ≡ Some (codes "a=b"))
     × (value_by (codes "ID") (codes "ID =debian") ≡ None) × (value_by (codes "ID") (codes "ID= debian") ≡ None) × (value_by (codes "ID") (codes "#ID=debian") ≡ None)
     × (value_by (codes "ID") (codes "VERSION_ID=12") ≡ None) × (value_by (codes "1ID") (codes "1ID=debian") ≡ None) × (value_by (codes "ID") (codes "ID") ≡ None)

@@ -5,7 +5,7 @@ use Rattle.std.specs.Option.{option_map}
 use Rattle.cv_base.specs.Texts.{is_nil}
 use Rattle.cv_osrel.specs.Value.{double_quoted, is_backslash, is_double_quote, unescaped}
 
--- what was read goes in front of what is left
+-- what was read goes in front of what remains
 abbrev pub onto : List ℕ → Option (List ℕ) → Option (List ℕ)
 onto front r = option_map (λ t. front ++ t) r
 
@@ -29,20 +29,20 @@ alike : (x k : ℕ) → x ≡ k → (x == k) ≡ true
 alike x k h = grind (arith, nat_tests)
 
 -- a byte that stands for itself
-pub plain_more : (v left : List ℕ) (x : ℕ) (xs : List ℕ) → left ≡ x ∷ xs → (x ≡ 34 → ⊥) → (x ≡ 92 → ⊥) → onto (v ++ x ∷ []) (double_quoted xs) ≡ onto v (double_quoted left)
-plain_more v left x xs e p q = onto_onto v (x ∷ []) (double_quoted xs) ∙ ap (onto v) (sym (plain x xs (unlike x 34 p) (unlike x 92 q)) ∙ ap double_quoted (sym e))
+pub plain_more : (v text : List ℕ) (x : ℕ) (xs : List ℕ) → text ≡ x ∷ xs → (x ≡ 34 → ⊥) → (x ≡ 92 → ⊥) → onto (v ++ x ∷ []) (double_quoted xs) ≡ onto v (double_quoted text)
+plain_more v text x xs e p q = onto_onto v (x ∷ []) (double_quoted xs) ∙ ap (onto v) (sym (plain x xs (unlike x 34 p) (unlike x 92 q)) ∙ ap double_quoted (sym e))
 
 escaped : (x y : ℕ) (ys : List ℕ) → is_double_quote x ≡ false → is_backslash x ≡ true → double_quoted (x ∷ y ∷ ys) ≡ onto (unescaped y) (double_quoted ys)
 escaped x y ys p q = simp (p, q)
 
--- a byte behind a backslash
-pub escaped_more : (v left xs : List ℕ) (x y : ℕ) (ys : List ℕ) → left ≡ x ∷ xs → xs ≡ y ∷ ys → (x ≡ 34 → ⊥) → x ≡ 92 → onto (v ++ unescaped y) (double_quoted ys) ≡ onto v (double_quoted left)
-escaped_more v left xs x y ys e f p q = onto_onto v (unescaped y) (double_quoted ys)
+-- a byte after a backslash
+pub escaped_more : (v text xs : List ℕ) (x y : ℕ) (ys : List ℕ) → text ≡ x ∷ xs → xs ≡ y ∷ ys → (x ≡ 34 → ⊥) → x ≡ 92 → onto (v ++ unescaped y) (double_quoted ys) ≡ onto v (double_quoted text)
+escaped_more v text xs x y ys e f p q = onto_onto v (unescaped y) (double_quoted ys)
     ∙ ap (onto v) (sym (escaped x y ys (unlike x 34 p) (alike x 92 q)) ∙ ap double_quoted (sym (e ∙ ap (λ r. x ∷ r) f)))
 
--- a backslash with nothing behind it
-pub loose : (v left xs : List ℕ) (x : ℕ) → left ≡ x ∷ xs → xs ≡ [] → (x ≡ 34 → ⊥) → onto v (double_quoted left) ≡ None
-loose v left xs x e f p = ap (λ l. onto v (double_quoted l)) (e ∙ ap (λ r. x ∷ r) f) ∙ by (unlike x 34 p) where
+-- a backslash with nothing after it
+pub loose : (v text xs : List ℕ) (x : ℕ) → text ≡ x ∷ xs → xs ≡ [] → (x ≡ 34 → ⊥) → onto v (double_quoted text) ≡ None
+loose v text xs x e f p = ap (λ l. onto v (double_quoted l)) (e ∙ ap (λ r. x ∷ r) f) ∙ by (unlike x 34 p) where
   by : is_double_quote x ≡ false → onto v (double_quoted (x ∷ [])) ≡ None
   by h = simp h
 
@@ -50,6 +50,6 @@ closing_by : (v : List ℕ) (x : ℕ) (xs : List ℕ) → is_double_quote x ≡ 
 closing_by v x [] h = simp h (ap Some (append-nil v))
 closing_by v x (y ∷ ys) h = simp h
 
--- the closing quote, with nothing behind it, and else with something
-pub closing : (v left : List ℕ) (x : ℕ) (xs : List ℕ) → left ≡ x ∷ xs → x ≡ 34 → onto v (double_quoted left) ≡ (if is_nil xs then Some v else None)
-closing v left x xs e h = ap (λ l. onto v (double_quoted l)) e ∙ closing_by v x xs (alike x 34 h)
+-- the closing quote, with nothing after it, and else with something
+pub closing : (v text : List ℕ) (x : ℕ) (xs : List ℕ) → text ≡ x ∷ xs → x ≡ 34 → onto v (double_quoted text) ≡ (if is_nil xs then Some v else None)
+closing v text x xs e h = ap (λ l. onto v (double_quoted l)) e ∙ closing_by v x xs (alike x 34 h)

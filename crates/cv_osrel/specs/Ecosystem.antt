@@ -1,4 +1,4 @@
--- The ecosystem of a package: cvwatch's own table, after the ecosystems of the OSV schema (`Debian:12`, `Alpine:v3.18`, `npm`).
+-- The ecosystem of a package: a table defined by this project, in the form of the OSV schema (`Debian:12`, `Alpine:v3.18`, `npm`).
 --
 -- `eco os kind` takes the system, or none where the root has no file os-release, and the kind of the package.
 use Rattle.std.specs.Prelude.{ℕ, ◌==◌, if◌then◌else◌, List, [], ◌∷◌, ◌++◌, codes, Option, None, Some}

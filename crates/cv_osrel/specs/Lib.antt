@@ -1,4 +1,4 @@
 pub mod Ecosystem
-pub mod Held
 pub mod System
 pub mod Value
+pub mod code

@@ -1,15 +1,16 @@
--- The system that a file os-release names: cvwatch's own profile, after os-release(5).
+-- The system that a file os-release names (os-release(5)), as this project reads it.
 --
 -- `os_of bytes` takes the bytes of the file and gives an `OsName`, its id and its version if it has one. It refuses nothing:
--- a line that is no assignment is passed over. The last assignment of a name counts. An ID that is absent or empty is `linux`,
+-- a line that is no assignment is ignored. The last assignment of a name counts. An ID that is absent or empty is `linux`,
 -- and a VERSION_ID that is absent or empty is absent.
 use Rattle.std.specs.Prelude.{ℕ, Bool, false, ◌&&◌, ◌||◌, ◌==◌, nat_le, if◌then◌else◌, List, [], ◌∷◌, codes, map, Option, None, Some, option_and_then, unwrap_or}
 use Rattle.std.specs.List.{list_all, slice_split}
-use Rattle.std.specs.Option.{option_map, option_or}
+use Rattle.std.specs.Option.{option_map}
 use Rattle.std.specs.Str.{is_utf8}
 use Rattle.cv_base.specs.Cuts.{cut, is_dropped, is_lf, without_end}
 use Rattle.cv_base.specs.Texts.{filled, same}
 use Rattle.cv_order.specs.Digits.{after_while, is_digit}
+use Rattle.cv_stanza.specs.Values.{last_value}
 use Rattle.cv_osrel.specs.Value.{value_of}
 use Rattle.cv_osrel.specs.declared.name.OsName.{OsName}
 
@@ -47,7 +48,7 @@ pub record Assignment : Type 0 where
 abbrev pub text_of : List ℕ → Option (List ℕ)
 text_of value = if is_utf8 value then Some value else None
 
--- what stands before the `=` and behind it as an assignment
+-- what stands before the `=` and after it as an assignment
 abbrev pub assignment_by : List ℕ × List ℕ → Option Assignment
 assignment_by parts =
     if is_name parts.0 then option_map (λ v. record { name = parts.0; value = v }) (option_and_then text_of (value_of parts.1)) else None
@@ -64,14 +65,9 @@ value_for name a = if same a.name name then Some a.value else None
 abbrev pub value_by : List ℕ → List ℕ → Option (List ℕ)
 value_by name line = option_and_then (value_for name) (assignment line)
 
--- the value of the last assignment of a name
-abbrev pub last_value : List ℕ → List (List ℕ) → Option (List ℕ)
-last_value name [] = None
-last_value name (l ∷ ls) = option_or (last_value name ls) (value_by name l)
-
--- the value of a name in a file, unless it is absent or empty
+-- the value of the last assignment of a name in a file, unless it is absent or empty
 abbrev pub value_in : List ℕ → List ℕ → Option (List ℕ)
-value_in name bytes = option_and_then filled (last_value name (lines bytes))
+value_in name bytes = option_and_then filled (last_value (value_by name) (lines bytes))
 
 -- the system that a file names
 abbrev pub os_of : List ℕ → OsName

@@ -1,4 +1,4 @@
--- The values of os-release: cvwatch's own profile, after os-release(5). A value stands in double quotes, in
+-- The values of os-release (os-release(5)), as this project reads them. A value stands in double quotes, in
 -- single quotes, or bare. Every other text is no value.
 use Rattle.std.specs.Prelude.{ℕ, Bool, ◌||◌, ◌==◌, if◌then◌else◌, not, List, [], ◌∷◌, ◌++◌, Option, None, Some, option_and_then}
 use Rattle.std.specs.List.{list_all}
@@ -22,12 +22,12 @@ is_backslash byte = byte == 92
 abbrev pub is_escapable : ℕ → Bool
 is_escapable byte = is_double_quote byte || (byte == 36 || (is_backslash byte || byte == 96))
 
--- a byte behind a backslash, with the backslash where it stays
+-- a byte after a backslash, with the backslash where it stays
 abbrev pub unescaped : ℕ → List ℕ
 unescaped byte = if is_escapable byte then byte ∷ [] else 92 ∷ byte ∷ []
 
 -- the text up to the first double quote that no backslash escapes. It is read from left to right: a backslash and the byte
--- behind it are read together.
+-- after it are read together.
 abbrev pub double_quoted : List ℕ → Option (List ℕ)
 double_quoted [] = None
 double_quoted (x ∷ []) = if is_double_quote x then Some [] else None
@@ -35,7 +35,7 @@ double_quoted (x ∷ y ∷ ys) =
     if is_double_quote x then None
     else (if is_backslash x then option_map (λ t. unescaped y ++ t) (double_quoted ys) else option_map (λ t. x ∷ t) (double_quoted (y ∷ ys)))
 
--- what stands before a quote, with nothing behind it
+-- what stands before a quote, with nothing after it
 abbrev pub closed : List ℕ × List ℕ → Option (List ℕ)
 closed parts = if is_nil parts.1 then Some parts.0 else None
 

@@ -2,7 +2,7 @@
 ghost use Rattle.std.specs.Prelude.{◌≡◌};
 ghost use Rattle.std.specs.Option.{option_map};
 ghost use Rattle.cv_osrel.specs.Ecosystem.{branch};
-ghost use Rattle.cv_osrel.specs.Held.{branch_text, number};
+ghost use Rattle.cv_osrel.specs.code.Lines.{branch_text, number};
 
 use cv_order::split_digits;
 use std::str;
@@ -26,7 +26,7 @@ pub fn branch_of(version: &[u8]) -> Option<Branch<'_>>
     Some(Branch { major, minor })
 }
 
-/// The digits that begin a text, at least one, and what stands behind them.
+/// The digits that begin a text, at least one, and what stands after them.
 #[tactic(auto, using(crate::proofs::Digits::digits_utf8))]
 fn number(text: &[u8]) -> Option<(&str, &[u8])>
     ensures { option_map (λ p. (p.0.now, p.1.now)) result ≡ number text.now }

@@ -1,6 +1,6 @@
 //! Reads os-release into the name of the system, and gives the ecosystem of its packages.
 //!
-//! The profile is cvwatch's own, after os-release(5). The ecosystems have the form of OSV.
+//! What is accepted is a profile of os-release(5), defined by this project. The ecosystems have the form of OSV.
 //!
 //! ```text
 //! let os = read_os(alloc, bytes)?;

@@ -1,6 +1,6 @@
 use cv_seq::Text;
 
-/// The system that os-release names. Where the file was read the id is not empty, nor is a version that is there.
+/// The system that os-release names. `read_os` gives neither an empty id nor an empty version.
 #[derive(Clone, Debug, PartialEq, Eq, PartialOrd, Ord, Drop)]
 pub struct OsName {
     pub id: Text,

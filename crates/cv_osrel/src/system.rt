@@ -1,7 +1,8 @@
 //! A whole file os-release.
 ghost use Rattle.std.specs.Prelude.{◌≡◌, IfOk, IsTrue, codes, unwrap_or};
 ghost use Rattle.cv_base.specs.Texts.{filled};
-ghost use Rattle.cv_osrel.specs.System.{is_name, last_value, lines, os_of, value_in};
+ghost use Rattle.cv_stanza.specs.Values.{last_value};
+ghost use Rattle.cv_osrel.specs.System.{is_name, lines, os_of, value_by, value_in};
 
 use crate::assignment::value_by;
 use crate::name::OsName;
@@ -11,7 +12,7 @@ use std::alloc::Global;
 
 /// The system that a file os-release names.
 ///
-/// Nothing is refused: a line that is no assignment is passed over. One pass over the bytes for each of the two names.
+/// Nothing is refused: a line that is no assignment is ignored. One pass over the bytes for each of the two names.
 pub fn read_os(alloc: Global, bytes: &[u8]) -> Result<OsName, NoMemory>
     ensures { IfOk result (λ os. os ≡ os_of bytes.now) }
 {
@@ -54,16 +55,16 @@ fn filled(value: Text) -> Option<Text>
 #[tactic(auto, using(crate::proofs::Lasts::last_more))]
 fn last_value(alloc: Global, name: &[u8], bytes: &[u8]) -> Result<Option<Text>, NoMemory>
     requires { IsTrue (is_name name.now) }
-    ensures { IfOk result (λ value. value ≡ last_value name.now (lines bytes.now)) }
+    ensures { IfOk result (λ value. value ≡ last_value (value_by name.now) (lines bytes.now)) }
 {
     let mut last = None;
-    let mut left = Some(bytes);
-    while let Some(rest) = left {
+    let mut remaining = Some(bytes);
+    while let Some(rest) = remaining {
         let (line, after) = next_line(rest);
         if let Some(value) = value_by(alloc, name, line)? {
             last = Some(value);
         }
-        left = after;
+        remaining = after;
     }
     Ok(last)
 }

@@ -1,17 +1,18 @@
 //! The lines of a file, all of them borrowed.
 ghost use Rattle.std.specs.Prelude.{◌≡◌, ◌∷◌, ◌≤◌, Some, length};
 ghost use Rattle.std.specs.Option.{option_map};
-ghost use Rattle.cv_base.specs.Cuts.{is_dropped, left_len};
+ghost use Rattle.cv_base.specs.Cuts.{is_dropped};
+ghost use Rattle.cv_base.specs.code.Cuts.{remaining_len};
 ghost use Rattle.cv_order.specs.Digits.{after_while};
-ghost use Rattle.cv_osrel.specs.Held.{lines_left};
+ghost use Rattle.cv_osrel.specs.code.Lines.{trimmed_lines};
 ghost use Rattle.cv_osrel.specs.System.{trimmed};
 
 use cv_base::{is_dropped, trim_line};
 
-/// The first line without what is dropped at its ends, and what stands behind its LF, if it has one.
+/// The first line without what is dropped at its ends, and what stands after its LF, if it has one.
 pub fn next_line(bytes: &[u8]) -> (&[u8], Option<&[u8]>)
-    ensures lines { lines_left (Some bytes.now) ≡ result.0.now ∷ lines_left (option_map (λ s. s.now) result.1) }
-    ensures shorter { left_len (option_map (λ s. s.now) result.1) ≤ length bytes.now }
+    ensures lines { trimmed_lines (Some bytes.now) ≡ result.0.now ∷ trimmed_lines (option_map (λ s. s.now) result.1) }
+    ensures shorter { remaining_len (option_map (λ s. s.now) result.1) ≤ length bytes.now }
 {
     let (line, rest) = cv_base::next_line(bytes);
     (trimmed(line), rest)
@@ -27,12 +28,12 @@ fn trimmed(line: &[u8]) -> &[u8]
 fn trim_front(text: &[u8]) -> &[u8]
     ensures { result.now ≡ after_while is_dropped text.now }
 {
-    let mut left = text;
-    while let [first, rest @ ..] = left {
+    let mut rest = text;
+    while let [first, after @ ..] = rest {
         if !is_dropped(*first) {
-            return left;
+            return rest;
         }
-        left = rest;
+        rest = after;
     }
-    left
+    rest
 }

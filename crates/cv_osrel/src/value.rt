@@ -49,14 +49,14 @@ fn double_quoted_text(alloc: Global, text: &[u8]) -> Result<Option<Text>, NoMemo
     }
 }
 
-/// The text up to the first double quote that no backslash escapes, where nothing stands behind it.
+/// The text up to the first double quote that no backslash escapes, if nothing stands after it.
 #[tactic(auto, using(crate::proofs::Quotes::start, crate::proofs::Quotes::plain_more, crate::proofs::Quotes::escaped_more, crate::proofs::Quotes::loose, crate::proofs::Quotes::closing))]
 fn double_quoted(alloc: Global, text: &[u8]) -> Result<Option<Vec<u8>>, NoMemory>
     ensures { IfOk result (λ value. option_map (λ v. v.items) value ≡ double_quoted text.now) }
 {
     let mut value = Vec::new(alloc);
-    let mut left = text;
-    while let Some((first, rest)) = left.split_first() {
+    let mut remaining = text;
+    while let Some((first, rest)) = remaining.split_first() {
         if *first == b'"' {
             return Ok(if rest.is_empty() { Some(value) } else { None });
         }
@@ -65,16 +65,16 @@ fn double_quoted(alloc: Global, text: &[u8]) -> Result<Option<Vec<u8>>, NoMemory
                 return Ok(None);
             };
             push_escaped(&mut value, *second)?;
-            left = after;
+            remaining = after;
         } else {
             value.push(*first)?;
-            left = rest;
+            remaining = rest;
         }
     }
     Ok(None)
 }
 
-/// Adds a byte that stands behind a backslash, and the backslash where it stays.
+/// Adds a byte that stands after a backslash, and the backslash where it stays.
 fn push_escaped(value: &mut Vec<u8>, byte: u8) -> Result<(), NoMemory>
     ensures { IfOk result (λ _. value.new.items ≡ value.old.items ++ unescaped byte) }
 {
@@ -92,7 +92,7 @@ fn is_escapable(byte: u8) -> bool
     byte == b'"' || byte == b'$' || byte == b'\\' || byte == b'`'
 }
 
-/// The text up to the first single quote, where nothing stands behind it.
+/// The text up to the first single quote, if nothing stands after it.
 fn single_quoted(text: &[u8]) -> Option<&[u8]>
     ensures { option_map (λ v. v.now) result ≡ single_quoted text.now }
 {

@@ -4,8 +4,7 @@ use Rattle.cv_base.specs.declared.advisory.Advisory.{Advisory}
 use Rattle.cv_base.specs.declared.advisory.RangeKind.TheVariants.{Ecosystem, Semver, Other}
 use Rattle.cv_base.specs.declared.advisory.Turn.TheVariants.{Introduced, Fixed, LastAffected, Limit}
 use Rattle.cv_osv.specs.Record.{advisory_of, entry_of, package_of, range_of, kind_of, turns_of}
-use Rattle.cv_osv.specs.Records.{records_of}
-use Rattle.cv_osv.specs.declared.error.OsvError.TheVariants.{NotList, BadAdvisory, DuplicateId}
+use Rattle.cv_osv.specs.Records.{BadAdvisory, DuplicateId, NotList, records_of}
 use Rattle.cv_osv.specs.declared.error.RecordWhat.TheVariants.{NotObject, NoId, NoModified, BadWithdrawn, BadPackage, BadRange, BadEvent, BadVersions}
 use Rattle.serde_json.specs.Data.{Data, null, boolean, string, array, object, no_items, item, Members, no_members, member}
 
@@ -25,7 +24,7 @@ until_fixed =
     object (member (codes "events") (array (item (event (codes "introduced") (codes "0")) (item (event (codes "fixed") (codes "3.0.11-1")) no_items)))
     (member (codes "type") (string (codes "ECOSYSTEM")) no_members))
 
--- a record with these entries, and with more members behind
+-- a record with these entries, and with more members after it
 abbrev record_with : Data → Members → Data
 record_with entries others =
     object (member (codes "affected") entries
@@ -81,7 +80,7 @@ several :
 unfolding turns_of
 several = refl
 
--- types are told by their exact texts
+-- a type has its exact text
 kinds :
     (kind_of (codes "ECOSYSTEM") ≡ Ecosystem) × (kind_of (codes "SEMVER") ≡ Semver)
     × (kind_of (codes "GIT") ≡ Other) × (kind_of (codes "semver") ≡ Other)
@@ -109,7 +108,7 @@ three a b c = array (item a (item b (item c no_items)))
 abbrev bare : List ℕ → Advisory
 bare id = record { id = id; modified = codes "m"; withdrawn = false; affected = [] }
 
--- what stands at the first index is told
+-- the fault at the first index is the answer
 lists :
     (records_of (array no_items) ≡ Ok [])
     × (records_of null ≡ Err NotList)

@@ -1,4 +1,5 @@
+pub mod Appended
 mod Examples
+pub mod FirstFault
+pub mod Indices
 pub mod Onto
-pub mod Places
-pub mod Told

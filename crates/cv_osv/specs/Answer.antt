@@ -1,34 +1,31 @@
--- What a call of this crate answers where a definition says what is read (cvwatch's own).
-use Rattle.std.specs.Prelude.{Bool, true, false, Result, Ok, Err}
-use Rattle.cv_base.specs.Answer.{Gives}
+-- What a call of this crate answers if a definition says what is read (defined by this project).
+use Rattle.std.specs.Prelude.{Option, Some, None, Result}
+use Rattle.cv_base.specs.Answer.{Yields}
+use Rattle.cv_osv.specs.Records.{ListFault}
+use Rattle.cv_osv.specs.Records as list
 use Rattle.cv_osv.specs.declared.error.AdvisoryError.{AdvisoryError}
 use Rattle.cv_osv.specs.declared.error.AdvisoryError.TheVariants as advisory
 use Rattle.cv_osv.specs.declared.error.OsvError.{OsvError}
 use Rattle.cv_osv.specs.declared.error.OsvError.TheVariants as osv
 use Rattle.cv_osv.specs.declared.error.RecordWhat.{RecordWhat}
 
--- a record was not read for want of memory
-abbrev pub is_advisory_memory : AdvisoryError → Bool
-is_advisory_memory (advisory.Bad what) = false
-is_advisory_memory advisory.NoMemory = true
+-- what is wrong with a record by its error: nothing if the call ran out of memory
+abbrev pub what_in : AdvisoryError → Option RecordWhat
+what_in (advisory.Bad what) = Some what
+what_in advisory.NoMemory = None
 
--- a fault, as a call tells it
-abbrev pub refusing : {A : Type 0} → Result A RecordWhat → Result A AdvisoryError
-refusing (Ok x) = Ok x
-refusing (Err what) = Err (advisory.Bad what)
-
--- what was read, or the fault, as the definition says, unless memory ran out
+-- a call answers what a definition reads, or its fault, unless it ran out of memory
 abbrev pub Reads : {X Y : Type 0} → (X → Y) → Result X AdvisoryError → Result Y RecordWhat → Type 0
-Reads view result wanted = Gives is_advisory_memory view result (refusing wanted)
+Reads view result wanted = Yields what_in view result wanted
 
 -- the same of a call that takes no memory
-abbrev pub Tells : {X Y : Type 0} → (X → Y) → Result X RecordWhat → Result Y RecordWhat → Type 0
-Tells view result wanted = Gives (λ _. false) view result wanted
+abbrev pub Answers : {X Y : Type 0} → (X → Y) → Result X RecordWhat → Result Y RecordWhat → Type 0
+Answers view result wanted = Yields (λ what. Some what) view result wanted
 
--- a list of records was not read for want of memory
-abbrev pub is_osv_memory : OsvError → Bool
-is_osv_memory osv.NotList = false
-is_osv_memory osv.TooMany = false
-is_osv_memory (osv.BadAdvisory index what) = false
-is_osv_memory (osv.DuplicateId first second) = false
-is_osv_memory osv.NoMemory = true
+-- the fault of a list by its error: none if the call ran out of memory
+abbrev pub fault_of : OsvError → Option ListFault
+fault_of osv.NotList = Some list.NotList
+fault_of osv.TooMany = Some list.TooMany
+fault_of (osv.BadAdvisory index what) = Some (list.BadAdvisory index what)
+fault_of (osv.DuplicateId first second) = Some (list.DuplicateId first second)
+fault_of osv.NoMemory = None

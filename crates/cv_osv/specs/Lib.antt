@@ -1,6 +1,6 @@
 pub mod Answer
+pub mod Faults
 pub mod Json
-pub mod Member
 pub mod Record
 pub mod Records
-pub mod Told
+pub mod code

@@ -1,7 +1,7 @@
 -- What a JSON value is as a record of the OSV schema 1.6 (https://ossf.github.io/osv-schema/): `advisory_of` takes the
 -- value as `Data` of serde_json, and gives the `Advisory` of cv_base, or the first fault as a `RecordWhat`.
--- cvwatch's own are the order of the faults, which is the order of the lines below; that null counts as absent; and that
--- unknown members are passed over, among them those that no answer needs (summary, details, severity, references).
+-- Defined by this project are the order of the faults, which is that of `Faults.antt`; that null counts as absent; and that
+-- unknown members are ignored, among them those that no answer needs (summary, details, severity, references).
 use Rattle.std.specs.Prelude.{ℕ, if◌then◌else◌, List, [], ◌∷◌, ◌++◌, codes, Option, Some, None, is_some, option_map, Result, Ok, Err}
 use Rattle.std.specs.Option.{option_to_list}
 use Rattle.cv_base.specs.Results.{◌>>=◌}
@@ -24,7 +24,7 @@ abbrev pub full_or : RecordWhat → List ℕ → Result (List ℕ) RecordWhat
 full_or bad [] = Err bad
 full_or bad (c ∷ cs) = Ok (c ∷ cs)
 
--- the turn that a member of an event gives: none where it is absent
+-- the turn that a member of an event gives: none if it is absent
 abbrev pub turn_of : List ℕ → (List ℕ → Turn) → Data → Result (List Turn) RecordWhat
 turn_of name make d = do
   version ← optional_text_or BadEvent (member_at name d)
@@ -76,10 +76,10 @@ entry_of d = do
   _ ← object_or BadEntry d
   name ← optional_package_of (member_at (codes "package") d)
   ranges ← items_or BadRange (member_at (codes "ranges") d)
-  told ← each range_of ranges
+  ranges_read ← each range_of ranges
   versions ← items_or BadVersions (member_at (codes "versions") d)
-  listed ← each version_of versions
-  Ok (record { «package» = name; ranges = told; versions = listed })
+  versions_read ← each version_of versions
+  Ok (record { «package» = name; ranges = ranges_read; versions = versions_read })
 
 -- a record; one with a `withdrawn` is withdrawn
 unfoldable pub advisory_of : Data → Result Advisory RecordWhat

@@ -58,7 +58,7 @@ impl From<NoMemory> for AdvisoryError {
     }
 }
 
-/// The value that found no place is dropped.
+/// The rejected value is dropped.
 impl<T: Drop> From<AllocFailed<T>> for AdvisoryError {
     ghost use Rattle.std.specs.Prelude.{◌≡◌};
     ghost use Rattle.cv_osv.specs.declared.error.AdvisoryError.TheVariants as advisory;
@@ -96,7 +96,7 @@ impl From<AllocError> for OsvError {
     }
 }
 
-/// The value that found no place is dropped.
+/// The rejected value is dropped.
 impl<T: Drop> From<AllocFailed<T>> for OsvError {
     ghost use Rattle.std.specs.Prelude.{◌≡◌};
     ghost use Rattle.cv_osv.specs.declared.error.OsvError.TheVariants as osv;

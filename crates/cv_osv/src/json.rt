@@ -1,6 +1,6 @@
 ghost use Rattle.std.specs.Prelude.{◌≡◌};
 ghost use Rattle.std.specs.Option.{option_map};
-ghost use Rattle.cv_osv.specs.Answer.{Tells};
+ghost use Rattle.cv_osv.specs.Answer.{Answers};
 ghost use Rattle.cv_osv.specs.Json.{member_at, object_or, text_or, optional_text_or, items_or};
 ghost use Rattle.serde_json.specs.View.{view, items_view};
 
@@ -18,14 +18,14 @@ pub(crate) fn member_at<'v>(value: &'v Value, name: &str) -> Option<&'v Value>
 }
 
 pub(crate) fn object_or(value: &Value, bad: RecordWhat) -> Result<(), RecordWhat>
-    ensures { Tells (λ _. tt) result (object_or bad (view value.now)) }
+    ensures { Answers (λ _. tt) result (object_or bad (view value.now)) }
 {
     if value.is_object() { Ok(()) } else { Err(bad) }
 }
 
-/// A text that has to be there.
+/// A text that has to be present.
 pub(crate) fn text_or(found: Option<&Value>, bad: RecordWhat) -> Result<&str, RecordWhat>
-    ensures { Tells (λ text. text.now) result (text_or bad (option_map (λ v. view v.now) found.entry)) }
+    ensures { Answers (λ text. text.now) result (text_or bad (option_map (λ v. view v.now) found.entry)) }
 {
     found.and_then(Value::as_str).ok_or(bad)
 }
@@ -35,7 +35,7 @@ pub(crate) fn optional_text_or(
     found: Option<&Value>,
     bad: RecordWhat,
 ) -> Result<Option<&str>, RecordWhat>
-    ensures { Tells (λ text. option_map (λ t. t.now) text) result
+    ensures { Answers (λ text. option_map (λ t. t.now) text) result
         (optional_text_or bad (option_map (λ v. view v.now) found.entry)) }
 {
     match found {
@@ -49,7 +49,7 @@ pub(crate) fn optional_text_or(
 
 /// The items of a list that may be absent.
 pub(crate) fn items_or(found: Option<&Value>, bad: RecordWhat) -> Result<&[Value], RecordWhat>
-    ensures { Tells (λ items. items_view items.now) result
+    ensures { Answers (λ items. items_view items.now) result
         (items_or bad (option_map (λ v. view v.now) found.entry)) }
 {
     match found {

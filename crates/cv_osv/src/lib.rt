@@ -17,5 +17,5 @@ mod records;
 
 pub use error::{AdvisoryError, OsvError, RecordWhat};
 pub use record::read_advisory;
-pub use record_list::{MAX_RECORDS, RecordList};
+pub use record_list::RecordList;
 pub use records::read_records;

@@ -25,13 +25,13 @@ pub(crate) fn read_each<P: Part>(alloc: Global, items: &[Value]) -> Result<Seq<P
     ensures { Reads (λ parts. parts) result (each P.part_of (items_view items.now)) }
 {
     let mut parts = Vec::new(alloc);
-    let mut left = items;
-    while let [item, rest @ ..] = left {
+    let mut remaining = items;
+    while let [item, rest @ ..] = remaining {
         match P::read(alloc, item) {
             Ok(part) => parts.push(part)?,
             Err(bad) => return Err(bad),
         }
-        left = rest;
+        remaining = rest;
     }
     Ok(Seq::of(parts))
 }

@@ -2,7 +2,7 @@ ghost use Rattle.std.specs.Prelude.{◌≡◌};
 ghost use Rattle.cv_base.specs.Results.{onto};
 ghost use Rattle.cv_osv.specs.Answer.{Reads};
 ghost use Rattle.cv_osv.specs.Json.{each_joined};
-ghost use Rattle.cv_osv.specs.Member.{name_of, make_of};
+ghost use Rattle.cv_osv.specs.code.Member.{name_of, make_of};
 ghost use Rattle.cv_osv.specs.Record.{kind_of, turn_of, turns_of};
 ghost use Rattle.serde_json.specs.View.{view, items_view};
 
@@ -71,21 +71,21 @@ fn kind_of(name: &str) -> RangeKind
     }
 }
 
-/// The turns of the events, in their order.
+/// The turns of the events, in order.
 #[tactic(auto, using(crate::proofs::Onto::joined_more, crate::proofs::Onto::joined_bad))]
 fn read_turns(alloc: Global, events: &[Value]) -> Result<Seq<Turn>, AdvisoryError>
     ensures { Reads (λ turns. turns) result (each_joined turns_of (items_view events.now)) }
 {
     let mut turns = Vec::new(alloc);
-    let mut left = events;
-    while let [event, rest @ ..] = left {
+    let mut remaining = events;
+    while let [event, rest @ ..] = remaining {
         push_turns(alloc, event, &mut turns)?;
-        left = rest;
+        remaining = rest;
     }
     Ok(Seq::of(turns))
 }
 
-/// Puts the turns of an event behind the others.
+/// Appends the turns of an event.
 #[tactic(auto, unfolding(crate::specs::Record::turns_of))]
 fn push_turns(alloc: Global, event: &Value, turns: &mut Vec<Turn>) -> Result<(), AdvisoryError>
     ensures { Reads (λ _. turns.new.items) result (onto turns.old.items (turns_of (view event.now))) }

@@ -1,5 +1,7 @@
+ghost use Rattle.std.specs.Prelude.{◌≡◌, take};
 ghost use Rattle.std.specs.Option.{option_map};
-ghost use Rattle.cv_osv.specs.Answer.{Reads, Tells};
+ghost use Rattle.cv_osv.specs.Answer.{Answers, Reads};
+ghost use Rattle.cv_osv.specs.Faults.{fault_in, record_faults};
 ghost use Rattle.cv_osv.specs.Record.{advisory_of, full_or, optional_package_of};
 ghost use Rattle.serde_json.specs.View.{view};
 
@@ -11,11 +13,12 @@ use serde_json::Value;
 use std::alloc::Global;
 
 /// Reads a record of the OSV schema 1.6. A member with the value null counts as absent, and unknown members are
-/// passed over. The first fault is told: the record's own members are read in the order of `RecordWhat`, and then
+/// ignored. The first fault is the answer: the record's own members come first, in the order of `RecordWhat`, and then
 /// the entries one by one, each with its package, its ranges one by one, and its versions.
-#[tactic(auto, unfolding(crate::specs::Record::advisory_of))]
+#[tactic(auto, unfolding(crate::specs::Record::advisory_of), using(crate::proofs::FirstFault::record_first))]
 pub fn read_advisory(alloc: Global, value: &Value) -> Result<Advisory, AdvisoryError>
-    ensures { Reads (λ advisory. advisory) result (advisory_of (view value.now)) }
+    ensures value { Reads (λ advisory. advisory) result (advisory_of (view value.now)) }
+    ensures first_fault { fault_in (advisory_of (view value.now)) ≡ take 1 (record_faults (view value.now)) }
 {
     object_or(value, RecordWhat::NotObject)?;
     let name = text_or(member_at(value, "id"), RecordWhat::NoId)?;
@@ -34,7 +37,7 @@ pub fn read_advisory(alloc: Global, value: &Value) -> Result<Advisory, AdvisoryE
 
 /// The text, if it is not empty.
 fn full_or(text: &str, bad: RecordWhat) -> Result<&str, RecordWhat>
-    ensures { Tells (λ text. text.now) result (full_or bad text.now) }
+    ensures { Answers (λ text. text.now) result (full_or bad text.now) }
 {
     if text.is_empty() { Err(bad) } else { Ok(text) }
 }

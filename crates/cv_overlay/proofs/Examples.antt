@@ -1,14 +1,16 @@
 -- The definitions of marks, faults and laying, computed on small trees.
-use Rattle.std.specs.Prelude.{◌≡◌, ℕ, true, false, List, [], ◌∷◌, codes, Option, Some, None, refl}
+use Rattle.std.specs.Prelude.{◌≡◌, ℕ, nat_lt, true, false, List, [], ◌∷◌, codes, length, replicate, Option, Some, None, refl}
+use Rattle.std.proofs.lemmas.List.{length-map, length-replicate}
 use Rattle.cv_base.specs.Path.{components}
+use Rattle.cv_base.specs.declared.limits.TheConstants.{MAX_ENTRIES}
 use Rattle.cv_base.specs.declared.tree.Content.TheVariants.{Bytes}
 use Rattle.cv_base.specs.declared.tree.Node.{Node}
 use Rattle.cv_base.specs.declared.tree.Node.TheVariants as node
 use Rattle.cv_base.specs.declared.tree.TreeEntry.{TreeEntry}
 use Rattle.cv_overlay.specs.Fault.{tree_fault}
 use Rattle.cv_overlay.specs.Lay.{root_of}
-use Rattle.cv_overlay.specs.Mark.{mark_of, target_of}
-use Rattle.cv_overlay.specs.declared.fault.TreeFault.TheVariants.{Unsorted, NoParent, BadMark}
+use Rattle.cv_overlay.specs.Mark.{mark_of, outline, target_of}
+use Rattle.cv_overlay.specs.declared.fault.TreeFault.TheVariants.{Unsorted, NoParent, BadMark, TooMany}
 use Rattle.cv_overlay.specs.declared.mark.Mark.TheVariants.{Reserved, Opaque, Whiteout, Bad, Plain}
 
 abbrev dir : List ℕ → TreeEntry
@@ -69,6 +71,21 @@ reserved_dir = refl
 first_of_two : tree_fault (dir (codes "a") ∷ file (codes "b/c") [] ∷ dir (codes "a") ∷ []) ≡ Some (NoParent 1)
 first_of_two = refl
 
+-- an entry that is out of order, without a parent and with a bad mark: its order comes first, and then its parent
+two_faults : (tree_fault (dir (codes "b") ∷ file (codes "a/.wh.") [] ∷ []) ≡ Some (Unsorted 1)) × (tree_fault (dir (codes "a") ∷ file (codes "b/.wh.") [] ∷ []) ≡ Some (NoParent 1))
+two_faults = (refl, refl)
+
+-- a layer of too many entries is refused before all else, whatever its entries are
+too_many : (entries : List TreeEntry) → nat_lt MAX_ENTRIES (length entries) ≡ true → tree_fault entries ≡ Some TooMany
+too_many entries h = rw (length-map entries outline, h) refl
+
+repeated : (count : ℕ) (e : TreeEntry) → nat_lt MAX_ENTRIES count ≡ true → tree_fault (replicate count e) ≡ Some TooMany
+repeated count e h = too_many (replicate count e) (rw (length-replicate count e) h)
+
+-- as one of a million and one entries that all have one path
+one_too_many : tree_fault (replicate 1000001 (dir (codes "a"))) ≡ Some TooMany
+one_too_many = repeated 1000001 (dir (codes "a")) refl
+
 -- Laying.
 
 abbrev base : List TreeEntry
@@ -106,3 +123,12 @@ met = refl
 -- the topmost of three layers gives the file back
 given_back : at (base ∷ folders (file (codes "var/lib/dpkg/.wh.status") [] ∷ []) ∷ base ∷ []) (codes "var/lib/dpkg/status") ≡ Some (node.File (Bytes (codes "1")))
 given_back = refl
+
+-- a reserved folder with a file in it
+abbrev plnk_folder : List TreeEntry
+plnk_folder = dir (codes ".wh..wh.plnk") ∷ file (codes ".wh..wh.plnk/7") [] ∷ dir (codes "a") ∷ []
+
+-- nothing of it is laid, the entry beside it is, and it hides nothing
+reserved_is_ignored : (at (plnk_folder ∷ []) (codes ".wh..wh.plnk") ≡ None) × (at (plnk_folder ∷ []) (codes ".wh..wh.plnk/7") ≡ None)
+    × (at (plnk_folder ∷ []) (codes "a") ≡ Some node.Dir) × (at ((dir (codes "b") ∷ []) ∷ plnk_folder ∷ []) (codes "b") ≡ Some node.Dir)
+reserved_is_ignored = (refl, refl, refl, refl)

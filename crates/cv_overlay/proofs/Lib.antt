@@ -1,7 +1,7 @@
-pub mod CoverWords
+pub mod CoverLemmas
 mod Examples
-pub mod MergeWords
-pub mod ParentWords
-pub mod PathWords
-pub mod SearchWords
-pub mod TextWords
+pub mod MergeLemmas
+pub mod ParentLemmas
+pub mod PathLemmas
+pub mod SearchLemmas
+pub mod TextLemmas

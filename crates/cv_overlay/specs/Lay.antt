@@ -1,13 +1,13 @@
 -- How layers are laid on one another, after the OCI image specification 1.1, layer.md, "Applying Changesets" and
--- "Whiteouts". A root is told path by path, as a map from paths to nodes, and so is the root that a tree makes of it.
--- cvwatch's own: the marks of a layer are applied before its plain entries, wherever they stand among them.
+-- "Whiteouts". A root is a map from paths to nodes, and so is the root that a tree makes of it. Defined by
+-- this project: the marks of a layer are applied before its plain entries, wherever they stand among them.
 use Rattle.std.specs.Prelude.{Bool, true, false, ◌&&◌, not, if◌then◌else◌, List, [], ◌∷◌, Option, Some, None}
 use Rattle.std.specs.List.{list_any}
 use Rattle.std.specs.Option.{option_or}
-use Rattle.cv_base.specs.Path.{Path, is_above, same_path}
+use Rattle.cv_base.specs.Path.{Path, is_above, same_path, parent_of}
 use Rattle.cv_base.specs.declared.tree.Node.{Node}
 use Rattle.cv_base.specs.declared.tree.TreeEntry.{TreeEntry}
-use Rattle.cv_overlay.specs.Mark.{is_dir_node, at_or_above, parent_of, target_of, mark}
+use Rattle.cv_overlay.specs.Mark.{is_dir_node, at_or_above, target_of, mark}
 use Rattle.cv_overlay.specs.declared.mark.Mark.{Mark}
 use Rattle.cv_overlay.specs.declared.mark.Mark.TheVariants.{Reserved, Opaque, Whiteout, Bad, Plain}
 

@@ -1,8 +1,6 @@
-pub mod Cover
+pub mod Ascending
 pub mod Fault
 pub mod Lay
 pub mod Mark
-pub mod Merge
 pub mod Refusal
-pub mod Step
-pub mod Text
+pub mod code

@@ -1,11 +1,11 @@
 -- What an entry of a layer stands for, after the OCI image specification 1.1, layer.md, "Whiteouts" and "Opaque
 -- Whiteout": a file `.wh.NAME` hides the entry NAME beside it in the layers below, and a file `.wh..wh..opq` hides all
--- that the layers below have in its directory. cvwatch's own: all other names that begin `.wh..wh.` are reserved, and
--- such entries are passed over with all below them; a directory is no mark; a name that begins `.wh.` and is neither
+-- that the layers below have in its directory. Defined by this project: all other names that begin `.wh..wh.` are
+-- reserved, and such entries are ignored with all below them; a directory is no mark; a name that begins `.wh.` and is neither
 -- reserved nor a whiteout is a bad mark; a component `.wh.NAME` that is not the last one makes nothing.
 use Rattle.std.specs.Prelude.{ℕ, Bool, true, false, ◌&&◌, ◌||◌, ◌==◌, not, if◌then◌else◌, List, [], ◌∷◌, ◌++◌, drop, codes}
 use Rattle.std.specs.List.{list_any, starts_with}
-use Rattle.cv_base.specs.Path.{Path, is_above, is_special, same_path}
+use Rattle.cv_base.specs.Path.{Path, is_above, is_special, parent_of, same_path}
 use Rattle.cv_base.specs.Texts.{same}
 use Rattle.cv_base.specs.declared.tree.Kind.{Kind}
 use Rattle.cv_base.specs.declared.tree.Kind.TheVariants as kind
@@ -44,12 +44,6 @@ outline e = record { path = e.path; is_dir = is_dir_node e.node }
 -- a path is another one, or is above it
 abbrev pub at_or_above : Path → Path → Bool
 at_or_above p q = same_path p q || is_above p q
-
--- the components but the last one, and those of the top for a path of one component
-abbrev pub parent_of : Path → Path
-parent_of [] = []
-parent_of (c ∷ []) = []
-parent_of (c ∷ d ∷ ds) = c ∷ parent_of (d ∷ ds)
 
 -- the last component
 abbrev pub name_of : Path → List ℕ

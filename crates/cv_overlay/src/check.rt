@@ -1,20 +1,16 @@
 ghost use Rattle.std.specs.Prelude.{◌≡◌, ◌<◌, ◌≤◌, length, map, MatchResult, Some, None};
 ghost use Rattle.std.specs.Option.{option_map};
-ghost use Rattle.cv_overlay.specs.Fault.{fault, list_fault, max_entries};
-ghost use Rattle.cv_overlay.specs.Step.{fault_after, fault_from, follows, stands_by_parent};
+ghost use Rattle.cv_overlay.specs.Fault.{fault, list_fault};
+ghost use Rattle.cv_overlay.specs.code.Step.{fault_after, fault_from, follows, stands_by_parent};
 
 use crate::cut::{cut, is_within};
 use crate::fault::TreeFault;
 use crate::mark::{Mark, mark_of};
 use crate::outline::Outlined;
-use cv_base::ListEntry;
+use cv_base::{ListEntry, MAX_ENTRIES};
 
-/// The most entries of a layer.
-pub const MAX_ENTRIES: usize = 1_000_000;
-
-/// Whether a listing is a good tree. That there are too many entries is told before all else, and then the fault of
-/// the first faulty entry: that it is out of order, that it has no parent, that it is a bad mark. One pass, which
-/// looks at each entry and the one before it.
+/// Whether a listing is a good tree. Too many entries are refused before all else, and then the first faulty entry: one
+/// that is out of order, has no parent or is a bad mark. One pass, which looks at each entry and the one before it.
 pub fn check_tree(entries: &[ListEntry]) -> Result<(), TreeFault>
     ensures { MatchResult result (λ _. list_fault entries.now ≡ None) (λ fault. list_fault entries.now ≡ Some fault) }
 {
@@ -36,12 +32,12 @@ pub fn fault_of<E: Outlined>(entries: &[E]) -> Option<TreeFault>
 
 /// The fault of the first faulty entry.
 fn first_fault<E: Outlined>(entries: &[E]) -> Option<TreeFault>
-    requires { length entries.now ≤ max_entries }
+    requires { length entries.now ≤ MAX_ENTRIES }
     ensures { result ≡ fault_from 0 None (map E.outline entries.now) }
 {
     let mut before: Option<&E> = None;
-    for (number, entry) in entries.iter().enumerate() {
-        let fault = fault_after(number as u32, before, entry);
+    for (index, entry) in entries.iter().enumerate() {
+        let fault = fault_after(index as u32, before, entry);
         if fault.is_some() {
             return fault;
         }
@@ -50,19 +46,19 @@ fn first_fault<E: Outlined>(entries: &[E]) -> Option<TreeFault>
     None
 }
 
-/// The fault of the entry of a number, where no entry before it has one. Its parent is then the entry before it, or
+/// The fault of the entry at an index, if no entry before it has one. Its parent is then the entry before it, or
 /// is above that one.
-fn fault_after<E: Outlined>(number: u32, before: Option<&E>, entry: &E) -> Option<TreeFault>
-    ensures { result ≡ fault_after number (option_map (λ b. E.outline b.now) before.entry) (E.outline entry.now) }
+fn fault_after<E: Outlined>(index: u32, before: Option<&E>, entry: &E) -> Option<TreeFault>
+    ensures { result ≡ fault_after index (option_map (λ b. E.outline b.now) before.entry) (E.outline entry.now) }
 {
     if !follows(before, entry) {
-        return Some(TreeFault::Unsorted(number));
+        return Some(TreeFault::Unsorted(index));
     }
     if !stands_by_parent(before, entry) {
-        return Some(TreeFault::NoParent(number));
+        return Some(TreeFault::NoParent(index));
     }
     match mark_of(entry.path(), entry.is_dir()) {
-        Mark::Bad => Some(TreeFault::BadMark(number)),
+        Mark::Bad => Some(TreeFault::BadMark(index)),
         _ => None,
     }
 }
@@ -115,7 +111,7 @@ mod tests {
     }
 
     #[test]
-    fn the_first_fault_is_told(rt: HostRuntime) -> Result<(), Fail> {
+    fn the_first_fault_is_returned(rt: HostRuntime) -> Result<(), Fail> {
         let alloc = rt.alloc();
         let no_parent = listing(alloc, &[("a", Kind::File), ("a/b", Kind::File)])?;
         assert_eq!(rt; check_tree(&no_parent), Err(TreeFault::NoParent(1)));

@@ -1,13 +1,12 @@
 ghost use Rattle.std.specs.Prelude.{◌≡◌, ℕ, List, ◌∷◌, ◌++◌, ◌||◌, [], drop, true, map, IfOk};
 ghost use Rattle.std.specs.Cmp.Lexicographic.{slice_cmp};
-ghost use Rattle.std.specs.List.{list_any};
 ghost use Rattle.std.specs.List.Sorted.{IsSortedBy};
 ghost use Rattle.std.specs.Ordering.{is_lt, nat_cmp};
-ghost use Rattle.cv_base.specs.Path.{components, is_above};
+ghost use Rattle.cv_base.specs.Path.{components, is_above, parent_of};
 ghost use Rattle.cv_base.specs.Texts.{has_text};
-ghost use Rattle.cv_overlay.specs.Cover.{any_front, hides_text};
+ghost use Rattle.cv_overlay.specs.code.Cover.{any_front, hides_text};
 ghost use Rattle.cv_overlay.specs.Lay.{hides, hides_by};
-ghost use Rattle.cv_overlay.specs.Mark.{at_or_above, is_whiteout_name, mark, name_of, parent_of, target_of};
+ghost use Rattle.cv_overlay.specs.Mark.{at_or_above, is_whiteout_name, mark, name_of, target_of};
 
 use crate::cut::cut;
 use crate::mark::{Mark, mark_of};
@@ -30,7 +29,7 @@ pub(crate) struct Covers<'a> {
 impl<'a> Covers<'a> {
     /// What a tree hides.
     pub(crate) fn of(alloc: Global, entries: &'a [TreeEntry]) -> Result<Covers<'a>, NoMemory>
-        ensures told { IfOk result (λ c. (t : List ℕ) → hides_text (map (λ w. w.items) c.whole.items) (map (λ b. b.now) c.below.items) c.all t ≡ hides entries.now (components t)) }
+        ensures value { IfOk result (λ c. (t : List ℕ) → hides_text (map (λ w. w.items) c.whole.items) (map (λ b. b.now) c.below.items) c.all t ≡ hides entries.now (components t)) }
         ensures whole { IfOk result (λ c. IsSortedBy (λ x y. is_lt (slice_cmp nat_cmp x.items y.items)) c.whole.items) }
         ensures below { IfOk result (λ c. IsSortedBy (λ x y. is_lt (slice_cmp nat_cmp x.now y.now)) c.below.items) }
     {

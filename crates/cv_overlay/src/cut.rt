@@ -1,7 +1,7 @@
 ghost use Rattle.std.specs.Prelude.{◌≡◌, false, ◌∷◌, ◌++◌, IfSome, IfNone};
 ghost use Rattle.std.specs.List.{list_any};
 ghost use Rattle.cv_base.specs.Path.{is_slash};
-ghost use Rattle.cv_overlay.specs.Text.{is_within};
+ghost use Rattle.cv_overlay.specs.code.Text.{is_within};
 
 /// The directory and the name of a path of several components, given by its text: what stands round the last slash.
 pub fn cut(text: &[u8]) -> Option<(&[u8], &[u8])>

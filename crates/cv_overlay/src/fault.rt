@@ -1,7 +1,8 @@
 use cv_base::{NoMemory, RelPath, What};
+use std::alloc::AllocError;
 use thiserror::Error;
 
-/// The first fault of a tree. Entries are numbered from 0.
+/// The first fault of a tree, with the index of the entry, from 0.
 #[derive(Clone, Copy, Debug, PartialEq, Eq, Error)]
 pub enum TreeFault {
     #[error("entry {0} does not stand after all entries before it")]
@@ -14,7 +15,7 @@ pub enum TreeFault {
     TooMany,
 }
 
-/// Why an image has no packages. Layers are numbered from 0, the base first.
+/// Why an image has no packages. A layer is named by its index, from 0, the base first.
 #[derive(Debug, PartialEq, Eq, Drop, Error)]
 pub enum ImageFault {
     #[error("layer {0} is not there")]
@@ -35,6 +36,28 @@ pub enum ImageFault {
     },
 }
 
+/// A copy is equal to its source.
+impl Clone for ImageFault {
+    ghost use Rattle.std.specs.Prelude.{◌≡◌};
+
+    ghost is_clone = { λ x y. y ≡ x };
+
+    fn clone(&self) -> Result<ImageFault, AllocError> {
+        match self {
+            ImageFault::NoLayer(layer) => Ok(ImageFault::NoLayer(*layer)),
+            ImageFault::BadTree(layer, fault) => Ok(ImageFault::BadTree(*layer, *fault)),
+            ImageFault::BadFile { path, line, what } => Ok(ImageFault::BadFile {
+                path: path.clone()?,
+                line: *line,
+                what: *what,
+            }),
+            ImageFault::TooLarge { path } => Ok(ImageFault::TooLarge {
+                path: path.clone()?,
+            }),
+        }
+    }
+}
+
 /// Why a tree was not laid.
 #[derive(Clone, Copy, Debug, PartialEq, Eq, Error)]
 pub enum OverlayError {
@@ -52,5 +75,29 @@ impl From<NoMemory> for OverlayError {
 
     fn from(_error: NoMemory) -> OverlayError {
         OverlayError::NoMemory
+    }
+}
+
+#[cfg(test)]
+mod tests {
+    use super::*;
+    use crate::root::Root;
+    use std::test::Fail;
+
+    /// A value that threads may share.
+    fn shared<T: Send + Sync>(value: T) -> T {
+        value
+    }
+
+    #[test]
+    fn threads_may_share_faults_and_roots(rt: HostRuntime) -> Result<(), Fail> {
+        let alloc = rt.alloc();
+        assert_eq!(rt; shared(TreeFault::TooMany), TreeFault::TooMany);
+        let fault = ImageFault::TooLarge {
+            path: RelPath::read(alloc, "etc/os-release")?,
+        };
+        assert_eq!(rt; shared(fault.clone()?), fault);
+        assert_eq!(rt; shared(Root::empty(alloc)).entries().len(), 0);
+        Ok(())
     }
 }

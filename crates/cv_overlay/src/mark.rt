@@ -2,7 +2,7 @@ ghost use Rattle.std.specs.Prelude.{◌≡◌};
 ghost use Rattle.std.specs.List.{list_any, slice_split};
 ghost use Rattle.cv_base.specs.Path.{is_slash, is_special};
 ghost use Rattle.cv_overlay.specs.Mark.{has_mark, is_opaque_name, is_reserved_name, is_whiteout_name, mark_of};
-ghost use Rattle.cv_overlay.specs.Text.{mark_by};
+ghost use Rattle.cv_overlay.specs.code.Text.{mark_by};
 
 use crate::cut::cut;
 use cv_base::{RelPath, is_special};
@@ -10,7 +10,7 @@ use cv_base::{RelPath, is_special};
 /// What an entry of a layer stands for.
 #[derive(Clone, Copy, Debug, PartialEq, Eq)]
 pub enum Mark {
-    /// An entry to pass over, with all below it.
+    /// An entry that is ignored, with all below it.
     Reserved,
     /// Its directory hides all that lower layers have in it.
     Opaque,

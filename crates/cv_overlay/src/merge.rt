@@ -1,5 +1,5 @@
 ghost use Rattle.std.specs.Prelude.{◌≡◌, ◌+◌, ◌<◌, ◌≤◌, [], ◌∷◌, ◌++◌, drop, length, take, Some, vec_len, vec_capacity};
-ghost use Rattle.cv_overlay.specs.Merge.{merged, order_of_fronts};
+ghost use Rattle.cv_overlay.specs.code.Merge.{merged, order_of_fronts};
 
 use cv_base::TreeEntry;
 use std::cmp::Ordering;
@@ -56,7 +56,7 @@ fn take_first(
 )
     requires order { order_of_fronts low.old.items high.old.items ≡ Some order }
     requires room { vec_len room.old + (length low.old.items + length high.old.items) ≤ vec_capacity room.old }
-    ensures told { room.new.items ++ merged low.new.items high.new.items ≡ room.old.items ++ merged low.old.items high.old.items }
+    ensures items { room.new.items ++ merged low.new.items high.new.items ≡ room.old.items ++ merged low.old.items high.old.items }
     ensures smaller { length low.new.items + length high.new.items < length low.old.items + length high.old.items }
     ensures room { vec_len room.new + (length low.new.items + length high.new.items) ≤ vec_capacity room.new }
 {

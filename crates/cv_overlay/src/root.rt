@@ -4,11 +4,11 @@ ghost use Rattle.std.specs.List.Sorted.{IsSortedBy};
 ghost use Rattle.std.specs.Option.{option_map};
 ghost use Rattle.std.specs.Ordering.{is_lt, nat_cmp};
 ghost use Rattle.cv_base.specs.Path.{Path, components};
-ghost use Rattle.cv_overlay.specs.Cover.{hides_text};
+ghost use Rattle.cv_overlay.specs.code.Cover.{hides_text};
 ghost use Rattle.cv_overlay.specs.Fault.{tree_fault};
-ghost use Rattle.cv_overlay.specs.Lay.{hides, is_plain, lay, node_at};
+ghost use Rattle.cv_overlay.specs.Lay.{is_plain, lay, node_at};
 ghost use Rattle.cv_overlay.specs.Mark.{mark};
-ghost use Rattle.cv_overlay.specs.Merge.{AreRising};
+ghost use Rattle.cv_overlay.specs.Ascending.{AreAscending};
 ghost use Rattle.cv_overlay.specs.Refusal.{IsRefusal};
 
 use crate::check::fault_of;
@@ -33,13 +33,13 @@ pub struct Root {
 impl Model for Root {
     ghost use Rattle.std.specs.Prelude.{List};
     ghost use Rattle.cv_base.specs.declared.tree.TreeEntry.{TreeEntry};
-    ghost use Rattle.cv_overlay.specs.Merge.{AreRising};
+    ghost use Rattle.cv_overlay.specs.Ascending.{AreAscending};
 
     ghost Value = { List TreeEntry };
 
     ghost view = { λ r. r.list.items };
 
-    ghost invariant = { λ r. AreRising r.list.items };
+    ghost invariant = { λ r. AreAscending r.list.items };
 }
 
 impl Root {
@@ -55,7 +55,7 @@ impl Root {
     /// All entries, in path order.
     pub fn entries(&self) -> &[TreeEntry]
         ensures list { result.now ≡ self.now }
-        ensures order { AreRising self.now }
+        ensures order { AreAscending self.now }
     {
         self.list.as_slice()
     }
@@ -70,7 +70,7 @@ impl Root {
         }
     }
 
-    /// Lays a tree on this root. A tree that is not good is not laid; nor is one when memory is wanting.
+    /// Lays a tree on this root. A tree that is not good is not laid. Files are copied with their bytes.
     pub fn lay(&mut self, alloc: Global, tree: &Tree) -> Result<(), OverlayError>
         ensures laid { IfOk result (λ _. (p : Path) → node_at self.new p ≡ lay (node_at self.old) tree.now.entries p) }
         ensures good { IfOk result (λ _. tree_fault tree.now.entries ≡ None) }
@@ -143,7 +143,7 @@ fn keep(mut kept: Vec<TreeEntry>, lower: Vec<TreeEntry>, covers: &Covers) -> Vec
     requires whole { IsSortedBy (λ x y. is_lt (slice_cmp nat_cmp x.items y.items)) covers.now.whole.items }
     requires below { IsSortedBy (λ x y. is_lt (slice_cmp nat_cmp x.now y.now)) covers.now.below.items }
     ensures fewer { length result.items ≤ length lower.items }
-    ensures told { (hidden : Path → Bool) → ((t : List ℕ) → hides_text (map (λ w. w.items) covers.now.whole.items) (map (λ b. b.now) covers.now.below.items) covers.now.all t ≡ hidden (components t)) → result.items ≡ filter (λ e. not (hidden e.path)) lower.items }
+    ensures value { (hidden : Path → Bool) → ((t : List ℕ) → hides_text (map (λ w. w.items) covers.now.whole.items) (map (λ b. b.now) covers.now.below.items) covers.now.all t ≡ hidden (components t)) → result.items ≡ filter (λ e. not (hidden e.path)) lower.items }
 {
     let mut rest = VecDeque::from(lower);
     while let Some(entry) = rest.pop_front() {
@@ -157,7 +157,7 @@ fn keep_entry(kept: &mut Vec<TreeEntry>, entry: TreeEntry, covers: &Covers)
     requires room { vec_len kept.old < vec_capacity kept.old }
     requires whole { IsSortedBy (λ x y. is_lt (slice_cmp nat_cmp x.items y.items)) covers.now.whole.items }
     requires below { IsSortedBy (λ x y. is_lt (slice_cmp nat_cmp x.now y.now)) covers.now.below.items }
-    ensures told { (hidden : Path → Bool) → ((t : List ℕ) → hides_text (map (λ w. w.items) covers.now.whole.items) (map (λ b. b.now) covers.now.below.items) covers.now.all t ≡ hidden (components t)) → kept.new.items ≡ kept.old.items ++ filter (λ e. not (hidden e.path)) (entry ∷ []) }
+    ensures value { (hidden : Path → Bool) → ((t : List ℕ) → hides_text (map (λ w. w.items) covers.now.whole.items) (map (λ b. b.now) covers.now.below.items) covers.now.all t ≡ hidden (components t)) → kept.new.items ≡ kept.old.items ++ filter (λ e. not (hidden e.path)) (entry ∷ []) }
     ensures len { vec_len kept.new ≤ vec_len kept.old + 1 }
     ensures fewer { length kept.new.items ≤ length kept.old.items + 1 }
     ensures capacity { vec_capacity kept.old ≤ vec_capacity kept.new }

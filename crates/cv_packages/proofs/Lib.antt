@@ -1,2 +1,2 @@
-pub mod Refusals
-pub mod Walks
+mod Examples
+pub mod FileLemmas

@@ -1,4 +1,4 @@
+pub mod Faults
 pub mod Files
-pub mod Held
+pub mod Found
 pub mod Packages
-pub mod Walk

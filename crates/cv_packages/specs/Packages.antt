@@ -1,48 +1,71 @@
--- The packages of a root (cvwatch's own), or why it has none: the first package file, in the order of paths, that is
--- above the limit or that its reader refuses.
+-- The packages of a root, or the first package file, in the order of paths, that is refused: one that is above the limit or
+-- has a bad line. Defined by this project, but for os-release(5): `/etc/os-release` takes precedence over
+-- `/usr/lib/os-release`.
 --
--- `packages entries` takes the entries of a root in the order of paths. It gives the packages of all its package files,
--- in the order of the files and as they stand in each, or the refusal as a `PackagesError`.
-use Rattle.std.specs.Prelude.{ℕ, Bool, true, false, nat_lt, if◌then◌else◌, List, [], ◌∷◌, ◌++◌, map, length, Option, Some, None, Result, Ok, Err}
-use Rattle.std.specs.Option.{option_map, option_or, option_to_list}
+-- `assembled files` takes the package files of a root in the order of their paths. `packages entries` takes the entries of the
+-- root in the order of paths.
+use Rattle.std.specs.Prelude.{Bool, true, false, ◌&&◌, not, filter, List, [], ◌∷◌, ◌++◌, map, Option, Some, None, Result, Ok, Err}
+use Rattle.std.specs.List.{list_any}
+use Rattle.std.specs.Option.{option_or, option_to_list}
 use Rattle.cv_base.specs.Path.{Path}
+use Rattle.cv_base.specs.Place.{place_of}
 use Rattle.cv_base.specs.Results.{◌>>=◌}
-use Rattle.cv_base.specs.declared.fault.FileBad.{FileBad}
 use Rattle.cv_base.specs.declared.package.Package.{Package}
 use Rattle.cv_base.specs.declared.package.PackageKind.TheVariants as kind
 use Rattle.cv_base.specs.declared.places.Place.{Place}
-use Rattle.cv_base.specs.declared.places.Place.TheVariants.{Status, StatusFolder, Installed, UsrInstalled, Os, UsrOs, Npm}
-use Rattle.cv_base.specs.declared.tree.Content.{Content}
-use Rattle.cv_base.specs.declared.tree.Content.TheVariants.{Bytes, TooLarge, Unread}
+use Rattle.cv_base.specs.declared.places.Place.TheVariants as place
 use Rattle.cv_base.specs.declared.tree.TreeEntry.{TreeEntry}
-use Rattle.cv_dpkg.specs.Status.{status}
 use Rattle.cv_dpkg.specs.declared.package.DebPackage.{DebPackage}
-use Rattle.cv_dpkg.specs.declared.rule.StatusRule.TheVariants.{Needed, Optional}
-use Rattle.cv_apkdb.specs.Installed.{installed}
 use Rattle.cv_apkdb.specs.declared.package.ApkPackage.{ApkPackage}
-use Rattle.cv_npm.specs.Npm.{npm}
 use Rattle.cv_npm.specs.declared.package.NpmPackage.{NpmPackage}
 use Rattle.cv_osrel.specs.Ecosystem.{eco}
-use Rattle.cv_osrel.specs.System.{os_of}
 use Rattle.cv_osrel.specs.declared.name.OsName.{OsName}
-use Rattle.cv_packages.specs.Files.{PackageFile, is_etc, is_usr, package_files}
-use Rattle.cv_packages.specs.declared.error.PackagesError.{PackagesError}
-use Rattle.cv_packages.specs.declared.error.PackagesError.TheVariants as error
+use Rattle.cv_packages.specs.Files.{files_found}
+use Rattle.cv_packages.specs.declared.error.FileFault.{FileFault}
+use Rattle.cv_packages.specs.declared.error.FileFault.TheVariants as fault
+use Rattle.cv_packages.specs.declared.found.FileFound.{FileFound}
+use Rattle.cv_packages.specs.declared.found.Found.{Found}
+use Rattle.cv_packages.specs.declared.found.Found.TheVariants.{Status, Installed, Os, Npm, Bad, TooLarge}
 
--- the bytes of a file, where they were read
-abbrev pub bytes_in : Content → Option (List ℕ)
-bytes_in (Bytes bytes) = Some bytes
-bytes_in TooLarge = None
-bytes_in Unread = None
+-- the place is etc/os-release
+abbrev pub is_etc_place : Option Place → Bool
+is_etc_place (Some place.Os) = true
+is_etc_place _ = false
+
+-- the place is usr/lib/os-release
+abbrev pub is_usr_place : Option Place → Bool
+is_usr_place (Some place.UsrOs) = true
+is_usr_place _ = false
+
+-- the file stands at etc/os-release
+abbrev pub is_etc_os : FileFound → Bool
+is_etc_os file = is_etc_place (place_of file.path)
+
+-- the file stands at usr/lib/os-release
+abbrev pub is_usr_os : FileFound → Bool
+is_usr_os file = is_usr_place (place_of file.path)
+
+-- the files that count, where etc/os-release is among them or not: beside it usr/lib/os-release does not
+abbrev pub counted_by : Bool → List FileFound → List FileFound
+counted_by etc files = filter (λ file. not (etc && is_usr_os file)) files
+
+-- the files that count
+abbrev pub counted : List FileFound → List FileFound
+counted files = counted_by (list_any is_etc_os files) files
 
 -- the system that a file names, if it is an os-release
-abbrev pub named_by : PackageFile → Option OsName
-named_by file = if is_etc file.place then option_map os_of (bytes_in file.content) else (if is_usr file.place then option_map os_of (bytes_in file.content) else None)
+abbrev pub system_in : Found → Option OsName
+system_in (Status packages) = None
+system_in (Installed packages) = None
+system_in (Os name) = Some name
+system_in (Npm «package») = None
+system_in (Bad bad) = None
+system_in TooLarge = None
 
--- the system of a root, by its first os-release
-abbrev pub system : List PackageFile → Option OsName
+-- the system that the first os-release names
+abbrev pub system : List FileFound → Option OsName
 system [] = None
-system (file ∷ files) = option_or (named_by file) (system files)
+system (file ∷ files) = option_or (system_in file.found) (system files)
 
 -- a package of dpkg's database, with where it stands and the system that it is of
 abbrev pub deb_package : Option OsName → Path → DebPackage → Package
@@ -83,47 +106,24 @@ npm_package os path p = record {
   ecosystem = eco os kind.Npm;
 }
 
--- what dpkg's database told, as packages or as the refusal of the root
-abbrev pub deb_found : Option OsName → Path → Result (List DebPackage) FileBad → Result (List Package) PackagesError
-deb_found os path (Ok found) = Ok (map (deb_package os path) found)
-deb_found os path (Err bad) = Err (error.BadFile path bad.line bad.what)
+-- the packages of a file at a path, or its refusal
+abbrev pub packages_in : Option OsName → Path → Found → Result (List Package) FileFault
+packages_in os path (Status found) = Ok (map (deb_package os path) found)
+packages_in os path (Installed found) = Ok (map (apk_package os path) found)
+packages_in os path (Os name) = Ok []
+packages_in os path (Npm found) = Ok (map (npm_package os path) (option_to_list found))
+packages_in os path (Bad bad) = Err (fault.BadFile path bad.line bad.what)
+packages_in os path TooLarge = Err (fault.TooLarge path)
 
--- what apk's database told, as packages or as the refusal of the root
-abbrev pub apk_found : Option OsName → Path → Result (List ApkPackage) FileBad → Result (List Package) PackagesError
-apk_found os path (Ok found) = Ok (map (apk_package os path) found)
-apk_found os path (Err bad) = Err (error.BadFile path bad.line bad.what)
+-- the packages of files, one after the other, or the first refusal
+abbrev pub all_packages : Option OsName → List FileFound → Result (List Package) FileFault
+all_packages os [] = Ok []
+all_packages os (file ∷ files) = packages_in os file.path file.found >>= λ ps. all_packages os files >>= λ qs. Ok (ps ++ qs)
 
--- the packages of a file of this place with these bytes
-abbrev pub read_place : Option OsName → Path → Place → List ℕ → Result (List Package) PackagesError
-read_place os path Status bytes = deb_found os path (status bytes Needed)
-read_place os path StatusFolder bytes = deb_found os path (status bytes Optional)
-read_place os path Installed bytes = apk_found os path (installed bytes)
-read_place os path UsrInstalled bytes = apk_found os path (installed bytes)
-read_place os path Os bytes = Ok []
-read_place os path UsrOs bytes = Ok []
-read_place os path Npm bytes = Ok (map (npm_package os path) (option_to_list (npm bytes)))
-
--- the packages of a file: more bytes than the limit are refused. (A file whose bytes were not read is taken for one of these.)
-abbrev pub read_content : Option OsName → Path → Place → Content → Result (List Package) PackagesError
-read_content os path place (Bytes bytes) = if nat_lt 33554432 (length bytes) then Err (error.TooLarge path) else read_place os path place bytes
-read_content os path place TooLarge = Err (error.TooLarge path)
-read_content os path place Unread = Err (error.TooLarge path)
-
--- the packages of a package file
-abbrev pub read_file : Option OsName → PackageFile → Result (List Package) PackagesError
-read_file os file = read_content os file.path file.place file.content
-
--- the packages of files, one after the other
-abbrev pub read_files : Option OsName → List PackageFile → Result (List Package) PackagesError
-read_files os [] = Ok []
-read_files os (file ∷ files) = read_file os file >>= λ ps. read_files os files >>= λ qs. Ok (ps ++ qs)
+-- the packages of the package files of a root
+abbrev pub assembled : List FileFound → Result (List Package) FileFault
+assembled files = all_packages (system (counted files)) (counted files)
 
 -- the packages of a root
-unfoldable pub packages : List TreeEntry → Result (List Package) PackagesError
-packages entries = read_files (system (package_files entries)) (package_files entries)
-
--- a root was not read for want of memory
-abbrev pub is_packages_memory : PackagesError → Bool
-is_packages_memory (error.BadFile path line what) = false
-is_packages_memory (error.TooLarge path) = false
-is_packages_memory error.NoMemory = true
+unfoldable pub packages : List TreeEntry → Result (List Package) FileFault
+packages entries = assembled (files_found entries)

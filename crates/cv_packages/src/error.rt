@@ -1,11 +1,12 @@
 use cv_base::{RelPath, What};
+use cv_overlay::ImageFault;
 use cv_seq::NoMemory;
 use std::alloc::AllocError;
 use thiserror::Error;
 
-/// Why the packages of a root were not read: the first refused package file, in the order of paths.
+/// Why the package files of a root are refused: the first refused file, in the order of paths.
 #[derive(Debug, PartialEq, Eq, Drop, Error)]
-pub enum PackagesError {
+pub enum FileFault {
     /// A line of the file is bad. Lines are numbered from 1.
     #[error("{path:?}, line {line}: {what:?}")]
     BadFile {
@@ -18,8 +19,41 @@ pub enum PackagesError {
     TooLarge {
         path: RelPath,
     },
+}
+
+/// A refused package file makes its image bad.
+impl From<FileFault> for ImageFault {
+    ghost use Rattle.std.specs.Prelude.{◌≡◌};
+    ghost use Rattle.cv_packages.specs.Faults.{image_fault};
+
+    ghost from_gives = { λ fault out. out ≡ image_fault fault };
+
+    fn from(fault: FileFault) -> ImageFault {
+        match fault {
+            FileFault::BadFile { path, line, what } => ImageFault::BadFile { path, line, what },
+            FileFault::TooLarge { path } => ImageFault::TooLarge { path },
+        }
+    }
+}
+
+/// Why the packages of a root were not read.
+#[derive(Debug, PartialEq, Eq, Drop, Error)]
+pub enum PackagesError {
+    #[error("{0}")]
+    Refused(FileFault),
     #[error("out of memory")]
     NoMemory,
+}
+
+impl From<FileFault> for PackagesError {
+    ghost use Rattle.std.specs.Prelude.{◌≡◌};
+    ghost use Rattle.cv_packages.specs.declared.error.PackagesError.TheVariants as error;
+
+    ghost from_gives = { λ fault e. e ≡ error.Refused fault };
+
+    fn from(fault: FileFault) -> PackagesError {
+        PackagesError::Refused(fault)
+    }
 }
 
 impl From<NoMemory> for PackagesError {

@@ -1,14 +1,22 @@
-//! Reads all packages of a root: its package files in the order of their paths, each by its own reader.
+//! Reads the packages of a root: what each package file has, by its place alone, and then the packages of all files, of which
+//! the os-release names the system.
 //!
 //! ```text
+//! let found = read_file(alloc, Place::Status, &content)?;
+//! let packages = assemble(alloc, &[&FileFound { path, found }])?;
 //! let packages = read_packages(alloc, root_entries)?;
 //! ```
 #![tactic(auto)]
 
+mod assembly;
 mod error;
-mod file;
+mod found;
 mod package;
+mod read;
 mod root;
 
-pub use error::PackagesError;
-pub use root::{read_packages, refusals_law};
+pub use assembly::assemble;
+pub use error::{FileFault, PackagesError};
+pub use found::{FileFound, Found};
+pub use read::read_file;
+pub use root::read_packages;

@@ -1,6 +1,5 @@
 ghost use Rattle.std.specs.Prelude.{◌≡◌, map, IfOk, Option};
 ghost use Rattle.std.specs.Option.{option_map, option_to_list};
-ghost use Rattle.cv_osrel.specs.Ecosystem.{eco};
 ghost use Rattle.cv_packages.specs.Packages.{apk_package, deb_package, npm_package};
 
 use cv_apkdb::ApkPackage;
@@ -16,28 +15,21 @@ pub fn deb_packages(
     alloc: Global,
     os: Option<&OsName>,
     path: &RelPath,
-    found: Vec<DebPackage>,
+    found: &[DebPackage],
 ) -> Result<Vec<Package>, NoMemory>
-    ensures { IfOk result (λ out. out.items ≡ map (deb_package (option_map (λ name. name.now) os.entry) path.now) found.items) }
+    ensures { IfOk result (λ out. out.items ≡ map (deb_package (option_map (λ name. name.now) os.entry) path.now) found.now) }
 {
     let ecosystem = ecosystem(alloc, os, PackageKind::Deb)?;
     let mut out = Vec::new(alloc);
     for package in found {
-        let DebPackage {
-            name,
-            version,
-            source,
-            source_version,
-            arch,
-        } = package;
         out.push(Package {
             kind: PackageKind::Deb,
             path: path.clone()?,
-            name,
-            version,
-            source,
-            source_version,
-            arch,
+            name: package.name.clone()?,
+            version: package.version.clone()?,
+            source: package.source.clone()?,
+            source_version: package.source_version.clone()?,
+            arch: package.arch.clone()?,
             ecosystem: ecosystem.clone()?,
         })?;
     }
@@ -49,27 +41,21 @@ pub fn apk_packages(
     alloc: Global,
     os: Option<&OsName>,
     path: &RelPath,
-    found: Vec<ApkPackage>,
+    found: &[ApkPackage],
 ) -> Result<Vec<Package>, NoMemory>
-    ensures { IfOk result (λ out. out.items ≡ map (apk_package (option_map (λ name. name.now) os.entry) path.now) found.items) }
+    ensures { IfOk result (λ out. out.items ≡ map (apk_package (option_map (λ name. name.now) os.entry) path.now) found.now) }
 {
     let ecosystem = ecosystem(alloc, os, PackageKind::Apk)?;
     let mut out = Vec::new(alloc);
     for package in found {
-        let ApkPackage {
-            name,
-            version,
-            arch,
-            origin,
-        } = package;
         out.push(Package {
             kind: PackageKind::Apk,
             path: path.clone()?,
-            name,
-            source_version: version.clone()?,
-            version,
-            source: origin,
-            arch,
+            name: package.name.clone()?,
+            version: package.version.clone()?,
+            source: package.origin.clone()?,
+            source_version: package.version.clone()?,
+            arch: package.arch.clone()?,
             ecosystem: ecosystem.clone()?,
         })?;
     }
@@ -81,13 +67,13 @@ pub fn npm_packages(
     alloc: Global,
     os: Option<&OsName>,
     path: &RelPath,
-    found: Option<NpmPackage>,
+    found: Option<&NpmPackage>,
 ) -> Result<Vec<Package>, NoMemory>
-    ensures { IfOk result (λ out. out.items ≡ map (npm_package (option_map (λ name. name.now) os.entry) path.now) (option_to_list found)) }
+    ensures { IfOk result (λ out. out.items ≡ map (npm_package (option_map (λ name. name.now) os.entry) path.now) (option_to_list (option_map (λ p. p.now) found.entry))) }
 {
     let mut out = Vec::new(alloc);
-    if let Some(NpmPackage { name, version }) = found {
-        out.push(npm_package(alloc, os, path, name, version)?)?;
+    if let Some(package) = found {
+        out.push(npm_package(alloc, os, path, package)?)?;
     }
     Ok(out)
 }
@@ -96,18 +82,17 @@ fn npm_package(
     alloc: Global,
     os: Option<&OsName>,
     path: &RelPath,
-    name: Text,
-    version: Text,
+    found: &NpmPackage,
 ) -> Result<Package, NoMemory>
-    ensures { IfOk result (λ out. out ≡ npm_package (option_map (λ system. system.now) os.entry) path.now (record { name = name; version = version })) }
+    ensures { IfOk result (λ out. out ≡ npm_package (option_map (λ name. name.now) os.entry) path.now found.now) }
 {
     Ok(Package {
         kind: PackageKind::Npm,
         path: path.clone()?,
-        source: name.clone()?,
-        source_version: version.clone()?,
-        name,
-        version,
+        name: found.name.clone()?,
+        version: found.version.clone()?,
+        source: found.name.clone()?,
+        source_version: found.version.clone()?,
         arch: Text::of(alloc, "")?,
         ecosystem: ecosystem(alloc, os, PackageKind::Npm)?,
     })

@@ -1,11 +1,12 @@
 -- What a JSON value is as the manifest of an image (after the manifests of Clair v4): its digest and those of its
--- layers, or what is wrong with it. The order of what is wrong is cvwatch's own, and so is the limit of 128 layers.
+-- layers, or its first fault. The order of the faults is defined by this project, and so is the limit of 128 layers.
 use Rattle.std.specs.Prelude.{ℕ, ◌+◌, ◌==◌, nat_lt, if◌then◌else◌, List, [], ◌∷◌, codes, Option, option_and_then, Result, Ok, Err}
 use Rattle.std.specs.Option.{ok_or}
 use Rattle.serde_json.specs.Data.{Data, Items, no_items, item}
 use Rattle.serde_json.specs.Find.{get, as_array, as_str}
 use Rattle.cv_base.specs.Digest.{digest_of}
 use Rattle.cv_base.specs.Results.{◌>>=◌}
+use Rattle.cv_base.specs.declared.limits.TheConstants.{MAX_LAYERS}
 use Rattle.cv_base.specs.declared.manifest.Manifest.{Manifest}
 use Rattle.cv_osv.specs.Json.{object_or}
 use Rattle.cv_request.specs.declared.error.RequestWhat.{RequestWhat}
@@ -24,22 +25,22 @@ abbrev pub count : Items → ℕ
 count no_items = 0
 count (item d ds) = count ds + 1
 
--- the digest of the layer of a number
+-- the digest of the layer at an index
 abbrev pub layer_of : ℕ → Data → Result (List ℕ) RequestWhat
-layer_of number d = digest_or (BadLayer number) (get (codes "hash") d)
+layer_of index d = digest_or (BadLayer index) (get (codes "hash") d)
 
--- the digests of layers that are numbered on from here
+-- the digests of layers from this index on
 abbrev pub layers_from : ℕ → Items → Result (List (List ℕ)) RequestWhat
-layers_from number no_items = Ok []
-layers_from number (item d ds) = layer_of number d >>= λ x. layers_from (number + 1) ds >>= λ xs. Ok (x ∷ xs)
+layers_from index no_items = Ok []
+layers_from index (item d ds) = layer_of index d >>= λ x. layers_from (index + 1) ds >>= λ xs. Ok (x ∷ xs)
 
 -- at least one layer, and at most 128
 abbrev pub checked_layers : Items → Result (List (List ℕ)) RequestWhat
 checked_layers items =
     if count items == 0 then Err NoLayers
-    else (if nat_lt 128 (count items) then Err TooManyLayers else layers_from 0 items)
+    else (if nat_lt MAX_LAYERS (count items) then Err TooManyLayers else layers_from 0 items)
 
--- the layers of an image, where this is their member
+-- the layers of an image by their member
 abbrev pub layers_in : Option Data → Result (List (List ℕ)) RequestWhat
 layers_in found = list_or BadLayers found >>= checked_layers
 

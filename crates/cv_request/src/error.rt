@@ -1,3 +1,6 @@
+ghost use Rattle.std.specs.Prelude.{◌≡◌};
+ghost use Rattle.cv_request.specs.Fault.{fault_of};
+
 use cv_osv::{OsvError, RecordWhat};
 use cv_seq::NoMemory;
 use std::alloc::AllocFailed;
@@ -6,47 +9,57 @@ use thiserror::Error;
 /// What is wrong with a request.
 #[derive(Clone, Copy, Debug, PartialEq, Eq, Error)]
 pub enum RequestWhat {
-    #[error("the line is no object")]
+    #[error("the line is not an object")]
     NotObject,
-    #[error("`lane` is no whole number from 0 to 7")]
+    #[error("`lane` is not a whole number from 0 to 7")]
     BadLane,
-    #[error("`do` is no known word")]
+    #[error("`do` is not a known command")]
     BadDo,
-    #[error("`image` is no digest")]
+    #[error("`image` is not a digest")]
     BadImage,
-    #[error("the manifest is no object")]
+    #[error("the manifest is not an object")]
     BadManifest,
-    #[error("`hash` is no digest")]
+    #[error("`hash` is not a digest")]
     BadHash,
-    #[error("`layers` is no list")]
+    #[error("`layers` is not a list")]
     BadLayers,
     #[error("there are no layers")]
     NoLayers,
     #[error("there are too many layers")]
     TooManyLayers,
-    /// The number of the layer, from 0.
-    #[error("layer {0} is no digest")]
+    /// The index of the layer, from 0.
+    #[error("layer {0} has no digest")]
     BadLayer(u32),
-    #[error("`feed` is no name of a feed")]
+    #[error("`feed` is not the name of a feed")]
     BadFeed,
-    #[error("`advisories` is no list")]
+    #[error("`advisories` is not a list")]
     BadAdvisories,
-    #[error("`number` is no number of a notification")]
+    #[error("`number` is not the number of a notification")]
     BadNumber,
-    #[error("`size` is no size of a page")]
+    #[error("`size` is not the size of a page")]
     BadSize,
-    #[error("`page` is no number of a page")]
+    #[error("`page` is not the number of a page")]
     BadPage,
 }
 
-/// Why a line is refused as a request. Records are numbered from 0.
+/// Why a line is refused as a request: what is wrong with the line itself. Records are numbered from 0.
+#[derive(Clone, Copy, Debug, PartialEq, Eq)]
+pub enum RequestFault {
+    BadJson,
+    BadRequest(RequestWhat),
+    BadAdvisory { index: u32, what: RecordWhat },
+    DuplicateId { first: u32, second: u32 },
+    TooManyAdvisories,
+}
+
+/// Why a line was not read as a request: its fault, or out of memory.
 #[derive(Clone, Copy, Debug, PartialEq, Eq, Error)]
 pub enum RequestError {
-    #[error("the line is no JSON value")]
+    #[error("the line is not a JSON value")]
     BadJson,
     #[error("the request is malformed: {0}")]
     BadRequest(RequestWhat),
-    #[error("record {index} is malformed")]
+    #[error("record {index} is malformed: {what}")]
     BadAdvisory { index: u32, what: RecordWhat },
     #[error("records {first} and {second} have one id")]
     DuplicateId { first: u32, second: u32 },
@@ -54,6 +67,45 @@ pub enum RequestError {
     TooManyAdvisories,
     #[error("out of memory")]
     NoMemory,
+}
+
+impl RequestError {
+    /// The fault of the line, if the call did not run out of memory.
+    pub fn fault(self) -> Option<RequestFault>
+        ensures { result ≡ fault_of self }
+    {
+        match self {
+            RequestError::BadJson => Some(RequestFault::BadJson),
+            RequestError::BadRequest(what) => Some(RequestFault::BadRequest(what)),
+            RequestError::BadAdvisory { index, what } => {
+                Some(RequestFault::BadAdvisory { index, what })
+            }
+            RequestError::DuplicateId { first, second } => {
+                Some(RequestFault::DuplicateId { first, second })
+            }
+            RequestError::TooManyAdvisories => Some(RequestFault::TooManyAdvisories),
+            RequestError::NoMemory => None,
+        }
+    }
+}
+
+impl From<RequestFault> for RequestError {
+    ghost use Rattle.std.specs.Prelude.{◌≡◌};
+    ghost use Rattle.cv_request.specs.Fault.{error_of};
+
+    ghost from_gives = { λ fault e. e ≡ error_of fault };
+
+    fn from(fault: RequestFault) -> RequestError {
+        match fault {
+            RequestFault::BadJson => RequestError::BadJson,
+            RequestFault::BadRequest(what) => RequestError::BadRequest(what),
+            RequestFault::BadAdvisory { index, what } => RequestError::BadAdvisory { index, what },
+            RequestFault::DuplicateId { first, second } => {
+                RequestError::DuplicateId { first, second }
+            }
+            RequestFault::TooManyAdvisories => RequestError::TooManyAdvisories,
+        }
+    }
 }
 
 impl From<RequestWhat> for RequestError {
@@ -70,7 +122,7 @@ impl From<RequestWhat> for RequestError {
 /// The refusal of records, as that of a line.
 impl From<OsvError> for RequestError {
     ghost use Rattle.std.specs.Prelude.{◌≡◌};
-    ghost use Rattle.cv_request.specs.Line.{requested};
+    ghost use Rattle.cv_request.specs.code.Records.{requested};
 
     ghost from_gives = { λ refusal e. e ≡ requested refusal };
 
@@ -96,7 +148,7 @@ impl From<NoMemory> for RequestError {
     }
 }
 
-/// The value that found no place is dropped.
+/// The rejected value is dropped.
 impl<T: Drop> From<AllocFailed<T>> for RequestError {
     ghost use Rattle.std.specs.Prelude.{◌≡◌};
     ghost use Rattle.cv_request.specs.declared.error.RequestError.TheVariants as error;

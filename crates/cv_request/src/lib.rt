@@ -9,6 +9,6 @@ mod error;
 mod line;
 mod manifest;
 
-pub use error::{RequestError, RequestWhat};
+pub use error::{RequestError, RequestFault, RequestWhat};
 pub use line::read_json;
 pub use manifest::read_manifest;

@@ -1,17 +1,18 @@
 ghost use Rattle.std.specs.Prelude.{◌≡◌};
 ghost use Rattle.serde_json.specs.View.{view};
-ghost use Rattle.cv_base.specs.Answer.{Gives};
-ghost use Rattle.cv_request.specs.Line.{is_request_memory, json_or};
+ghost use Rattle.cv_base.specs.Answer.{Yields};
+ghost use Rattle.cv_request.specs.Fault.{fault_of};
+ghost use Rattle.cv_request.specs.Line.{json_or};
 
 use crate::error::RequestError;
 use serde_json::Value;
 use std::alloc::Global;
 use std::str;
 
-/// Reads a line as JSON (RFC 8259, as serde_json reads it). `BadJson` where it is not UTF-8 or no JSON.
+/// Reads a line as JSON (RFC 8259, as serde_json reads it). `BadJson` if it is not UTF-8 or not JSON.
 #[tactic(auto, using(cv_seq::proofs::Utf8::text_found, cv_seq::proofs::Utf8::none_found))]
 pub fn read_json(alloc: Global, line: &[u8]) -> Result<Value, RequestError>
-    ensures { Gives is_request_memory view result (json_or line.now) }
+    ensures { Yields fault_of view result (json_or line.now) }
 {
     let Ok(text) = str::from_utf8(line) else {
         return Err(RequestError::BadJson);

@@ -1,26 +1,23 @@
-ghost use Rattle.std.specs.Prelude.{◌≡◌, ◌<◌, ◌≤◌, ◌^◌, false, length, IfOk};
+ghost use Rattle.std.specs.Prelude.{◌≡◌, ◌<◌, ◌≤◌, ◌^◌, length, IfOk};
 ghost use Rattle.std.specs.Option.{option_map};
 ghost use Rattle.serde_json.specs.View.{view, items_view};
-ghost use Rattle.cv_base.specs.Answer.{Gives};
+ghost use Rattle.cv_base.specs.Answer.{Yields};
 ghost use Rattle.cv_osv.specs.Json.{object_or};
-ghost use Rattle.cv_request.specs.Line.{is_request_memory, refusing};
+ghost use Rattle.cv_request.specs.Fault.{fault_of, refusing};
 ghost use Rattle.cv_request.specs.Manifest.{checked_layers, digest_or, layer_of, layers_from, layers_in, list_or, manifest_of};
 
 use crate::error::{RequestError, RequestWhat};
-use cv_base::{Digest, Manifest, Seq};
+use cv_base::{Digest, MAX_LAYERS, Manifest, Seq};
 use serde_json::Value;
 use std::alloc::Global;
 
-/// The most layers of an image.
-const MAX_LAYERS: usize = 128;
-
 /// Reads the manifest of an image, as Clair v4 takes it: its digest, and those of its 1 to 128 layers. `uri`, `headers`
-/// and unknown members are passed over. What is refused first is told, in this order: the object, `hash`, the list
+/// and unknown members are ignored. The first fault is the answer, in this order: the object, `hash`, the list
 /// `layers`, the count of its items, and each of them from the first on.
 #[tactic(auto, unfolding(crate::specs::Manifest::manifest_of), using(crate::proofs::Layers::manifest_fails))]
 pub fn read_manifest(alloc: Global, value: &Value) -> Result<Manifest, RequestError>
-    ensures told { Gives is_request_memory (λ manifest. manifest) result (refusing (manifest_of (view value.now))) }
-    ensures few { IfOk result (λ manifest. length manifest.layers ≤ 128) }
+    ensures value { Yields fault_of (λ manifest. manifest) result (refusing (manifest_of (view value.now))) }
+    ensures at_most_128_layers { IfOk result (λ manifest. length manifest.layers ≤ MAX_LAYERS) }
 {
     object_or(value, RequestWhat::BadManifest)?;
     let hash = digest_or(value.get("hash"), RequestWhat::BadHash)?;
@@ -50,7 +47,7 @@ fn digest_or(found: Option<&Value>, bad: RequestWhat) -> Result<Digest, RequestW
 }
 
 fn list_or(found: Option<&Value>, bad: RequestWhat) -> Result<&[Value], RequestWhat>
-    ensures { Gives (λ _. false) (λ items. items_view items.now) result (list_or bad (option_map (λ v. view v.now) found.entry)) }
+    ensures { Yields (λ what. Some what) (λ items. items_view items.now) result (list_or bad (option_map (λ v. view v.now) found.entry)) }
 {
     match found.and_then(Value::as_array) {
         Some(items) => Ok(items.as_slice()),
@@ -58,9 +55,9 @@ fn list_or(found: Option<&Value>, bad: RequestWhat) -> Result<&[Value], RequestW
     }
 }
 
-/// The layers of an image, where this is their member.
+/// The layers of an image by their member.
 fn read_layers(alloc: Global, found: Option<&Value>) -> Result<Seq<Digest>, RequestError>
-    ensures { Gives is_request_memory (λ layers. layers) result (refusing (layers_in (option_map (λ v. view v.now) found.entry))) }
+    ensures { Yields fault_of (λ layers. layers) result (refusing (layers_in (option_map (λ v. view v.now) found.entry))) }
 {
     let items = list_or(found, RequestWhat::BadLayers)?;
     read_checked(alloc, items)
@@ -69,7 +66,7 @@ fn read_layers(alloc: Global, found: Option<&Value>) -> Result<Seq<Digest>, Requ
 /// At least one layer, and at most 128.
 #[tactic(auto, using(crate::proofs::Layers::count_items))]
 fn read_checked(alloc: Global, items: &[Value]) -> Result<Seq<Digest>, RequestError>
-    ensures { Gives is_request_memory (λ layers. layers) result (refusing (checked_layers (items_view items.now))) }
+    ensures { Yields fault_of (λ layers. layers) result (refusing (checked_layers (items_view items.now))) }
 {
     if items.is_empty() {
         return Err(RequestError::BadRequest(RequestWhat::NoLayers));
@@ -83,20 +80,23 @@ fn read_checked(alloc: Global, items: &[Value]) -> Result<Seq<Digest>, RequestEr
 /// The layers of a list of items.
 fn read_each(alloc: Global, items: &[Value]) -> Result<Seq<Digest>, RequestError>
     requires { length items.now < 2 ^ 32 }
-    ensures { Gives is_request_memory (λ layers. layers) result (refusing (layers_from 0 (items_view items.now))) }
+    ensures { Yields fault_of (λ layers. layers) result (refusing (layers_from 0 (items_view items.now))) }
 {
     let mut layers = Vec::new(alloc);
-    let mut number: u32 = 0;
+    let mut index: u32 = 0;
     for item in items {
-        layers.push(layer_of(item, number)?)?;
-        number += 1;
+        layers.push(layer_of(item, index)?)?;
+        index += 1;
     }
     Ok(Seq::of(layers))
 }
 
-/// The digest of the item of this number.
-fn layer_of(item: &Value, number: u32) -> Result<Digest, RequestWhat>
-    ensures { result ≡ layer_of number (view item.now) }
+/// The digest of the layer at this index.
+fn layer_of(item: &Value, index: u32) -> Result<Digest, RequestWhat>
+    ensures { result ≡ layer_of index (view item.now) }
 {
-    digest_or(item.get("hash"), RequestWhat::BadLayer(number))
+    digest_or(item.get("hash"), RequestWhat::BadLayer(index))
 }
+
+#[cfg(test)]
+mod tests;

@@ -5,8 +5,9 @@ use Rattle.std.proofs.lemmas.List.{drop_more, length-append}
 use Rattle.std.proofs.lemmas.List.Folds.{list_any-append}
 use Rattle.cv_base.specs.Texts.{has_text, same}
 use Rattle.cv_base.proofs.Same.{same_is}
-use Rattle.cv_scan.specs.Distinct.{with_layer}
-use Rattle.cv_scan.specs.Layers.{IsOfLayer, IsOfLayers, distinct}
+use Rattle.cv_scan.specs.code.Distinct.{with_layer}
+use Rattle.cv_scan.specs.Layers.{distinct}
+use Rattle.cv_scan.specs.code.Layers.{IsOfLayer, IsOfLayers}
 use Rattle.cv_scan.specs.declared.error.ImageError.{ImageError}
 use Rattle.cv_scan.specs.declared.error.ImageError.TheVariants as error
 
@@ -14,9 +15,9 @@ use Rattle.cv_scan.specs.declared.error.ImageError.TheVariants as error
 abbrev pub unseen : List (List ℕ) → List (List ℕ) → List (List ℕ)
 unseen seen layers = filter (λ layer. not (has_text seen layer)) layers
 
--- what was found, with what is left
-abbrev pub behind : List (List ℕ) → List (List ℕ) → List (List ℕ)
-behind seen layers = seen ++ unseen seen (distinct layers)
+-- what was found, with the remaining ones
+abbrev pub followed : List (List ℕ) → List (List ℕ) → List (List ℕ)
+followed seen layers = seen ++ unseen seen (distinct layers)
 
 -- a test that is no weaker than another one needs no help of it
 filter_twice : {A : Type 0} (p q : A → Bool) → ((y : A) → q y ≡ false → p y ≡ false) → (ys : List A) → filter p (filter q ys) ≡ filter p ys
@@ -44,8 +45,8 @@ on true h = refl
 on false h = cc
 
 -- one that stood before adds nothing
-pub behind_seen : (seen : List (List ℕ)) (x : List ℕ) (xs : List (List ℕ)) → has_text seen x ≡ true → behind seen (x ∷ xs) ≡ behind seen xs
-behind_seen seen x xs h =
+pub followed_seen : (seen : List (List ℕ)) (x : List ℕ) (xs : List (List ℕ)) → has_text seen x ≡ true → followed seen (x ∷ xs) ≡ followed seen xs
+followed_seen seen x xs h =
     ap (λ b. seen ++ cond (not b) (x ∷ unseen seen (filter (λ y. not (same x y)) (distinct xs))) (unseen seen (filter (λ y. not (same x y)) (distinct xs)))) h
     ∙ ap (λ ys. seen ++ ys) (filter_twice (λ y. not (has_text seen y)) (λ y. not (same x y)) (λ y e. on (has_text seen y) (ap (has_text seen) (sym (same_is x y (off (same x y) e))) ∙ h)) (distinct xs))
 
@@ -55,9 +56,9 @@ split r true false h = ap not h
 split r false true h = ap not h
 split r false false h = ap not h
 
--- another one stands behind those that were found
-pub behind_more : (seen : List (List ℕ)) (x : List ℕ) (xs : List (List ℕ)) → has_text seen x ≡ false → behind (seen ++ x ∷ []) xs ≡ behind seen (x ∷ xs)
-behind_more seen x xs h =
+-- another one stands after those that were found
+pub followed_more : (seen : List (List ℕ)) (x : List ℕ) (xs : List (List ℕ)) → has_text seen x ≡ false → followed (seen ++ x ∷ []) xs ≡ followed seen (x ∷ xs)
+followed_more seen x xs h =
     append_assoc seen (x ∷ []) (unseen (seen ++ x ∷ []) (distinct xs))
     ∙ ap (λ ys. seen ++ x ∷ ys) (sym (filter_both (λ y. not (has_text seen y)) (λ y. not (same x y)) (λ y. not (has_text (seen ++ x ∷ []) y))
     (λ y. split (has_text (seen ++ x ∷ []) y) (has_text seen y) (same x y) (list_any-append (λ s. same s y) seen (x ∷ []))) (distinct xs)))
@@ -67,18 +68,18 @@ filter_all : {A : Type 0} (ys : List A) → filter (λ y. true) ys ≡ ys
 filter_all [] = refl
 filter_all (y ∷ ys) = ap (λ zs. y ∷ zs) (filter_all ys)
 
-pub behind_none : (layers : List (List ℕ)) → behind [] layers ≡ distinct layers
-behind_none layers = filter_all (distinct layers)
+pub followed_none : (layers : List (List ℕ)) → followed [] layers ≡ distinct layers
+followed_none layers = filter_all (distinct layers)
 
-pub behind_all : (seen : List (List ℕ)) → behind seen [] ≡ seen
-behind_all seen = append-nil seen
+pub followed_all : (seen : List (List ℕ)) → followed seen [] ≡ seen
+followed_all seen = append-nil seen
 
--- one more layer was looked at
-pub behind_next : (seen : List (List ℕ)) (x : List ℕ) (xs : List (List ℕ)) → behind (with_layer seen x) xs ≡ behind seen (x ∷ xs)
-behind_next seen x xs = by_test (has_text seen x) refl where
-  by_test : (b : Bool) → has_text seen x ≡ b → behind (cond b seen (seen ++ x ∷ [])) xs ≡ behind seen (x ∷ xs)
-  by_test true h = sym (behind_seen seen x xs h)
-  by_test false h = behind_more seen x xs h
+-- one more layer
+pub followed_next : (seen : List (List ℕ)) (x : List ℕ) (xs : List (List ℕ)) → followed (with_layer seen x) xs ≡ followed seen (x ∷ xs)
+followed_next seen x xs = by_test (has_text seen x) refl where
+  by_test : (b : Bool) → has_text seen x ≡ b → followed (cond b seen (seen ++ x ∷ [])) xs ≡ followed seen (x ∷ xs)
+  by_test true h = sym (followed_seen seen x xs h)
+  by_test false h = followed_more seen x xs h
 
 pub more_layers : (seen : List (List ℕ)) (x : List ℕ) → length (with_layer seen x) ≤ length seen + 1
 more_layers seen x = by_test (has_text seen x) where
@@ -95,11 +96,11 @@ failed_one layers before now layer error.NoMemory k lt at h of = omega (arith, l
 
 -- The steps of the loops.
 
-pub step_told : (layers seen new : List (List ℕ)) (i : ℕ) (x : List ℕ) → i < length layers → x ≡ get_or layers i x → new ≡ with_layer seen x
-    → behind seen (drop i layers) ≡ distinct layers → behind new (drop (i + 1) layers) ≡ distinct layers
-step_told layers seen new i x lt at e h =
-    ap (λ ds. behind ds (drop (i + 1) layers)) e ∙ behind_next seen x (drop (i + 1) layers)
-    ∙ ap (λ y. behind seen (y ∷ drop (i + 1) layers)) at ∙ sym (ap (behind seen) (drop_more layers i x lt)) ∙ h
+pub step_distinct : (layers seen new : List (List ℕ)) (i : ℕ) (x : List ℕ) → i < length layers → x ≡ get_or layers i x → new ≡ with_layer seen x
+    → followed seen (drop i layers) ≡ distinct layers → followed new (drop (i + 1) layers) ≡ distinct layers
+step_distinct layers seen new i x lt at e h =
+    ap (λ ds. followed ds (drop (i + 1) layers)) e ∙ followed_next seen x (drop (i + 1) layers)
+    ∙ ap (λ y. followed seen (y ∷ drop (i + 1) layers)) at ∙ sym (ap (followed seen) (drop_more layers i x lt)) ∙ h
 
 pub step_fewer : (seen new : List (List ℕ)) (i : ℕ) (x : List ℕ) → new ≡ with_layer seen x → length seen ≤ i → length new ≤ i + 1
 step_fewer seen new i x e h = let more = more_layers seen x in let same : length new ≡ length (with_layer seen x) = ap length e in omega (arith, more, same)

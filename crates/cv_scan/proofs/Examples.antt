@@ -34,7 +34,7 @@ one : root_entries (base ∷ []) ≡ base
 unfolding root_entries
 one = refl
 
--- a whiteout is gone with what it hides, what is new stands at its place, and what is there twice is the upper one
+-- a whiteout is gone with what it hides, a new entry stands at its place, and of two at one path the upper one stays
 two : root_entries
     (base ∷ (dir (codes "app") ∷ file (codes "app/.wh.old") (Bytes []) ∷ file (codes "app/new") (Bytes []) ∷ file (codes "app/status") (Bytes (codes "3")) ∷ []) ∷ [])
     ≡ dir (codes "app") ∷ file (codes "app/new") (Bytes []) ∷ file (codes "app/status") (Bytes (codes "3")) ∷ dir (codes "etc") ∷ []
@@ -49,12 +49,12 @@ falling = dir (codes "b") ∷ dir (codes "a") ∷ []
 abbrev with_status : Content → List TreeEntry
 with_status content = dir (codes "var") ∷ dir (codes "var/lib") ∷ dir (codes "var/lib/dpkg") ∷ file (codes "var/lib/dpkg/status") content ∷ []
 
--- a layer that is not there is told before a bad tree, wherever the two stand
+-- a missing layer is named before a bad tree, wherever the two stand
 absent : (scan (None ∷ []) [] ≡ Err (NoLayer 0)) × (scan (Some falling ∷ None ∷ None ∷ []) [] ≡ Err (NoLayer 1))
 unfolding scan
 absent = (refl, refl)
 
--- the first bad tree is told before a bad file
+-- the first bad tree is named before a bad file
 bad_tree : scan (Some (with_status TooLarge) ∷ Some falling ∷ Some falling ∷ []) [] ≡ Err (BadTree 1 (Unsorted 1))
 unfolding scan
 bad_tree = refl
@@ -64,7 +64,7 @@ bad_mark : scan (Some (file (codes ".wh.") (Bytes []) ∷ []) ∷ []) [] ≡ Err
 unfolding scan
 bad_mark = refl
 
--- a file that no layer hides is refused, and one that is hidden is not looked at
+-- a file that no layer hides is refused, and one that is hidden is ignored
 bad_file : (scan (Some (with_status TooLarge) ∷ []) [] ≡ Err (LargeFile (components (codes "var/lib/dpkg/status"))))
     × (scan (Some (with_status TooLarge) ∷ Some (file (codes ".wh.var") (Bytes []) ∷ []) ∷ []) [] ≡ Ok [])
 unfolding scan root_entries packages findings
@@ -90,8 +90,8 @@ listed id = record {
   affected = record { «package» = Some (record { ecosystem = codes "unknown"; name = codes "zlib" }); ranges = []; versions = codes "1" ∷ [] } ∷ [];
 }
 
-abbrev told : List ℕ → Finding
-told id = record {
+abbrev finding : List ℕ → Finding
+finding id = record {
   «package» = record {
     kind = Deb;
     path = components (codes "var/lib/dpkg/status");
@@ -109,6 +109,6 @@ told id = record {
 
 -- a package that is listed twice has one finding for each record, in the order of their ids
 found : scan (Some (with_status (Bytes (zlib ++ 10 ∷ zlib))) ∷ []) ((codes "f", listed (codes "X-2") ∷ listed (codes "X-1") ∷ []) ∷ [])
-    ≡ Ok (told (codes "X-1") ∷ told (codes "X-2") ∷ [])
+    ≡ Ok (finding (codes "X-1") ∷ finding (codes "X-2") ∷ [])
 unfolding scan root_entries packages findings affects fixed
 found = refl

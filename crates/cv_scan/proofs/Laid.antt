@@ -1,4 +1,4 @@
--- The entries of a root that was laid layer by layer: they rise by their paths and are at each path what the layers make
+-- The entries of a root that was laid layer by layer: they ascend by their paths and are at each path what the layers make
 -- of it, and there is only one such list.
 use Rattle.std.specs.Prelude.{◌≡◌, Bool, true, false, ◌&&◌, ◌||◌, if◌then◌else◌, List, [], ◌∷◌, map, Option, Some, None, refl}
 use Rattle.std.specs.List.{AllByRecursion, cons_option, flat_map, list_any}
@@ -18,8 +18,8 @@ use Rattle.cv_base.proofs.InOrder.{after_lower, any_order, order_rises, turned}
 use Rattle.cv_base.proofs.Same.{path_is, path_self, path_total, tied_path}
 use Rattle.cv_overlay.specs.Lay.{hides, is_plain, lay, node_at, plain_at, root_from, root_of}
 use Rattle.cv_overlay.specs.Mark.{mark}
-use Rattle.cv_overlay.specs.Merge.{AreRising}
-use Rattle.cv_overlay.proofs.MergeWords.{ComesAfter, nothing_before}
+use Rattle.cv_overlay.specs.Ascending.{AreAscending}
+use Rattle.cv_overlay.proofs.MergeLemmas.{ComesAfter, nothing_before}
 use Rattle.cv_scan.specs.Root.{entries_at, paths_of, root_entries}
 
 abbrev path_in : TreeEntry → Path
@@ -34,7 +34,7 @@ is_among qs p = list_any (λ q. same_path q p) qs
 among_order : (ps : List Path) (p : Path) → is_among (in_order path_cmp ps) p ≡ is_among ps p
 among_order ps p = any_order (λ q. same_path q p) (λ q r h. ap (λ (x : Path). same_path x p) (tied_path q r h)) ps
 
--- The entries at paths that rise.
+-- The entries at ascending paths.
 
 abbrev entry_of : Option Node → Path → Option TreeEntry
 entry_of found p = option_map (λ n. record { path = p; node = n }) found
@@ -46,11 +46,11 @@ after_entries root p (q ∷ qs) h = by_node (root q) (after_entries root p qs h.
   by_node None rest = rest
   by_node (Some n) rest = (h.0, rest)
 
-entries_rise : (root : Path → Option Node) (qs : List Path) → IsStrictlySortedBy path_cmp qs → AreRising (entries_at root qs)
+entries_ascend : (root : Path → Option Node) (qs : List Path) → IsStrictlySortedBy path_cmp qs → AreAscending (entries_at root qs)
 unfolding IsStrictlySortedBy
-entries_rise root [] h = tt
-entries_rise root (q ∷ qs) h = by_node (root q) (entries_rise root qs h.1) where
-  by_node : (found : Option Node) → AreRising (entries_at root qs) → AreRising (cons_option (entry_of found q) (entries_at root qs))
+entries_ascend root [] h = tt
+entries_ascend root (q ∷ qs) h = by_node (root q) (entries_ascend root qs h.1) where
+  by_node : (found : Option Node) → AreAscending (entries_at root qs) → AreAscending (cons_option (entry_of found q) (entries_at root qs))
   by_node None rest = rest
   by_node (Some n) rest = (after_entries root q qs h.0, rest)
 
@@ -110,12 +110,12 @@ node_root trees p =
     ∙ ap (λ (b : Bool). if b then root_of trees p else None) (among_order (all_paths trees) p)
     ∙ only_among trees p
 
--- and rise
-pub root_rises : (trees : List (List TreeEntry)) → AreRising (root_entries trees)
+-- and ascend
+pub root_ascends : (trees : List (List TreeEntry)) → AreAscending (root_entries trees)
 unfolding root_entries
-root_rises trees = entries_rise (root_of trees) (paths_of trees) (order_rises path_total (all_paths trees))
+root_ascends trees = entries_ascend (root_of trees) (paths_of trees) (order_rises path_total (all_paths trees))
 
--- Two lists that rise and have the same nodes are one.
+-- Two ascending lists that have the same nodes are one.
 
 some_none : (n : Node) → Some n ≡ None → ⊥
 some_none n h = cc
@@ -124,7 +124,7 @@ own_node : (x : TreeEntry) (xs : List TreeEntry) → node_at (x ∷ xs) x.path �
 own_node x xs = ap (λ (b : Bool). if b then Some x.node else node_at xs x.path) (path_self x.path)
 
 -- the lower of two first entries is missing in the other list
-missing : (x y : TreeEntry) (xs ys : List TreeEntry) → path_cmp x.path y.path ≡ Less → AreRising (y ∷ ys) → ((p : Path) → node_at (x ∷ xs) p ≡ node_at (y ∷ ys) p) → ⊥
+missing : (x y : TreeEntry) (xs ys : List TreeEntry) → path_cmp x.path y.path ≡ Less → AreAscending (y ∷ ys) → ((p : Path) → node_at (x ∷ xs) p ≡ node_at (y ∷ ys) p) → ⊥
 missing x y xs ys e k same =
     some_none x.node (sym (own_node x xs) ∙ same x.path ∙ nothing_before x.path (y ∷ ys) (e, after_lower path_total path_in x.path y.path ys e k.0))
 
@@ -146,7 +146,7 @@ same_rest x y xs ys place h k same p = by_test (same_path x.path p) refl where
       sym (ap (λ (b : Bool). if b then Some x.node else node_at xs p) e) ∙ same p
       ∙ ap (λ (b : Bool). if b then Some y.node else node_at ys p) (ap (λ (q : Path). same_path q p) (sym place) ∙ e)
 
-pub same_entries : (xs ys : List TreeEntry) → AreRising xs → AreRising ys → ((p : Path) → node_at xs p ≡ node_at ys p) → xs ≡ ys
+pub same_entries : (xs ys : List TreeEntry) → AreAscending xs → AreAscending ys → ((p : Path) → node_at xs p ≡ node_at ys p) → xs ≡ ys
 same_entries [] [] h k same = refl
 same_entries [] (y ∷ ys) h k same = absurd (some_none y.node (sym (own_node y ys) ∙ sym (same y.path)))
 same_entries (x ∷ xs) [] h k same = absurd (some_none x.node (sym (own_node x xs) ∙ same x.path))
@@ -158,6 +158,6 @@ same_entries (x ∷ xs) (y ∷ ys) h k same = by_order (path_cmp x.path y.path) 
       λ i. same_first x y xs ys place same i ∷ rest (same_rest x y xs ys place h.0 k.0 same) i
   by_order Greater e rest = absurd (missing y x ys xs (turned path_total x.path y.path e) h (λ p. sym (same p)))
 
--- entries that rise, and are at each path what layers make of it, are those of the root of the image
-pub laid_entries : (trees : List (List TreeEntry)) (es : List TreeEntry) → AreRising es → ((p : Path) → node_at es p ≡ root_of trees p) → es ≡ root_entries trees
-laid_entries trees es rises same = same_entries es (root_entries trees) rises (root_rises trees) (λ p. same p ∙ sym (node_root trees p))
+-- ascending entries that are at each path what layers make of it, are those of the root of the image
+pub laid_entries : (trees : List (List TreeEntry)) (es : List TreeEntry) → AreAscending es → ((p : Path) → node_at es p ≡ root_of trees p) → es ≡ root_entries trees
+laid_entries trees es ascending same = same_entries es (root_entries trees) ascending (root_ascends trees) (λ p. same p ∙ sym (node_root trees p))

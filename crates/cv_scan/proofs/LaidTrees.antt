@@ -27,7 +27,7 @@ pub from_more : (old new whole : Path → Option Node) (tree : List TreeEntry) (
     → AreSame (root_from old (tree ∷ trees)) whole → AreSame (root_from new trees) whole
 from_more old new whole tree trees h k p = from_same new (lay old tree) trees h p ∙ k p
 
--- Trees behind others.
+-- Trees after others.
 
 abbrev pub trees_onto : List (List TreeEntry) → Result (List (List TreeEntry)) ImageFault → Result (List (List TreeEntry)) ImageFault
 trees_onto front (Ok trees) = Ok (front ++ trees)
@@ -55,7 +55,7 @@ step_laid f xs i x old new whole lt at h k =
 pub step_good : {A : Type 0} (f : A → List TreeEntry) (xs : List A) (i : ℕ) (x : A) (whole : Option ImageFault) → i < length xs → x ≡ get_or xs i x
     → tree_fault (f x) ≡ None → bad_tree_from i (map f (drop i xs)) ≡ whole → bad_tree_from (i + 1) (map f (drop (i + 1) xs)) ≡ whole
 step_good f xs i x whole lt at h k =
-    ap (λ told. or_bad i told (bad_tree_from (i + 1) (map f (drop (i + 1) xs)))) (sym h) ∙ ap (bad_tree_from i) (sym (places f xs i x lt at)) ∙ k
+    ap (λ bad. or_bad i bad (bad_tree_from (i + 1) (map f (drop (i + 1) xs)))) (sym h) ∙ ap (bad_tree_from i) (sym (places f xs i x lt at)) ∙ k
 
 -- all were laid
 pub all_laid : {A : Type 0} (f : A → List TreeEntry) (xs : List A) (i : ℕ) (root : List TreeEntry) → length xs ≤ i

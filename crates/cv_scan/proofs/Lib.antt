@@ -1,14 +1,14 @@
 pub mod Distinct
-pub mod Finds
 mod Examples
+pub mod Finds
+pub mod Indices
 pub mod Laid
 pub mod LaidTrees
 pub mod Loaded
-pub mod Looked
+pub mod Lookup
 pub mod Merged
-pub mod Numbers
-pub mod Ordered
 pub mod Put
 pub mod RootLoaded
 pub mod Scanned
 pub mod Scans
+pub mod SlotLemmas

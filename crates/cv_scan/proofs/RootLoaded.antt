@@ -121,15 +121,15 @@ with_loaded : (tree : List TreeEntry) (found : Result (List (List TreeEntry)) Im
 with_loaded tree (Ok trees) = refl
 with_loaded tree (Err bad) = refl
 
-trees_loaded : (number : ℕ) (layers : List (Option (List TreeEntry))) → trees_from number (map load_layer layers) ≡ load_trees (trees_from number layers)
-trees_loaded number [] = refl
-trees_loaded number (None ∷ layers) = refl
-trees_loaded number (Some tree ∷ layers) =
-    ap (with_tree (map load_entry tree)) (trees_loaded (number + 1) layers) ∙ with_loaded tree (trees_from (number + 1) layers)
+trees_loaded : (index : ℕ) (layers : List (Option (List TreeEntry))) → trees_from index (map load_layer layers) ≡ load_trees (trees_from index layers)
+trees_loaded index [] = refl
+trees_loaded index (None ∷ layers) = refl
+trees_loaded index (Some tree ∷ layers) =
+    ap (with_tree (map load_entry tree)) (trees_loaded (index + 1) layers) ∙ with_loaded tree (trees_from (index + 1) layers)
 
-bad_loaded : (number : ℕ) (trees : List (List TreeEntry)) → bad_tree_from number (map (map load_entry) trees) ≡ bad_tree_from number trees
-bad_loaded number [] = refl
-bad_loaded number (tree ∷ trees) = λ i. or_bad number (loaded_fault tree i) (bad_loaded (number + 1) trees i)
+bad_loaded : (index : ℕ) (trees : List (List TreeEntry)) → bad_tree_from index (map (map load_entry) trees) ≡ bad_tree_from index trees
+bad_loaded index [] = refl
+bad_loaded index (tree ∷ trees) = λ i. or_bad index (loaded_fault tree i) (bad_loaded (index + 1) trees i)
 
 good_loaded : (bad : Option ImageFault) (trees : List (List TreeEntry)) (feeds : List (List ℕ × List Advisory))
     → scan_good bad (map (map load_entry) trees) feeds ≡ scan_good bad trees feeds

@@ -14,7 +14,8 @@ use Rattle.cv_base.proofs.Same.{same_is, same_self}
 use Rattle.cv_desk.specs.Loaded.{loaded, whole}
 use Rattle.cv_desk.specs.Stored.{Stored}
 use Rattle.cv_overlay.specs.declared.fault.ImageFault.{ImageFault}
-use Rattle.cv_scan.specs.Layers.{AreListed, IsOfLayers, IsScanned, IsTold, distinct, is_desk_fault, is_image_memory, refusing, stored_layers, tree_in, whole_layers, with_stored}
+use Rattle.cv_scan.specs.Layers.{AreListed, IsScanned, distinct, is_desk_fault, stored_layers, whole_layers, with_stored}
+use Rattle.cv_scan.specs.code.Layers.{IsOfLayers, IsLoaded, is_image_memory, refusing, tree_in}
 use Rattle.cv_scan.specs.Scan.{Scanned, scan}
 use Rattle.cv_scan.specs.declared.error.ImageError.{ImageError}
 use Rattle.cv_scan.specs.declared.error.ImageError.TheVariants as error
@@ -64,24 +65,24 @@ all_seen (layer ∷ layers) = (
 abbrev pub load_stored : Option (List Stored) → Option (List TreeEntry)
 load_stored = option_map (map loaded)
 
-told_some : (told : Option (Option (List Stored))) (stored : Option (List Stored)) (found : Option (List TreeEntry)) → IfSome told (λ s. found ≡ load_stored s) → told ≡ Some stored → found ≡ load_stored stored
-told_some None stored found h k = cc
-told_some (Some s) stored found h k = h ∙ ap load_stored (same_Some s stored k)
+known_some : (known : Option (Option (List Stored))) (stored : Option (List Stored)) (found : Option (List TreeEntry)) → IfSome known (λ s. found ≡ load_stored s) → known ≡ Some stored → found ≡ load_stored stored
+known_some None stored found h k = cc
+known_some (Some s) stored found h k = h ∙ ap load_stored (same_Some s stored k)
 
 found_layer : (trees : List ℕ → Option (Option (List Stored))) (xs : List LoadedLayer) (layer : List ℕ) (stored : Option (List Stored))
-    → AllByRecursion (IsTold trees) xs → has_text (map layer_in xs) layer ≡ true → trees layer ≡ Some stored → tree_in xs layer ≡ load_stored stored
+    → AllByRecursion (IsLoaded trees) xs → has_text (map layer_in xs) layer ≡ true → trees layer ≡ Some stored → tree_in xs layer ≡ load_stored stored
 found_layer trees [] layer stored all h k = cc
 found_layer trees (x ∷ xs) layer stored all h k = by_test (same x.layer layer) refl h (λ l. found_layer trees xs layer stored all.1 l k) where
   by_test : (b : Bool) → same x.layer layer ≡ b → (b || has_text (map layer_in xs) layer) ≡ true
       → (has_text (map layer_in xs) layer ≡ true → tree_in xs layer ≡ load_stored stored)
       → (if b then option_map (λ tree. tree.entries) x.tree else tree_in xs layer) ≡ load_stored stored
   by_test true e l rest =
-      told_some (trees x.layer) stored (option_map (λ tree. tree.entries) x.tree) all.0 (ap trees (same_is x.layer layer e) ∙ k)
+      known_some (trees x.layer) stored (option_map (λ tree. tree.entries) x.tree) all.0 (ap trees (same_is x.layer layer e) ∙ k)
   by_test false e l rest = rest l
 
--- where the desk's type tells of all layers, they were found as they are stored
+-- if the desk's type names all layers, they were found as they are stored
 abbrev AreFound : List LoadedLayer → List (List ℕ) → Option (List (Option (List Stored))) → Type 0
-AreFound xs layers told = IfSome told (λ stored. map (tree_in xs) layers ≡ map load_stored stored)
+AreFound xs layers known = IfSome known (λ stored. map (tree_in xs) layers ≡ map load_stored stored)
 
 found_more : (xs : List LoadedLayer) (layer : List ℕ) (layers : List (List ℕ)) (here : Option (Option (List Stored))) (others : Option (List (Option (List Stored))))
     → IfSome here (λ stored. tree_in xs layer ≡ load_stored stored) → AreFound xs layers others → AreFound xs (layer ∷ layers) (with_stored here others)
@@ -90,12 +91,12 @@ found_more xs layer layers (Some stored) None h k = tt
 found_more xs layer layers (Some stored) (Some rest) h k = λ i. h i ∷ k i
 
 found_here : (trees : List ℕ → Option (Option (List Stored))) (xs : List LoadedLayer) (layer : List ℕ) (here : Option (Option (List Stored)))
-    → AllByRecursion (IsTold trees) xs → has_text (map layer_in xs) layer ≡ true → trees layer ≡ here → IfSome here (λ stored. tree_in xs layer ≡ load_stored stored)
+    → AllByRecursion (IsLoaded trees) xs → has_text (map layer_in xs) layer ≡ true → trees layer ≡ here → IfSome here (λ stored. tree_in xs layer ≡ load_stored stored)
 found_here trees xs layer None all h k = tt
 found_here trees xs layer (Some stored) all h k = found_layer trees xs layer stored all h k
 
 found_all : (trees : List ℕ → Option (Option (List Stored))) (xs : List LoadedLayer) (layers : List (List ℕ))
-    → AllByRecursion (IsTold trees) xs → AreSeen (map layer_in xs) layers → AreFound xs layers (stored_layers trees layers)
+    → AllByRecursion (IsLoaded trees) xs → AreSeen (map layer_in xs) layers → AreFound xs layers (stored_layers trees layers)
 found_all trees xs [] all h = refl
 found_all trees xs (layer ∷ layers) all h =
     found_more xs layer layers (trees layer) (stored_layers trees layers) (found_here trees xs layer (trees layer) all h.0 refl) (found_all trees xs layers all h.1)
@@ -127,7 +128,7 @@ bad_or other (Err error.NoMemory) = other
 
 bad_is : (scanned : Scanned) (bad : ImageFault) → refusing scanned ≡ Err (error.Bad bad) → scanned ≡ Err bad
 bad_is (Ok xs) bad h = cc
-bad_is (Err told) bad h = ap Err (ap (bad_or told) h)
+bad_is (Err other) bad h = ap Err (ap (bad_or other) h)
 
 given_is : (answer : Result (List Finding) ImageError) (scanned : Scanned) → Gives is_image_memory (λ found. found) answer (refusing scanned) → IsScanned answer scanned
 given_is (Ok found) scanned h = ok_is scanned found h
@@ -135,40 +136,40 @@ given_is (Err (error.Bad bad)) scanned h = bad_is scanned bad h
 given_is (Err (error.Desk layer)) scanned h = tt
 given_is (Err error.NoMemory) scanned h = tt
 
-by_stored : (xs : List LoadedLayer) (layers : List (List ℕ)) (told : Option (List (Option (List Stored)))) (feeds : List (List ℕ × List Advisory)) (answer : Result (List Finding) ImageError)
-    → AreFound xs layers told → Gives is_image_memory (λ found. found) answer (refusing (scan (map (tree_in xs) layers) feeds))
-    → IfSome told (λ stored. IsScanned answer (scan (whole_layers stored) feeds))
+by_stored : (xs : List LoadedLayer) (layers : List (List ℕ)) (known : Option (List (Option (List Stored)))) (feeds : List (List ℕ × List Advisory)) (answer : Result (List Finding) ImageError)
+    → AreFound xs layers known → Gives is_image_memory (λ found. found) answer (refusing (scan (map (tree_in xs) layers) feeds))
+    → IfSome known (λ stored. IsScanned answer (scan (whole_layers stored) feeds))
 by_stored xs layers None feeds answer h k = tt
 by_stored xs layers (Some stored) feeds answer h k =
     given_is answer (scan (whole_layers stored) feeds) (subst (λ scanned. Gives is_image_memory (λ found. found) answer (refusing scanned)) (scan_is xs layers stored feeds h) k)
 
 -- an answer from what was loaded is one from what is stored
 pub scanned_stored : (trees : List ℕ → Option (Option (List Stored))) (xs : List LoadedLayer) (layers : List (List ℕ)) (feeds : List (List ℕ × List Advisory)) (answer : Result (List Finding) ImageError)
-    → map layer_in xs ≡ distinct layers → AllByRecursion (IsTold trees) xs
+    → map layer_in xs ≡ distinct layers → AllByRecursion (IsLoaded trees) xs
     → Gives is_image_memory (λ found. found) answer (refusing (scan (map (tree_in xs) layers) feeds))
     → IfSome (stored_layers trees layers) (λ stored. IsScanned answer (scan (whole_layers stored) feeds))
 scanned_stored trees xs layers feeds answer h all k =
     by_stored xs layers (stored_layers trees layers) feeds answer
     (found_all trees xs layers all (subst (λ ds. AreSeen ds layers) (sym h) (all_seen layers))) k
 
--- What was not loaded tells nothing of the image.
+-- A failure to load says nothing of the image.
 
 failed_scanned : (layers : List (List ℕ)) (before now : ℕ) (e : ImageError) (scanned : Scanned) → IsOfLayers layers before now e → IsScanned (Err e) scanned
 failed_scanned layers before now (error.Bad bad) scanned h = absurd h
 failed_scanned layers before now (error.Desk layer) scanned h = tt
 failed_scanned layers before now error.NoMemory scanned h = tt
 
-pub failed_told : (told : Option (List (Option (List Stored)))) (layers : List (List ℕ)) (before now : ℕ) (e : ImageError) (feeds : List (List ℕ × List Advisory))
-    → IsOfLayers layers before now e → IfSome told (λ stored. IsScanned (Err e) (scan (whole_layers stored) feeds))
-failed_told None layers before now e feeds h = tt
-failed_told (Some stored) layers before now e feeds h = failed_scanned layers before now e (scan (whole_layers stored) feeds) h
+pub failed_answer : (known : Option (List (Option (List Stored)))) (layers : List (List ℕ)) (before now : ℕ) (e : ImageError) (feeds : List (List ℕ × List Advisory))
+    → IsOfLayers layers before now e → IfSome known (λ stored. IsScanned (Err e) (scan (whole_layers stored) feeds))
+failed_answer None layers before now e feeds h = tt
+failed_answer (Some stored) layers before now e feeds h = failed_scanned layers before now e (scan (whole_layers stored) feeds) h
 
 pub failed_listed : (layers : List (List ℕ)) (before now : ℕ) (e : ImageError) → IsOfLayers (distinct layers) before now e → AreListed layers before now (Err e)
 failed_listed layers before now (error.Bad bad) h = absurd h
 failed_listed layers before now (error.Desk layer) h = h
 failed_listed layers before now error.NoMemory h = h
 
--- What was loaded was listed, whatever is told of it then.
+-- What was loaded was listed, whatever comes of it then.
 
 at_most_is : (n m : ℕ) → n ≡ m → n ≤ m
 at_most_is n m h = omega (arith, h)

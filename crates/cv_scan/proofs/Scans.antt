@@ -3,13 +3,14 @@ use Rattle.std.specs.Prelude.{◌≡◌, ℕ, ◌+◌, ◌≤◌, suc, ⊤, List
 use Rattle.std.proofs.Common.{ap, sym, subst, arith, ◌∙◌}
 use Rattle.cv_base.specs.Answer.{Gives}
 use Rattle.cv_base.specs.Path.{Path}
+use Rattle.cv_base.specs.declared.limits.TheConstants.{MAX_LAYERS}
 use Rattle.cv_base.specs.declared.advisory.Advisory.{Advisory}
 use Rattle.cv_base.specs.declared.finding.Finding.{Finding}
 use Rattle.cv_base.specs.declared.tree.TreeEntry.{TreeEntry}
 use Rattle.cv_overlay.specs.Lay.{node_at, root_of}
-use Rattle.cv_overlay.specs.Merge.{AreRising}
+use Rattle.cv_overlay.specs.Ascending.{AreAscending}
 use Rattle.cv_overlay.specs.declared.fault.ImageFault.{ImageFault}
-use Rattle.cv_scan.specs.Layers.{is_image_memory, refusing}
+use Rattle.cv_scan.specs.code.Layers.{is_image_memory, refusing}
 use Rattle.cv_scan.specs.Scan.{Scanned, as_scanned, bad_tree_from, root_findings, scan, scan_good, scan_layers, scan_of, trees_from, with_tree}
 use Rattle.cv_scan.specs.declared.error.ImageError.{ImageError}
 use Rattle.cv_scan.specs.declared.error.ImageError.TheVariants as error
@@ -59,18 +60,18 @@ count_more tree (Ok ts) n h = ap suc h
 count_more tree (Err bad) n h = tt
 
 -- there are as many trees as layers
-count_from : (number : ℕ) (layers : List (Option (List TreeEntry))) → IfOk (trees_from number layers) (λ ts. length ts ≡ length layers)
-count_from number [] = refl
-count_from number (None ∷ layers) = tt
-count_from number (Some tree ∷ layers) = count_more tree (trees_from (number + 1) layers) (length layers) (count_from (number + 1) layers)
+count_from : (index : ℕ) (layers : List (Option (List TreeEntry))) → IfOk (trees_from index layers) (λ ts. length ts ≡ length layers)
+count_from index [] = refl
+count_from index (None ∷ layers) = tt
+count_from index (Some tree ∷ layers) = count_more tree (trees_from (index + 1) layers) (length layers) (count_from (index + 1) layers)
 
 count_map : {A B : Type 0} (f : A → B) (xs : List A) → length (map f xs) ≡ length xs
 count_map f [] = refl
 count_map f (x ∷ xs) = ap suc (count_map f xs)
 
-pub trees_few : {A B : Type 0} (f : A → Option (List TreeEntry)) (g : B → List TreeEntry) (layers : List A) (trees : List B) → refusing (trees_from 0 (map f layers)) ≡ Ok (map g trees)
-    → length layers ≤ 128 → length trees ≤ 128
-trees_few f g layers trees h few =
+pub trees_within : {A B : Type 0} (f : A → Option (List TreeEntry)) (g : B → List TreeEntry) (layers : List A) (trees : List B) → refusing (trees_from 0 (map f layers)) ≡ Ok (map g trees)
+    → length layers ≤ MAX_LAYERS → length trees ≤ MAX_LAYERS
+trees_within f g layers trees h within =
     let counted : length (map g trees) ≡ length (map f layers) = subst (λ found. IfOk found (λ ts. length ts ≡ length (map f layers))) (trees_ok (trees_from 0 (map f layers)) (map g trees) h) (count_from 0 (map f layers)) in
     let one = count_map f layers in
     let two = count_map g trees in
@@ -79,8 +80,8 @@ trees_few f g layers trees h few =
 -- From the trees to the root.
 
 pub trees_good : (trees : List (List TreeEntry)) (root entries : List TreeEntry) (feeds : Feeds) (answer : Result (List Finding) ImageError)
-    → bad_tree_from 0 trees ≡ None → entries ≡ root → AreRising root → ((p : Path) → node_at root p ≡ root_of trees p)
+    → bad_tree_from 0 trees ≡ None → entries ≡ root → AreAscending root → ((p : Path) → node_at root p ≡ root_of trees p)
     → Answers answer (as_scanned (root_findings entries feeds)) → Answers answer (scan_of trees feeds)
-trees_good trees root entries feeds answer good same rises laid h =
+trees_good trees root entries feeds answer good same ascending laid h =
     subst (λ bad. Answers answer (scan_good bad trees feeds)) (sym good)
-    (subst (λ es. Answers answer (as_scanned (root_findings es feeds))) (same ∙ laid_entries trees root rises laid) h)
+    (subst (λ es. Answers answer (as_scanned (root_findings es feeds))) (same ∙ laid_entries trees root ascending laid) h)

@@ -1,7 +1,5 @@
-pub mod Distinct
-pub mod Found
-pub mod Index
-pub mod Keyed
+pub mod Faults
 pub mod Layers
 pub mod Root
 pub mod Scan
+pub mod code

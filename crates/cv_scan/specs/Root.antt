@@ -1,6 +1,6 @@
 -- The entries of an image's root: what its layers make of it, laid in order with the base first (OCI image specification
--- 1.1, layer.md, "Applying Changesets"), as the list of all its paths with their nodes, in the order of paths (cvwatch's own
--- form).
+-- 1.1, layer.md, "Applying Changesets"), as the list of all its paths with their nodes, in the order of paths (a form
+-- defined by this project).
 use Rattle.std.specs.Prelude.{List, map, Option}
 use Rattle.std.specs.List.{filter_map, flat_map}
 use Rattle.std.specs.Option.{option_map}
@@ -14,7 +14,7 @@ use Rattle.cv_overlay.specs.Lay.{root_of}
 abbrev pub entries_at : (Path → Option Node) → List Path → List TreeEntry
 entries_at root paths = filter_map (λ p. option_map (λ n. record { path = p; node = n }) (root p)) paths
 
--- all paths at which some tree has an entry, in rising order, each once
+-- all paths at which some tree has an entry, in ascending order, each once
 abbrev pub paths_of : List (List TreeEntry) → List Path
 paths_of trees = in_order path_cmp (flat_map (λ (tree : List TreeEntry). map (λ (e : TreeEntry). e.path) tree) trees)
 

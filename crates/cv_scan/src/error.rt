@@ -1,9 +1,6 @@
-ghost use Rattle.std.specs.Prelude.{◌≡◌};
-ghost use Rattle.cv_scan.specs.Layers.{image_error};
-
-use cv_base::Digest;
+use cv_base::{Digest, RelPath, What};
 use cv_overlay::ImageFault;
-use cv_packages::PackagesError;
+use cv_packages::FileFault;
 use cv_seq::NoMemory;
 use std::alloc::{AllocError, AllocFailed};
 use thiserror::Error;
@@ -42,7 +39,7 @@ impl From<AllocError> for ImageError {
     }
 }
 
-/// The value that found no place is dropped.
+/// The rejected value is dropped.
 impl<T: Drop> From<AllocFailed<T>> for ImageError {
     ghost use Rattle.std.specs.Prelude.{◌≡◌};
     ghost use Rattle.cv_scan.specs.declared.error.ImageError.TheVariants as error;
@@ -54,15 +51,46 @@ impl<T: Drop> From<AllocFailed<T>> for ImageError {
     }
 }
 
-/// The refusal of a package file, as that of its image.
-pub fn image_error(refused: PackagesError) -> ImageError
-    ensures { result ≡ image_error refused }
-{
-    match refused {
-        PackagesError::BadFile { path, line, what } => {
-            ImageError::Bad(ImageFault::BadFile { path, line, what })
+/// Why a root has no findings: its first package file, in the order of paths, that is refused.
+#[derive(Debug, PartialEq, Eq, Drop, Error)]
+pub enum ScanError {
+    /// A line of the file is bad. Lines are numbered from 1.
+    #[error("{path:?}, line {line}: {what:?}")]
+    BadFile {
+        path: RelPath,
+        line: u64,
+        what: What,
+    },
+    /// The file has more bytes than a package file may have.
+    #[error("{path:?} is too large")]
+    TooLarge {
+        path: RelPath,
+    },
+    #[error("out of memory")]
+    NoMemory,
+}
+
+impl From<NoMemory> for ScanError {
+    ghost use Rattle.std.specs.Prelude.{◌≡◌};
+    ghost use Rattle.cv_scan.specs.declared.error.ScanError.TheVariants as error;
+
+    ghost from_gives = { λ _ e. e ≡ error.NoMemory };
+
+    fn from(_error: NoMemory) -> ScanError {
+        ScanError::NoMemory
+    }
+}
+
+impl From<FileFault> for ScanError {
+    ghost use Rattle.std.specs.Prelude.{◌≡◌, Some};
+    ghost use Rattle.cv_scan.specs.Faults.{scan_fault};
+
+    ghost from_gives = { λ fault e. scan_fault e ≡ Some fault };
+
+    fn from(fault: FileFault) -> ScanError {
+        match fault {
+            FileFault::BadFile { path, line, what } => ScanError::BadFile { path, line, what },
+            FileFault::TooLarge { path } => ScanError::TooLarge { path },
         }
-        PackagesError::TooLarge { path } => ImageError::Bad(ImageFault::TooLarge { path }),
-        PackagesError::NoMemory => ImageError::NoMemory,
     }
 }

@@ -1,21 +1,25 @@
-ghost use Rattle.std.specs.Prelude.{◌≡◌, ◌∷◌, ◌++◌, [], ◌<◌, IfOk, OnOk, option_and_then};
+ghost use Rattle.std.specs.Prelude.{◌≡◌, ◌∷◌, ◌++◌, [], ◌<◌, IfOk, OnOk, option_and_then, slice_get};
 ghost use Rattle.std.specs.List.{flat_map};
-ghost use Rattle.std.specs.Option.{option_to_list};
+ghost use Rattle.std.specs.Option.{option_map, option_to_list};
 ghost use Rattle.cv_match.specs.Answer.{text_at};
 ghost use Rattle.cv_match.specs.Findings.{findings, found};
-ghost use Rattle.cv_scan.specs.Found.{found_all, found_by};
-ghost use Rattle.cv_scan.specs.Index.{Indexes, found_at};
+ghost use Rattle.cv_scan.specs.code.Found.{found_all, found_by};
+ghost use Rattle.cv_scan.specs.code.Index.{Indexes, found_at};
+ghost use Rattle.cv_scan.specs.code.Slots.{AreSlots, AreSlotsByKind, prepared_for};
 
-use crate::index::{Index, index_records, numbers_for};
-use crate::order::in_order;
-use cv_base::{Advisory, Finding, NoMemory, Package, Seq, Steps, Text};
-use cv_match::{FixedAt, Hit, ReadyPackage, affects, fixed_text, prepare, prepare_package};
+use crate::index::{Names, index_records, indices_for};
+use crate::slots::{Slots, SlotsByKind, empty_slots, prepared_at};
+use cv_base::{Advisory, Finding, NoMemory, Package, PackageKind, Seq, Steps, Text};
+use cv_match::{
+    FixedAt, Hit, ReadyAdvisory, ReadyPackage, affects, fixed_text, in_order, prepare_package,
+};
 use std::alloc::Global;
 use std::marker::Brand;
 use std::sync::ledger::{Blank, Ledger};
 
-/// The findings of packages with the records of a feed: each package with each record that affects it, in rising order by
-/// package, feed and id, each once. A record is tried against a package only where it names the package.
+/// The findings of packages with the records of a feed: each package with each record that affects it, sorted by package,
+/// feed and id, each once. A record is tried against a package only if it names the package, and it is prepared once for
+/// each kind of package.
 #[tactic(auto, using(crate::proofs::Finds::findings_feed))]
 pub fn find_all(
     alloc: Global,
@@ -29,7 +33,7 @@ pub fn find_all(
     in_order(alloc, found)
 }
 
-/// The same as they come, counting the steps.
+/// The unsorted findings, counting the steps.
 fn find_counted<L: Ledger>(
     blank: Blank,
     alloc: Global,
@@ -39,72 +43,140 @@ fn find_counted<L: Ledger>(
 ) -> Result<Vec<Finding>, NoMemory>
     requires name { blank.name ≡ L.name }
     requires parts { blank.parts ≡ L.parts }
-    requires some { 0 < L.parts }
+    requires has_parts { 0 < L.parts }
     ensures { IfOk result (λ out. out.items ≡ found_all feed.now advisories.now packages.now) }
 {
     let mut steps = Steps::<L>::open(blank);
-    let index = index_records(alloc, advisories)?;
+    let names = index_records(alloc, advisories)?;
+    let mut slots = empty_slots(alloc, advisories)?;
     let mut out = Vec::new(alloc);
     for package in packages {
-        let found = find_in(alloc, package, feed, advisories, &index, &mut steps)?;
+        let found = find_in(
+            alloc, package, feed, advisories, &names, &mut slots, &mut steps,
+        )?;
         add_all(&mut out, found)?;
     }
     Ok(out)
 }
 
-/// What the records say of a package, in their order.
+/// The findings of a package, in the order of the records.
 fn find_in<L: Ledger>(
     alloc: Global,
     package: &Package,
     feed: &Text,
     advisories: &[Advisory],
-    index: &Index,
+    names: &Names,
+    slots: &mut SlotsByKind,
     steps: &mut Steps<L>,
 ) -> Result<Vec<Finding>, NoMemory>
-    requires indexed { Indexes index.now advisories.now }
-    ensures { IfOk result (λ found. found.items ≡ found_by feed.now advisories.now «package».now) }
+    requires indexed { Indexes names.now advisories.now }
+    requires slots { AreSlotsByKind slots.old.deb.items slots.old.apk.items slots.old.npm.items advisories.now }
+    ensures found { IfOk result (λ found. found.items ≡ found_by feed.now advisories.now «package».now) }
+    ensures slots { AreSlotsByKind slots.new.deb.items slots.new.apk.items slots.new.npm.items advisories.now }
 {
-    let numbers = numbers_for(alloc, index, package)?;
-    find_numbered(alloc, package, feed, advisories, numbers.as_slice(), steps)
+    let indices = indices_for(alloc, names, package)?;
+    find_by_kind(alloc, package, feed, advisories, &indices, slots, steps)
 }
 
-/// What the records of these numbers say of a package.
-fn find_numbered<L: Ledger>(
+/// The findings of a package with the records of these indices.
+fn find_by_kind<L: Ledger>(
     alloc: Global,
     package: &Package,
     feed: &Text,
     advisories: &[Advisory],
-    numbers: &[usize],
+    indices: &[usize],
+    slots: &mut SlotsByKind,
     steps: &mut Steps<L>,
 ) -> Result<Vec<Finding>, NoMemory>
-    ensures { IfOk result (λ found. found.items ≡ flat_map (found_at «package».now feed.now advisories.now) numbers.now) }
+    requires { AreSlotsByKind slots.old.deb.items slots.old.apk.items slots.old.npm.items advisories.now }
+    ensures found { IfOk result (λ found. found.items ≡ flat_map (found_at «package».now feed.now advisories.now) indices.now) }
+    ensures slots { AreSlotsByKind slots.new.deb.items slots.new.apk.items slots.new.npm.items advisories.now }
+{
+    match package.kind {
+        PackageKind::Deb => {
+            find_indexed(
+                alloc,
+                package,
+                feed,
+                advisories,
+                indices,
+                &mut slots.deb,
+                steps,
+            )
+        }
+        PackageKind::Apk => {
+            find_indexed(
+                alloc,
+                package,
+                feed,
+                advisories,
+                indices,
+                &mut slots.apk,
+                steps,
+            )
+        }
+        PackageKind::Npm => {
+            find_indexed(
+                alloc,
+                package,
+                feed,
+                advisories,
+                indices,
+                &mut slots.npm,
+                steps,
+            )
+        }
+    }
+}
+
+/// The same, with the slots for the kind of the package.
+fn find_indexed<L: Ledger>(
+    alloc: Global,
+    package: &Package,
+    feed: &Text,
+    advisories: &[Advisory],
+    indices: &[usize],
+    slots: &mut Slots,
+    steps: &mut Steps<L>,
+) -> Result<Vec<Finding>, NoMemory>
+    requires { AreSlots «package».now.kind slots.old.items advisories.now }
+    ensures found { IfOk result (λ found. found.items ≡ flat_map (found_at «package».now feed.now advisories.now) indices.now) }
+    ensures slots { AreSlots «package».now.kind slots.new.items advisories.now }
 {
     let prepared = prepare_package(alloc, package)?;
     let mut out = Vec::new(alloc);
-    for number in numbers {
-        let found = find_at(alloc, package, &prepared, feed, advisories, *number, steps)?;
+    for index in indices {
+        let ready = prepared_at(alloc, package.kind, advisories, *index, slots)?;
+        let found = find_at(
+            alloc, package, &prepared, feed, advisories, *index, ready, steps,
+        )?;
         add(&mut out, found)?;
     }
     Ok(out)
 }
 
-/// What the record of this number says of a package.
+/// The finding of a package with the record of this index.
 fn find_at<L: Ledger>(
     alloc: Global,
     package: &Package,
     prepared: &ReadyPackage,
     feed: &Text,
     advisories: &[Advisory],
-    number: usize,
+    index: usize,
+    ready: Option<ReadyAdvisory>,
     steps: &mut Steps<L>,
 ) -> Result<Option<Finding>, NoMemory>
     requires prepared { prepared.now ≡ «package».now }
-    ensures { IfOk result (λ finding. option_to_list finding ≡ found_at «package».now feed.now advisories.now number) }
+    requires ready { ready ≡ option_map (prepared_for «package».now.kind) (slice_get advisories.now index) }
+    ensures { IfOk result (λ finding. option_to_list finding ≡ found_at «package».now feed.now advisories.now index) }
 {
-    match advisories.get(number) {
-        Some(advisory) => find_one(alloc, package, prepared, feed, advisory, steps),
-        None => Ok(None),
-    }
+    let Some(advisory) = advisories.get(index) else {
+        return Ok(None);
+    };
+    let Some(ready) = ready else {
+        return Ok(None);
+    };
+    find_one(alloc, package, prepared, feed, advisory, &ready, steps)
 }
 
 /// Adds findings.
@@ -125,7 +197,7 @@ fn add(out: &mut Vec<Finding>, found: Option<Finding>) -> Result<(), NoMemory>
     Ok(())
 }
 
-/// What a record says of a package.
+/// The finding of a package with a record, if it affects the package.
 #[tactic(auto, using(crate::proofs::Finds::found_not, crate::proofs::Finds::found_yes))]
 fn find_one<L: Ledger>(
     alloc: Global,
@@ -133,13 +205,14 @@ fn find_one<L: Ledger>(
     prepared: &ReadyPackage,
     feed: &Text,
     advisory: &Advisory,
+    ready: &ReadyAdvisory,
     steps: &mut Steps<L>,
 ) -> Result<Option<Finding>, NoMemory>
     requires prepared { prepared.now ≡ «package».now }
+    requires ready { ready.now ≡ prepared_for «package».now.kind advisory.now }
     ensures { IfOk result (λ finding. option_to_list finding ≡ found «package».now feed.now advisory.now) }
 {
-    let ready = prepare(alloc, advisory, package.kind)?;
-    match affects(&ready, prepared, steps) {
+    match affects(ready, prepared, steps) {
         Hit::No => Ok(None),
         Hit::Yes { fixed } => Ok(Some(Finding {
             package: package.clone()?,

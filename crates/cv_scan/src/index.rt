@@ -1,124 +1,121 @@
-ghost use Rattle.std.specs.Prelude.{◌≡◌, ◌++◌, List, [], ◌∷◌, IfOk, OnOk, if◌then◌else◌};
+ghost use Rattle.std.specs.Prelude.{◌≡◌, List, IfOk, OnOk, if◌then◌else◌, []};
 ghost use Rattle.std.specs.BTreeMap.{get};
 ghost use Rattle.std.specs.Ordering.{is_eq};
 ghost use Rattle.cv_base.specs.declared.advisory.Advisory.{Advisory};
 ghost use Rattle.cv_base.specs.declared.package.PackageName.{PackageName};
-ghost use Rattle.cv_match.specs.Affects.{family};
-ghost use Rattle.cv_scan.specs.Index.{Indexes, added, is_about, merged, name_cmp, numbers_from, numbers_in, once};
+ghost use Rattle.cv_match.specs.Keys.{is_about, name_cmp};
+ghost use Rattle.cv_scan.specs.code.Index.{Indexes, added, indices_from, indices_in, merged, merged_under, once};
 
-use cv_base::{Advisory, NoMemory, Package, PackageName, Text};
-use cv_match::{family, key_name};
+use cv_base::{Advisory, NoMemory, Package, PackageName};
+use cv_match::package_keys;
 use std::alloc::Global;
 use std::cmp::Ordering;
 use std::collections::BTreeMap;
 
-/// The numbers of the records of a feed by the packages that they name, in rising order.
-pub(crate) type Index = BTreeMap<PackageName, Vec<usize>>;
+/// The indices of the records of a feed by the packages that they name, in ascending order.
+pub(crate) type Names = BTreeMap<PackageName, Vec<usize>>;
 
-/// The index of a feed's records. It is made in n log n steps.
-pub(crate) fn index_records(alloc: Global, advisories: &[Advisory]) -> Result<Index, NoMemory>
-    ensures { IfOk result (λ index. Indexes index advisories.now) }
+/// The records of a feed by the packages that they name. It takes n log n steps.
+pub(crate) fn index_records(alloc: Global, advisories: &[Advisory]) -> Result<Names, NoMemory>
+    ensures { IfOk result (λ names. Indexes names advisories.now) }
 {
-    let mut index = BTreeMap::new(alloc);
-    for (number, advisory) in advisories.iter().enumerate() {
-        add_record(&mut index, number, advisory)?;
+    let mut names = BTreeMap::new(alloc);
+    for (index, advisory) in advisories.iter().enumerate() {
+        add_record(&mut names, index, advisory)?;
     }
-    Ok(index)
+    Ok(names)
 }
 
-/// Adds the record of this number, which is above those before it.
-fn add_record(index: &mut Index, number: usize, advisory: &Advisory) -> Result<(), NoMemory>
-    ensures { OnOk result ((key : PackageName) → numbers_in (get name_cmp index.new key) ≡ added key number advisory.now.affected (numbers_in (get name_cmp index.old key))) }
+/// Adds the record of this index, which is above those before it.
+fn add_record(names: &mut Names, index: usize, advisory: &Advisory) -> Result<(), NoMemory>
+    ensures { OnOk result ((key : PackageName) → indices_in (get name_cmp names.new key) ≡ added key index advisory.now.affected (indices_in (get name_cmp names.old key))) }
 {
     for entry in advisory.affected.as_slice() {
         if let Some(name) = &entry.package {
-            add_number(index, name, number)?;
+            add_index(names, name, index)?;
         }
     }
     Ok(())
 }
 
-fn add_number(index: &mut Index, name: &PackageName, number: usize) -> Result<(), NoMemory>
-    ensures { OnOk result ((key : PackageName) → numbers_in (get name_cmp index.new key) ≡ (if is_eq (name_cmp name.now key) then once number (numbers_in (get name_cmp index.old key)) else numbers_in (get name_cmp index.old key))) }
+fn add_index(names: &mut Names, name: &PackageName, index: usize) -> Result<(), NoMemory>
+    ensures { OnOk result ((key : PackageName) → indices_in (get name_cmp names.new key) ≡ (if is_eq (name_cmp name.now key) then once index (indices_in (get name_cmp names.old key)) else indices_in (get name_cmp names.old key))) }
 {
-    push_once(index.entry(name.clone()?)?.or_default(), number)?;
+    push_once(names.entry(name.clone()?)?.or_default(), index)?;
     Ok(())
 }
 
-/// Puts a number behind others, unless it stands last.
-fn push_once(numbers: &mut Vec<usize>, number: usize) -> Result<(), NoMemory>
-    ensures { OnOk result (numbers.new.items ≡ once number numbers.old.items) }
+/// Appends an index, unless it stands last.
+fn push_once(indices: &mut Vec<usize>, index: usize) -> Result<(), NoMemory>
+    ensures { OnOk result (indices.new.items ≡ once index indices.old.items) }
 {
-    if numbers.last() != Some(&number) {
-        numbers.push(number)?;
+    if indices.last() != Some(&index) {
+        indices.push(index)?;
     }
     Ok(())
 }
 
-/// The numbers of the records that name a package, by its ecosystem or by the part of it before the first colon, in
-/// rising order.
-pub(crate) fn numbers_for(
+/// The indices of the records that name a package by one of its keys, in ascending order.
+pub(crate) fn indices_for(
     alloc: Global,
-    index: &Index,
+    names: &Names,
     package: &Package,
 ) -> Result<Vec<usize>, NoMemory>
-    ensures { (records : List Advisory) → Indexes index.now records → IfOk result (λ numbers. numbers.items ≡ numbers_from (is_about «package».now) 0 records) }
+    ensures { (records : List Advisory) → Indexes names.now records → IfOk result (λ indices. indices.items ≡ indices_from (is_about «package».now) 0 records) }
 {
-    let whole = PackageName {
-        ecosystem: package.ecosystem.clone()?,
-        name: key_name(package).clone()?,
-    };
-    let family = PackageName {
-        ecosystem: family_text(alloc, &package.ecosystem)?,
-        name: key_name(package).clone()?,
-    };
-    merge(alloc, numbers_of(index, &whole), numbers_of(index, &family))
+    let keys = package_keys(alloc, package)?;
+    indices_under(alloc, names, keys.as_slice())
 }
 
-fn family_text(alloc: Global, ecosystem: &Text) -> Result<Text, NoMemory>
-    ensures { IfOk result (λ text. text ≡ family ecosystem.now) }
+/// The indices of the records that name one of these packages, in ascending order.
+fn indices_under(alloc: Global, names: &Names, keys: &[PackageName]) -> Result<Vec<usize>, NoMemory>
+    ensures { IfOk result (λ indices. indices.items ≡ merged_under names.now [] keys.now) }
 {
-    Text::of(alloc, family(ecosystem.as_str()))
+    let mut indices = Vec::new(alloc);
+    for key in keys {
+        indices = merge(alloc, &indices, indices_of(names, key))?;
+    }
+    Ok(indices)
 }
 
-/// The numbers of the records that name this package.
-fn numbers_of<'a>(index: &'a Index, key: &PackageName) -> &'a [usize]
-    ensures { result.now ≡ numbers_in (get name_cmp index.now key.now) }
+/// The indices of the records that name this package.
+fn indices_of<'a>(names: &'a Names, key: &PackageName) -> &'a [usize]
+    ensures { result.now ≡ indices_in (get name_cmp names.now key.now) }
 {
-    match index.get(key) {
-        Some(numbers) => numbers.as_slice(),
+    match names.get(key) {
+        Some(indices) => indices.as_slice(),
         None => &[],
     }
 }
 
-/// The numbers of two rising lists in rising order, each once.
+/// The indices of two ascending lists in ascending order, each once.
 fn merge(alloc: Global, one: &[usize], two: &[usize]) -> Result<Vec<usize>, NoMemory>
-    ensures { IfOk result (λ numbers. numbers.items ≡ merged one.now two.now) }
+    ensures { IfOk result (λ indices. indices.items ≡ merged one.now two.now) }
 {
     let mut out = Vec::new(alloc);
-    let mut left = one;
-    let mut right = two;
-    while let [x, xs @ ..] = left {
-        let [y, ys @ ..] = right else {
-            out.extend_from_slice(left)?;
+    let mut first = one;
+    let mut second = two;
+    while let [x, xs @ ..] = first {
+        let [y, ys @ ..] = second else {
+            out.extend_from_slice(first)?;
             return Ok(out);
         };
         match x.cmp(y) {
             Ordering::Less => {
                 out.push(*x)?;
-                left = xs;
+                first = xs;
             }
             Ordering::Equal => {
                 out.push(*x)?;
-                left = xs;
-                right = ys;
+                first = xs;
+                second = ys;
             }
             Ordering::Greater => {
                 out.push(*y)?;
-                right = ys;
+                second = ys;
             }
         }
     }
-    out.extend_from_slice(right)?;
+    out.extend_from_slice(second)?;
     Ok(out)
 }

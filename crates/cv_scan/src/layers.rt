@@ -1,17 +1,18 @@
-ghost use Rattle.std.specs.Prelude.{◌≡◌, ◌+◌, ◌^◌, ◌<◌, ◌≤◌, ◌∷◌, ◌++◌, [], length, map, IfOk, IfErr, OnOk};
+ghost use Rattle.std.specs.Prelude.{◌≡◌, ◌+◌, ◌^◌, ◌<◌, ◌≤◌, length, map, IfOk, IfErr, OnOk};
 ghost use Rattle.std.specs.List.{AllByRecursion};
 ghost use Rattle.std.specs.Option.{option_map};
 ghost use Rattle.cv_seq.specs.Cause.{CausedBy};
-ghost use Rattle.cv_scan.specs.Layers.{IsOfLayer, IsOfLayers, IsTold, distinct, is_desk_fault, tree_in};
-ghost use Rattle.cv_scan.specs.Distinct.{with_layer};
+ghost use Rattle.cv_scan.specs.Layers.{distinct, is_desk_fault};
+ghost use Rattle.cv_scan.specs.code.Distinct.{with_layer};
+ghost use Rattle.cv_scan.specs.code.Layers.{IsLoaded, IsOfLayer, IsOfLayers, tree_in};
 
 use crate::error::ImageError;
-use cv_base::{Digest, Tree};
+use cv_base::{Digest, MAX_LAYERS, Tree};
 use cv_desk::{Desk, DeskFault, load};
 use cv_seq::NoMemory;
 use std::alloc::Global;
 
-/// A layer as it was loaded, and none where there is no such layer.
+/// A layer as it was loaded. It has no tree if the desk has no such layer.
 #[derive(Drop)]
 pub struct LoadedLayer {
     pub layer: Digest,
@@ -25,9 +26,9 @@ pub fn load_layers<D: Desk>(
     layers: &[Digest],
 ) -> Result<Vec<LoadedLayer>, ImageError>
     requires room { D.listings desk.old < 2 ^ 62 }
-    requires few { length layers.now ≤ 128 }
+    requires at_most_128_layers { length layers.now ≤ MAX_LAYERS }
     ensures layers { IfOk result (λ loaded. map (λ x. x.layer) loaded.items ≡ distinct layers.now) }
-    ensures told { IfOk result (λ loaded. AllByRecursion (IsTold D.tree) loaded.items) }
+    ensures trees { IfOk result (λ loaded. AllByRecursion (IsLoaded D.tree) loaded.items) }
     ensures counted { IfOk result (λ _. D.listings desk.new ≡ D.listings desk.old + length (distinct layers.now)) }
     ensures failed { IfErr result (IsOfLayers (distinct layers.now) (D.listings desk.old) (D.listings desk.new)) }
     ensures cause { CausedBy (D.faults desk.old) (D.faults desk.new) (is_desk_fault result) }
@@ -37,7 +38,7 @@ pub fn load_layers<D: Desk>(
 }
 
 /// The layers of an image, each once, at the first place where it stands. They are at most 128.
-#[tactic(auto, using(crate::proofs::Distinct::behind_all, crate::proofs::Distinct::behind_none))]
+#[tactic(auto, using(crate::proofs::Distinct::followed_all, crate::proofs::Distinct::followed_none))]
 fn distinct_layers(alloc: Global, layers: &[Digest]) -> Result<Vec<Digest>, NoMemory>
     ensures layers { IfOk result (λ out. out.items ≡ distinct layers.now) }
     ensures fewer { IfOk result (λ out. length out.items ≤ length layers.now) }
@@ -49,7 +50,7 @@ fn distinct_layers(alloc: Global, layers: &[Digest]) -> Result<Vec<Digest>, NoMe
     Ok(distinct)
 }
 
-/// Puts a layer behind others, unless it is one of them.
+/// Appends a layer, unless it is one of those before.
 fn add_layer(distinct: &mut Vec<Digest>, layer: &Digest) -> Result<(), NoMemory>
     ensures { OnOk result (distinct.new.items ≡ with_layer distinct.old.items layer.now) }
 {
@@ -66,9 +67,9 @@ fn load_each<D: Desk>(
     layers: &[Digest],
 ) -> Result<Vec<LoadedLayer>, ImageError>
     requires room { D.listings desk.old < 2 ^ 62 }
-    requires few { length layers.now ≤ 128 }
+    requires at_most_128_layers { length layers.now ≤ MAX_LAYERS }
     ensures layers { IfOk result (λ loaded. map (λ x. x.layer) loaded.items ≡ layers.now) }
-    ensures told { IfOk result (λ loaded. AllByRecursion (IsTold D.tree) loaded.items) }
+    ensures trees { IfOk result (λ loaded. AllByRecursion (IsLoaded D.tree) loaded.items) }
     ensures counted { IfOk result (λ _. D.listings desk.new ≡ D.listings desk.old + length layers.now) }
     ensures failed { IfErr result (IsOfLayers layers.now (D.listings desk.old) (D.listings desk.new)) }
     ensures cause { CausedBy (D.faults desk.old) (D.faults desk.new) (is_desk_fault result) }
@@ -90,7 +91,7 @@ fn load_layer<D: Desk>(
 ) -> Result<LoadedLayer, ImageError>
     requires room { D.listings desk.old < 2 ^ 63 + 2 ^ 62 }
     ensures layer { IfOk result (λ next. next.layer ≡ layer.now) }
-    ensures told { IfOk result (IsTold D.tree) }
+    ensures tree { IfOk result (IsLoaded D.tree) }
     ensures counted { D.listings desk.new ≡ D.listings desk.old + 1 }
     ensures failed { IfErr result (IsOfLayer layer.now) }
     ensures cause { CausedBy (D.faults desk.old) (D.faults desk.new) (is_desk_fault result) }

@@ -1,4 +1,4 @@
-//! Scans an image with advisories: loads its layers, lays them, reads all its packages and asks all records.
+//! Scans an image with advisories: loads its layers, lays them, reads all its packages and matches them with all records.
 //!
 //! ```text
 //! let findings = scan_image(alloc, desk, manifest.layers.as_slice(), &feed, advisories)?;
@@ -10,12 +10,10 @@ mod find;
 mod index;
 mod laws;
 mod layers;
-mod order;
 mod scan;
+mod slots;
 
-pub use cv_packages::PackagesError as ScanError;
-pub use error::ImageError;
+pub use error::{ImageError, ScanError};
 pub use find::find_all;
 pub use laws::root_laws;
-pub use order::in_order;
 pub use scan::{scan_image, scan_root};

@@ -1,27 +1,29 @@
-ghost use Rattle.std.specs.Prelude.{◌≡◌, ◌+◌, ◌^◌, ◌<◌, ◌≤◌, ◌∷◌, [], length, map, IfOk, IfErr, IfSome, None};
-ghost use Rattle.cv_base.specs.Answer.{Gives};
+ghost use Rattle.std.specs.Prelude.{◌≡◌, ◌^◌, ◌<◌, ◌≤◌, ◌∷◌, [], length, map, IfOk, IfErr, IfSome, None};
+ghost use Rattle.cv_base.specs.Answer.{Gives, Yields};
 ghost use Rattle.cv_base.specs.Path.{Path};
 ghost use Rattle.cv_overlay.specs.Lay.{node_at, root_of};
 ghost use Rattle.cv_seq.specs.Cause.{CausedBy};
-ghost use Rattle.cv_packages.specs.Packages.{is_packages_memory};
-ghost use Rattle.cv_scan.specs.Layers.{AreListed, IsScanned, is_desk_fault, is_image_memory, IsBadTree, refusing, stored_layers, tree_in, whole_layers};
+ghost use Rattle.cv_packages.specs.Faults.{refused_file};
+ghost use Rattle.cv_scan.specs.Faults.{scan_fault};
+ghost use Rattle.cv_scan.specs.Layers.{AreListed, IsScanned, is_desk_fault, stored_layers, whole_layers};
+ghost use Rattle.cv_scan.specs.code.Layers.{IsBadTree, is_image_memory, refusing, tree_in};
 ghost use Rattle.cv_scan.specs.Scan.{as_scanned, bad_tree_from, root_findings, scan, scan_of, trees_from};
 
-use crate::error::{ImageError, image_error};
+use crate::error::{ImageError, ScanError};
 use crate::find::find_all;
 use crate::layers::{LoadedLayer, load_layers, tree_of};
-use cv_base::{Advisory, Digest, Finding, Text, Tree, TreeEntry};
+use cv_base::{Advisory, Digest, Finding, MAX_LAYERS, Text, Tree, TreeEntry};
 use cv_desk::Desk;
 use cv_overlay::{ImageFault, OverlayError, Root};
-use cv_packages::{PackagesError as ScanError, read_packages};
+use cv_packages::{PackagesError, read_packages};
 use cv_seq::Seq;
 use std::alloc::Global;
 
-/// Scans an image: loads each distinct layer once, in the order of the image, and finds what the records of the feed say of
-/// the packages of its root. Layers are given with the base first, and numbered from 0. `Bad` comes where all layers were
-/// loaded and the image cannot be scanned: a layer is not there, a tree is not good, or a package file is refused. `Desk`
-/// names the layer that the desk failed at, and `NoMemory` says that memory was wanting; neither says a thing of the image.
-#[tactic(auto, using(crate::proofs::Scanned::failed_told, crate::proofs::Scanned::failed_listed, crate::proofs::Scanned::listed_then))]
+/// Scans an image: loads each distinct layer once, in the order of the image, and returns the findings of the packages of
+/// its root with the records of the feed. Layers are given with the base first. `Bad` comes if all layers were loaded and
+/// the image cannot be scanned: a layer is missing, a tree is not good, or a package file is refused. `Desk` names the
+/// layer that the desk failed at. Neither it nor `NoMemory` says anything of the image.
+#[tactic(auto, using(crate::proofs::Scanned::failed_answer, crate::proofs::Scanned::failed_listed, crate::proofs::Scanned::listed_then))]
 pub fn scan_image<D: Desk>(
     alloc: Global,
     desk: &mut D,
@@ -30,8 +32,8 @@ pub fn scan_image<D: Desk>(
     advisories: &[Advisory],
 ) -> Result<Seq<Finding>, ImageError>
     requires room { D.listings desk.old < 2 ^ 62 }
-    requires few { length layers.now ≤ 128 }
-    ensures told { IfSome (stored_layers D.tree layers.now) (λ stored. IsScanned result (scan (whole_layers stored) ((feed.now, advisories.now) ∷ []))) }
+    requires at_most_128_layers { length layers.now ≤ MAX_LAYERS }
+    ensures answer { IfSome (stored_layers D.tree layers.now) (λ stored. IsScanned result (scan (whole_layers stored) ((feed.now, advisories.now) ∷ []))) }
     ensures listed { AreListed layers.now (D.listings desk.old) (D.listings desk.new) result }
     ensures cause { CausedBy (D.faults desk.old) (D.faults desk.new) (is_desk_fault result) }
 {
@@ -49,7 +51,7 @@ fn scan_loaded(
     feed: &Text,
     advisories: &[Advisory],
 ) -> Result<Seq<Finding>, ImageError>
-    requires few { length layers.now ≤ 128 }
+    requires at_most_128_layers { length layers.now ≤ MAX_LAYERS }
     ensures { Gives is_image_memory (λ found. found) result (refusing (scan (map (tree_in loaded.now) layers.now) ((feed.now, advisories.now) ∷ []))) }
 {
     match trees_of(alloc, layers, loaded) {
@@ -65,7 +67,7 @@ fn scan_trees(
     feed: &Text,
     advisories: &[Advisory],
 ) -> Result<Seq<Finding>, ImageError>
-    requires few { length trees.now ≤ 128 }
+    requires at_most_128_layers { length trees.now ≤ MAX_LAYERS }
     ensures { Gives is_image_memory (λ found. found) result (refusing (scan_of (map (λ tree. tree.now.entries) trees.now) ((feed.now, advisories.now) ∷ []))) }
 {
     match lay_trees(alloc, trees) {
@@ -85,25 +87,26 @@ fn scan_laid(
 {
     match scan_entries(alloc, entries, advisories, feed) {
         Ok(found) => Ok(found),
-        Err(refused) => Err(image_error(refused)),
+        Err(PackagesError::Refused(fault)) => Err(ImageError::Bad(ImageFault::from(fault))),
+        Err(PackagesError::NoMemory) => Err(ImageError::NoMemory),
     }
 }
 
-/// The trees of all layers, or the first layer that is not there.
+/// The trees of all layers, or the first layer that is missing.
 #[tactic(auto, using(crate::proofs::LaidTrees::onto_more, crate::proofs::LaidTrees::onto_none))]
 fn trees_of<'a>(
     alloc: Global,
     layers: &[Digest],
     loaded: &'a [LoadedLayer],
 ) -> Result<Vec<&'a Tree>, ImageError>
-    requires few { length layers.now ≤ 128 }
+    requires at_most_128_layers { length layers.now ≤ MAX_LAYERS }
     ensures { Gives is_image_memory (λ trees. map (λ tree. tree.now.entries) trees.items) result (refusing (trees_from 0 (map (tree_in loaded.now) layers.now))) }
 {
     let mut trees = Vec::new(alloc);
-    for (number, layer) in layers.iter().enumerate() {
+    for (index, layer) in layers.iter().enumerate() {
         match tree_of(loaded, layer) {
             Some(tree) => trees.push(tree)?,
-            None => return Err(ImageError::Bad(ImageFault::NoLayer(number as u32))),
+            None => return Err(ImageError::Bad(ImageFault::NoLayer(index as u32))),
         }
     }
     Ok(trees)
@@ -111,17 +114,17 @@ fn trees_of<'a>(
 
 /// The root of an image of these trees, or the first one that is not good.
 fn lay_trees(alloc: Global, trees: &[&Tree]) -> Result<Root, ImageError>
-    requires few { length trees.now ≤ 128 }
+    requires at_most_128_layers { length trees.now ≤ MAX_LAYERS }
     ensures laid { IfOk result (λ root. (p : Path) → node_at root p ≡ root_of (map (λ tree. tree.now.entries) trees.now) p) }
     ensures good { IfOk result (λ _. bad_tree_from 0 (map (λ tree. tree.now.entries) trees.now) ≡ None) }
     ensures refused { IfErr result (IsBadTree (bad_tree_from 0 (map (λ tree. tree.now.entries) trees.now))) }
 {
     let mut root = Root::empty(alloc);
-    for (number, tree) in trees.iter().enumerate() {
+    for (index, tree) in trees.iter().enumerate() {
         match root.lay(alloc, tree) {
             Ok(()) => {}
             Err(OverlayError::BadTree(fault)) => {
-                return Err(ImageError::Bad(ImageFault::BadTree(number as u32, fault)));
+                return Err(ImageError::Bad(ImageFault::BadTree(index as u32, fault)));
             }
             Err(OverlayError::NoMemory) => return Err(ImageError::NoMemory),
         }
@@ -129,17 +132,21 @@ fn lay_trees(alloc: Global, trees: &[&Tree]) -> Result<Root, ImageError>
     Ok(root)
 }
 
-/// The findings of the packages of a root with the records of a feed. The first package file that is above the limit, or that
-/// its reader refuses, is told.
+/// The findings of the packages of a root with the records of a feed. The first package file that is above the limit, or has
+/// a bad line, is the error.
 pub fn scan_root(
     alloc: Global,
     root: &Root,
     advisories: &[Advisory],
     feed: &Text,
 ) -> Result<Seq<Finding>, ScanError>
-    ensures { Gives is_packages_memory (λ found. found) result (root_findings root.now ((feed.now, advisories.now) ∷ [])) }
+    ensures { Yields scan_fault (λ found. found) result (root_findings root.now ((feed.now, advisories.now) ∷ [])) }
 {
-    scan_entries(alloc, root.entries(), advisories, feed)
+    match scan_entries(alloc, root.entries(), advisories, feed) {
+        Ok(found) => Ok(found),
+        Err(PackagesError::Refused(fault)) => Err(ScanError::from(fault)),
+        Err(PackagesError::NoMemory) => Err(ScanError::NoMemory),
+    }
 }
 
 /// The same of a root that is given by its entries.
@@ -148,8 +155,8 @@ fn scan_entries(
     entries: &[TreeEntry],
     advisories: &[Advisory],
     feed: &Text,
-) -> Result<Seq<Finding>, ScanError>
-    ensures { Gives is_packages_memory (λ found. found) result (root_findings entries.now ((feed.now, advisories.now) ∷ [])) }
+) -> Result<Seq<Finding>, PackagesError>
+    ensures { Yields refused_file (λ found. found) result (root_findings entries.now ((feed.now, advisories.now) ∷ [])) }
 {
     let packages = read_packages(alloc, entries)?;
     Ok(find_all(alloc, packages.as_slice(), feed, advisories)?)

@@ -1,5 +1,6 @@
+pub mod Accepted
 mod Examples
-pub mod Going
 pub mod Lines
-pub mod Passed
+pub mod Progress
+pub mod Refusals
 pub mod Taken

@@ -7,7 +7,8 @@ use Rattle.cv_io.specs.declared.line.Line.{Line}
 use Rattle.cv_io.specs.declared.line.LineError.{LineError}
 use Rattle.cv_io.specs.declared.line.LineError.TheVariants as line
 use Rattle.cv_io.specs.Reader.{Reader, Step}
-use Rattle.cv_scan_input.specs.Taken.{IsTaken, IsTakenFrom, IsTakenTo, IsTakenWithin}
+use Rattle.cv_scan_input.specs.Taken.{IsTaken, IsTakenWithin}
+use Rattle.cv_scan_input.specs.code.TakenParts.{IsTakenFrom, IsTakenTo}
 
 consumes_none : (l : Option (List ℕ)) → Consumes l l []
 consumes_none None = tt
@@ -35,7 +36,7 @@ taken_more was before now l m k answer h s = record {
 pub taken_within : (before now : Reader) (l m : Option (List ℕ)) (answer : Result Line LineError) → Step before now l m answer → now.max_input ≡ 2 ^ 36 → now.taken ≤ 2 ^ 36
 taken_within before now l m answer s inputs = omega (arith, s.within, inputs)
 
--- and is at its limit where the input is too long
+-- and is at its limit if the input is too long
 pub taken_up : (before now : Reader) (l m : Option (List ℕ)) → Step before now l m (Err line.InputTooLong) → now.max_input ≡ 2 ^ 36 → now.taken ≡ 2 ^ 36
 taken_up before now l m s inputs = s.answers.1 ∙ inputs
 
@@ -46,19 +47,19 @@ taken_from was before now l m k answer h s inputs =
     let t = taken_more was before now l m k answer h s in
     record { bytes = t.bytes; front = t.front; within = omega (arith, t.counted, s.within, inputs) }
 
--- ---- by the bytes that are left
+-- ---- by the bytes that remain
 
 pub none_taken : (limit : ℕ) (l : Option (List ℕ)) → IsTakenWithin limit l l
 none_taken limit l = record { bytes = []; front = consumes_none l; within = omega arith }
 
 -- in line 1
 pub first_taken : (was is : ℕ) (l m : Option (List ℕ)) → IsTakenTo was is l m → was ≡ 0 → is ≤ 2 ^ 36 → IsTakenWithin (2 ^ 36) l m
-first_taken was is l m h none few = record { bytes = h.bytes; front = h.front; within = omega (arith, h.counted, none, few) }
+first_taken was is l m h none limit = record { bytes = h.bytes; front = h.front; within = omega (arith, h.counted, none, limit) }
 
 pub first_taken_up : (was is : ℕ) (l m : Option (List ℕ)) → IsTakenTo was is l m → was ≡ 0 → is ≡ 2 ^ 36 → IsTaken (2 ^ 36) l m
 first_taken_up was is l m h none up = record { bytes = h.bytes; front = h.front; counted = omega (arith, h.counted, none, up) }
 
--- behind it
+-- after it
 pub rest_taken : (was is : ℕ) (l m k : Option (List ℕ)) → IsTakenTo was is l m → IsTakenFrom is m k → was ≡ 0 → IsTakenWithin (2 ^ 36) l k
 rest_taken was is l m k h r none = record {
   bytes = h.bytes ++ r.bytes;

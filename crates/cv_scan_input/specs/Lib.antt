@@ -1,6 +1,5 @@
 pub mod Answer
-pub mod Asked
-pub mod Left
-pub mod Passed
+pub mod Request
 pub mod Taken
 pub mod Unrefused
+pub mod code

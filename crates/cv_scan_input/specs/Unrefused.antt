@@ -1,10 +1,10 @@
--- What is known of an input whose source failed (cvwatch's own): a refused line is told before a failure of the source
--- behind it. So the bytes that were taken are whole lines, of which none is refused, and then the beginning of a line,
--- within the limits of an input.
+-- What is known of an input whose source failed (defined by this project): a refused line is answered before a later
+-- failure of the source. So the bytes that were taken are whole lines, of which none is refused, and then the beginning of
+-- a line, within the limits of an input.
 use Rattle.std.specs.Prelude.{◌≡◌, ℕ, ◌<◌, ◌≤◌, ◌^◌, Bool, true, false, List, [], ◌∷◌, ◌++◌, length, map, Option, IfSome, IsSomeAnd}
 use Rattle.std.specs.List.{AllByRecursion, flat_map}
 use Rattle.cv_io.specs.Lines.{LF, HasNoLineEnd, Finished, text_of}
-use Rattle.cv_scan_input.specs.Asked.{Asked, NoLine, RefusedAt, TooLongLine, TooLongInput, Scan, asked_of}
+use Rattle.cv_scan_input.specs.Request.{ScanRequest, NoLine, RefusedAt, TooLongLine, TooLongInput, Scan, request_of}
 
 -- no line ends in the bytes, and a line may have as many
 pub record IsPiece (bytes : List ℕ) : Type 0 where
@@ -16,14 +16,14 @@ abbrev pub ended_lines : List (List ℕ) → List ℕ
 ended_lines pieces = flat_map (λ piece. piece ++ LF ∷ []) pieces
 
 -- a line is refused. That there is no line yet is no refusal: the source failed before its end
-abbrev pub is_refusal : Asked → Bool
+abbrev pub is_refusal : ScanRequest → Bool
 is_refusal NoLine = false
-is_refusal (RefusedAt number error) = true
+is_refusal (RefusedAt number fault) = true
 is_refusal TooLongLine = true
 is_refusal TooLongInput = true
 is_refusal (Scan manifest records) = false
 
--- where the source failed, its bytes are what was taken and what is left
+-- the bytes of a source that failed: those that were taken, and the rest
 pub record IsUnrefused (bytes rest : List ℕ) : Type 0 where
   -- the whole lines, without their LF
   pub pieces : List (List ℕ)
@@ -33,8 +33,8 @@ pub record IsUnrefused (bytes rest : List ℕ) : Type 0 where
   pub lines : AllByRecursion IsPiece pieces
   pub last : IsPiece begun
   pub within : length (ended_lines pieces ++ begun) < 2 ^ 36
-  pub none : is_refusal (asked_of (map text_of pieces) Finished) ≡ false
+  pub none : is_refusal (request_of (map text_of pieces) Finished) ≡ false
 
--- the same where the source tells its bytes
+-- the same for a source whose bytes are known
 abbrev pub Unrefused : Option (List ℕ) → Option (List ℕ) → Type 0
 Unrefused before now = IfSome before (λ bytes. IsSomeAnd now (IsUnrefused bytes))

@@ -1,16 +1,16 @@
 use cv_io::LineError;
-use cv_request::RequestError;
+use cv_request::RequestFault;
 use cv_seq::NoMemory;
 use thiserror::Error;
 
-/// Why the input of a scan asks nothing.
+/// Why the input of a scan requests nothing.
 #[derive(Clone, Copy, Debug, PartialEq, Eq, Error)]
 pub enum InputError {
     #[error("the input has no line")]
     NoManifest,
     /// Lines are numbered from 1, empty ones included.
-    #[error("line {line}: {error}")]
-    Refused { line: u64, error: RequestError },
+    #[error("line {line} is refused")]
+    Refused { line: u64, fault: RequestFault },
     #[error("the input could not be read")]
     ReadFault,
     #[error("a line is too long")]

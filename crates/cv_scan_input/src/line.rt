@@ -1,37 +1,36 @@
-ghost use Rattle.std.specs.Prelude.{◌≡◌, ◌≤◌, false, length, MatchBool, ⊤, IfErr, IfOk};
-ghost use Rattle.cv_base.specs.Answer.{Gives};
-ghost use Rattle.cv_request.specs.Line.{is_request_memory};
-ghost use Rattle.cv_scan_input.specs.Answer.{is_input_memory, refuses_memory};
-ghost use Rattle.cv_scan_input.specs.Asked.{manifest_or};
-ghost use Rattle.cv_scan_input.specs.Left.{line_behind, record_behind, refused_at, text_behind};
-ghost use Rattle.cv_scan_input.specs.declared.error.InputError.TheVariants as input;
+ghost use Rattle.std.specs.Prelude.{◌≡◌, ◌≤◌, length, IfOk};
+ghost use Rattle.cv_base.specs.Answer.{Gives, Yields};
+ghost use Rattle.cv_request.specs.Fault.{fault_of};
+ghost use Rattle.cv_scan_input.specs.Answer.{is_input_memory};
+ghost use Rattle.cv_scan_input.specs.Request.{manifest_or};
+ghost use Rattle.cv_scan_input.specs.code.Remaining.{line_after, record_after, refusal_at, refused_at, text_after};
 ghost use Rattle.serde_json.specs.View.{view};
 
 use crate::error::InputError;
-use cv_base::Manifest;
+use cv_base::{MAX_LAYERS, Manifest};
 use cv_osv::RecordList;
 use cv_request::{RequestError, read_json, read_manifest};
 use serde_json::Value;
 use std::alloc::Global;
 
 /// The manifest that line 1 is.
+#[tactic(auto, using(crate::proofs::Refusals::refusal_gives))]
 pub(crate) fn manifest_line(alloc: Global, line: &[u8]) -> Result<Manifest, InputError>
-    ensures told { Gives is_input_memory (λ manifest. manifest) result (refused_at 1 (manifest_or line.now)) }
-    ensures named { IfErr result (λ error. refuses_memory error ≡ false) }
-    ensures few { IfOk result (λ manifest. length manifest.layers ≤ 128) }
+    ensures value { Gives is_input_memory (λ manifest. manifest) result (refused_at 1 (manifest_or line.now)) }
+    ensures at_most_128_layers { IfOk result (λ manifest. length manifest.layers ≤ MAX_LAYERS) }
 {
     manifest_text(alloc, line).map_err(|error| refused_at(1, error))
 }
 
-/// Reads a further line: one that is not empty puts its record behind the others.
+/// Reads a further line and appends its record, unless the line is empty.
+#[tactic(auto, using(crate::proofs::Refusals::refusal_gives))]
 pub(crate) fn record_line(
     alloc: Global,
     records: RecordList,
     line: &[u8],
     number: u64,
 ) -> Result<RecordList, InputError>
-    ensures told { Gives is_input_memory (λ more. more) result (line_behind number records line.now) }
-    ensures named { IfErr result (λ error. refuses_memory error ≡ false) }
+    ensures { Gives is_input_memory (λ more. more) result (line_after number records line.now) }
 {
     if line.is_empty() {
         return Ok(records);
@@ -39,39 +38,38 @@ pub(crate) fn record_line(
     record_text(alloc, records, line).map_err(|error| refused_at(number, error))
 }
 
-/// A refusal at its line. Want of memory refuses no line.
+/// The refusal of a line, or out of memory.
 fn refused_at(line: u64, error: RequestError) -> InputError
-    ensures named { refuses_memory result ≡ false }
-    ensures memory { is_input_memory result ≡ is_request_memory error }
-    ensures refused { MatchBool (is_request_memory error) ⊤ (result ≡ input.Refused line error) }
+    ensures { result ≡ refusal_at line (fault_of error) }
 {
-    match error {
-        RequestError::NoMemory => InputError::NoMemory,
-        error => InputError::Refused { line, error },
+    match error.fault() {
+        Some(fault) => InputError::Refused { line, fault },
+        None => InputError::NoMemory,
     }
 }
 
 fn manifest_text(alloc: Global, text: &[u8]) -> Result<Manifest, RequestError>
-    ensures told { Gives is_request_memory (λ manifest. manifest) result (manifest_or text.now) }
-    ensures few { IfOk result (λ manifest. length manifest.layers ≤ 128) }
+    ensures value { Yields fault_of (λ manifest. manifest) result (manifest_or text.now) }
+    ensures at_most_128_layers { IfOk result (λ manifest. length manifest.layers ≤ MAX_LAYERS) }
 {
     let value = read_json(alloc, text)?;
     read_manifest(alloc, &value)
 }
 
 fn record_text(alloc: Global, records: RecordList, text: &[u8]) -> Result<RecordList, RequestError>
-    ensures { Gives is_request_memory (λ more. more) result (text_behind records text.now) }
+    ensures { Yields fault_of (λ more. more) result (text_after records text.now) }
 {
     let value = read_json(alloc, text)?;
     record_value(alloc, records, &value)
 }
 
+#[tactic(auto, using(crate::proofs::Refusals::list_yields))]
 fn record_value(
     alloc: Global,
     records: RecordList,
     value: &Value,
 ) -> Result<RecordList, RequestError>
-    ensures { Gives is_request_memory (λ more. more) result (record_behind records (view value.now)) }
+    ensures { Yields fault_of (λ more. more) result (record_after records (view value.now)) }
 {
     if records.is_full() {
         return Err(RequestError::TooManyAdvisories);

@@ -7,7 +7,7 @@ use Rattle.cv_seq.specs.Cause.{Rose}
 first : Rose 0 1
 first = omega arith
 
--- a counter at its last value may stay there
+-- a count at its last value may stay there
 last : Rose (2 ^ 64 - 1) (2 ^ 64 - 1)
 last = omega arith
 
@@ -15,6 +15,6 @@ last = omega arith
 standing : Rose 3 3 → ⊥
 standing h = omega (arith, h)
 
--- nor has the constant count of a thing that never fails
+-- nor has the constant count of an object that never fails
 calm : Rose 0 0 → ⊥
 calm h = omega (arith, h)

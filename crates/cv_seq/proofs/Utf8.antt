@@ -3,7 +3,7 @@ use Rattle.std.proofs.Common.{◌≡◌, ℕ, Bool, true, false, List, refl}
 use Rattle.std.specs.Str.{IsUtf8, is_utf8}
 use Rattle.std.proofs.lemmas.Str.{is_utf8-from_IsUtf8, IsUtf8-from_is_utf8}
 
--- what is a text is found to be one
+-- a text passes the test
 pub text_found : (bytes : List ℕ) → IsUtf8 bytes → is_utf8 bytes ≡ true
 text_found bytes h = is_utf8-from_IsUtf8 bytes h
 
@@ -11,6 +11,6 @@ none_by : (bytes : List ℕ) (b : Bool) → is_utf8 bytes ≡ b → (IsUtf8 byte
 none_by bytes true e h = absurd (h (IsUtf8-from_is_utf8 bytes e))
 none_by bytes false e h = refl
 
--- what is no text is found to be none
+-- and other bytes fail it
 pub none_found : (bytes : List ℕ) → (IsUtf8 bytes → ⊥) → is_utf8 bytes ≡ false
 none_found bytes h = none_by bytes (is_utf8 bytes) refl h

@@ -1,5 +1,5 @@
-//! The smallest words of cvwatch, which every other crate may use: a list, a text, want of memory, and the count
-//! of faults that an answer about a failure rests on.
+//! The basic types of cvwatch, which every other crate may use: a list, a text, and the error for running out of
+//! memory. `specs/Cause.antt` defines the count of faults that justifies an answer about a failure.
 //!
 //! ```text
 //! let names: Seq<Text> = Seq::of(vec![in alloc; Text::of(alloc, "curl")?]?);

@@ -1,7 +1,7 @@
 use std::alloc::{AllocError, AllocFailed};
 use thiserror::Error;
 
-/// Memory is wanting. Of all answers this one alone may come at any call that takes memory.
+/// Out of memory. Of all answers this one alone may come at any call that takes memory.
 #[derive(Clone, Copy, Debug, PartialEq, Eq, Error)]
 #[error("out of memory")]
 pub struct NoMemory;
@@ -12,7 +12,7 @@ impl From<AllocError> for NoMemory {
     }
 }
 
-/// The value that found no place is dropped.
+/// The rejected value is dropped.
 impl<T: Drop> From<AllocFailed<T>> for NoMemory {
     fn from(_failed: AllocFailed<T>) -> NoMemory {
         NoMemory

@@ -4,7 +4,7 @@ use std::alloc::AllocError;
 use std::cmp::Ordering;
 use std::marker::Model;
 
-/// A list that is made once and then read, seen as the list of its items.
+/// A list that is made once and then read. Contracts see it as the list of its items.
 #[derive(Debug, Drop)]
 pub struct Seq<T> {
     inner: Vec<T>,
@@ -84,7 +84,7 @@ impl<T: PartialOrd> PartialOrd for Seq<T> {
     }
 }
 
-/// The first pair of items that differ decides, and else the shorter list stands first.
+/// By the first two items that differ; a proper prefix comes first.
 impl<T: Ord> Ord for Seq<T> {
     ghost use Rattle.std.specs.Cmp.Lexicographic.{slice_cmp, lists_total, lists_agrees, lists_ties};
 

@@ -6,7 +6,7 @@ use std::cmp::Ordering;
 use std::marker::Model;
 use std::sync::ArcStr;
 
-/// A text in UTF-8, seen as its bytes. A copy shares the bytes with its source, and takes no memory.
+/// A text in UTF-8. Contracts see it as its bytes. A copy shares the bytes with its source, and takes no memory.
 #[derive(Debug, Drop)]
 pub struct Text {
     inner: ArcStr,
@@ -39,8 +39,8 @@ impl Text {
     }
 }
 
-/// A copy is one more owner of the same bytes. It takes no memory, and fails only at the last value of the
-/// count of owners.
+/// A copy is one more owner of the same bytes. It takes no memory, and fails only if the count of owners is at its
+/// last value.
 impl Clone for Text {
     ghost use Rattle.std.specs.Prelude.{◌≡◌};
 

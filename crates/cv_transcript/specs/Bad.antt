@@ -1,4 +1,4 @@
--- Why an image has no packages, as JSON (cvwatch's own). Layers and entries are numbered from 0, lines from 1.
+-- Why an image has no packages, as JSON (defined by this project). Indices of layers and entries count from 0, lines from 1.
 use Rattle.std.specs.Prelude.{ℕ, List, codes}
 use Rattle.std.specs.List.{join_with_byte}
 use Rattle.serde_json.specs.Data.{Data, no_members, member, number, object, string, unsigned}
@@ -12,7 +12,7 @@ use Rattle.cv_overlay.specs.declared.fault.TreeFault.TheVariants.{Unsorted, NoPa
 use Rattle.cv_transcript.specs.Line.{line_text}
 use Rattle.cv_transcript.specs.Names.{what_name}
 
--- a layer that is not there
+-- a layer that is absent
 abbrev pub no_layer_data : ℕ → Data
 no_layer_data layer = object (member (codes "cause") (string (codes "no_layer")) (member (codes "layer") (number (unsigned layer)) no_members))
 
@@ -31,7 +31,7 @@ too_many_data layer =
     (member (codes "layer") (number (unsigned layer))
     (member (codes "what") (string (codes "too_many")) no_members)))
 
--- a layer whose tree is not good
+-- a layer whose tree has a fault
 abbrev pub bad_tree_data : ℕ → TreeFault → Data
 bad_tree_data layer (Unsorted entry) = entry_data layer entry (codes "unsorted")
 bad_tree_data layer (NoParent entry) = entry_data layer entry (codes "no_parent")

@@ -1,4 +1,4 @@
--- Findings as JSON (cvwatch's own): objects whose members stand in the order of their names.
+-- Findings as JSON (defined by this project): objects whose members stand in the order of their names.
 use Rattle.std.specs.Prelude.{ℕ, List, [], ◌∷◌, map, codes, Option, Some, None}
 use Rattle.std.specs.List.{join_with_byte}
 use Rattle.serde_json.specs.Data.{Data, Items, no_items, item, no_members, member, null, string, array, object}
@@ -12,7 +12,7 @@ kind_text Deb = codes "deb"
 kind_text Apk = codes "apk"
 kind_text Npm = codes "npm"
 
--- a text, or null where there is none
+-- a text, or null if there is none
 abbrev pub fixed_data : Option (List ℕ) → Data
 fixed_data None = null
 fixed_data (Some text) = string text

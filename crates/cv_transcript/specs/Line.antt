@@ -1,4 +1,4 @@
--- A line of output (cvwatch's own): a JSON value in one line, as serde_json writes it, and an LF.
+-- A line of output (defined by this project): a JSON value in one line, as serde_json writes it, and an LF.
 use Rattle.std.specs.Prelude.{ℕ, List, [], ◌∷◌, ◌++◌}
 use Rattle.serde_json.specs.Data.{Data}
 use Rattle.serde_json.specs.Written.{compact_text}

@@ -1,4 +1,4 @@
--- The printed names of what is wrong (cvwatch's own): the words of a variant's name in lower case with `_` between them.
+-- The printed names of what is wrong (defined by this project): the words of a variant's name in lower case with `_` between them.
 use Rattle.std.specs.Prelude.{ℕ, List, codes}
 use Rattle.cv_base.specs.declared.fault.What.{What}
 use Rattle.cv_base.specs.declared.fault.What.TheVariants as what

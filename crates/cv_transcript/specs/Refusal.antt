@@ -1,4 +1,4 @@
--- The lines of refused input lines (cvwatch's own). Lines are numbered from 1, layers and records from 0.
+-- The lines of refused input lines (defined by this project). Lines count from 1, layers and records from 0.
 use Rattle.std.specs.Prelude.{ℕ, List, codes}
 use Rattle.serde_json.specs.Data.{Data, no_members, member, number, object, string, unsigned}
 use Rattle.cv_osv.specs.declared.error.RecordWhat.{RecordWhat}

@@ -1,4 +1,4 @@
--- The lines of a scan (cvwatch's own). Digests are told in full.
+-- The lines of a scan (defined by this project). A digest stands in full.
 use Rattle.std.specs.Prelude.{ℕ, List, codes}
 use Rattle.serde_json.specs.Data.{Data, no_members, member, number, object, string, unsigned}
 use Rattle.cv_base.specs.Digest.{digest_text}

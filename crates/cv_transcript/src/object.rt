@@ -6,7 +6,7 @@ use cv_base::NoMemory;
 use serde_json::{Map, Value};
 use std::alloc::Global;
 
-/// An object that is made member by member. Members stand in the order of their names.
+/// An object that is made member by member. Its members are sorted by name.
 #[derive(Drop)]
 pub struct Object {
     pub map: Map<String, Value>,

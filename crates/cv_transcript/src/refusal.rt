@@ -83,7 +83,7 @@ fn bad_layer_value(alloc: Global, line: u64, index: u32) -> Result<Value, NoMemo
     )
 }
 
-/// A bad request, of which no more than the name is told.
+/// A bad request that has a name alone.
 fn named_value(alloc: Global, line: u64, what: &str) -> Result<Value, NoMemory>
     ensures { IfOk result (λ value. view value ≡ named_data line what.now) }
 {

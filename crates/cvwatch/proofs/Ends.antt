@@ -6,20 +6,21 @@ use Rattle.cv_base.specs.declared.«package».PackageKind.{PackageKind}
 use Rattle.std.specs.Io.KnownBytes.{IsAtEnd}
 use Rattle.cv_base.specs.declared.advisory.Advisory.{Advisory}
 use Rattle.cv_base.specs.declared.manifest.Manifest.{Manifest}
-use Rattle.cv_request.specs.Line.{is_request_memory}
-use Rattle.cv_request.specs.declared.error.RequestError.{RequestError}
-use Rattle.cv_scan_input.specs.Answer.{IsRefusedBy, refuses_memory}
-use Rattle.cv_scan_input.specs.Asked.{Asked, RefusedAt, Scan, asked_by, input_of}
+use Rattle.cv_request.specs.Fault.{error_of}
+use Rattle.cv_request.specs.declared.error.RequestFault.{RequestFault}
+use Rattle.cv_scan_input.specs.Answer.{IsRefusedBy}
+use Rattle.cv_scan_input.specs.Request.{RefusedAt, Scan, ScanRequest, input_of, scan_request_of}
 use Rattle.cv_scan_input.specs.Taken.{IsTakenWithin}
 use Rattle.cv_scan_input.specs.declared.error.InputError.{InputError}
 use Rattle.cv_scan_input.specs.declared.error.InputError.TheVariants as input
 use Rattle.cv_transcript.specs.Refusal.{refusal_text}
-use Rattle.cvwatch.specs.Command.{AnswersAsked, IsAnswered, IsAskedBy, IsCutShort, IsIdle, OutcomePrinted, RefusalPrinted, ScanEnds}
-use Rattle.cvwatch.specs.Outcome.{Outcome, Told, Failed, TellsOutcome, outcome_printed}
+use Rattle.cvwatch.specs.Command.{AnswersRequest, IsAnswered, IsCutShort, IsIdle, IsRequestOf, ScanEnds}
+use Rattle.cvwatch.specs.Outcome.{Complete, Failed, Outcome, SaysOutcome, outcome_printed}
 use Rattle.cvwatch.specs.Order.{compared_as, compared_status, kind_of, order_of, order_printed}
 use Rattle.cvwatch.specs.Printed.{IsPrinted, Printed, usage}
-use Rattle.cvwatch.specs.Run.{words_printed}
+use Rattle.cvwatch.specs.Run.{command_line}
 use Rattle.cvwatch.specs.World.{Trees, World}
+use Rattle.cvwatch.specs.code.Printing.{OutcomePrinted, RefusalPrinted}
 use Rattle.cvwatch.specs.declared.order.Compared.{Compared}
 use Rattle.cvwatch.specs.declared.order.Compared.TheVariants.{Ordered, NotFirst, NotSecond}
 use Rattle.cvwatch.specs.declared.status.Status.{Status}
@@ -39,7 +40,7 @@ is_scan_end status.InputTooLong = false
 
 module _ (trees : Trees) (before now : World) where
   memory_ends : (ended : Status) → ended ≡ status.NoMemory
-      → (IsTakenWithin (2 ^ 36) before.left now.left × IsIdle before now) ⊎ (IsCutShort before now ⊎ IsAnswered trees before now status.NoMemory) → ScanEnds trees before now ended
+      → (IsTakenWithin (2 ^ 36) before.remaining now.remaining × IsIdle before now) ⊎ (IsCutShort before now ⊎ IsAnswered trees before now status.NoMemory) → ScanEnds trees before now ended
   memory_ends status.NoMemory e h = h
   memory_ends status.Done e h = cc
   memory_ends status.Usage e h = cc
@@ -61,56 +62,52 @@ module _ (trees : Trees) (before now : World) where
   not_usage status.LineTooLong e h = cc
   not_usage status.InputTooLong e h = cc
 
-  printed_ends : (asked : Asked) (printed : Printed) (ended : Status) → IsAskedBy before.left asked → AnswersAsked trees before now asked printed
+  printed_ends : (request : ScanRequest) (printed : Printed) (ended : Status) → IsRequestOf before.remaining request → AnswersRequest trees before now request printed
       → is_scan_end printed.ended ≡ true → IsPrinted printed before.written now.written ended → ScanEnds trees before now ended
-  printed_ends asked printed status.Done h k u p = (asked, printed, h, k, p)
-  printed_ends asked printed status.Refused h k u p = (asked, printed, h, k, p)
-  printed_ends asked printed status.DeskFault h k u p = (asked, printed, h, k, p)
-  printed_ends asked printed status.WriteFault h k u p = (asked, printed, h, k, p)
-  printed_ends asked printed status.NoMemory h k u p = inr (inr (asked, printed, h, k, p))
-  printed_ends asked printed status.Usage h k u p = not_usage printed.ended p.0 u
-  printed_ends asked printed status.ReadFault h k u p = absurd p
-  printed_ends asked printed status.LineTooLong h k u p = absurd p
-  printed_ends asked printed status.InputTooLong h k u p = absurd p
+  printed_ends request printed status.Done h k u p = (request, printed, h, k, p)
+  printed_ends request printed status.Refused h k u p = (request, printed, h, k, p)
+  printed_ends request printed status.DeskFault h k u p = (request, printed, h, k, p)
+  printed_ends request printed status.WriteFault h k u p = (request, printed, h, k, p)
+  printed_ends request printed status.NoMemory h k u p = inr (inr (request, printed, h, k, p))
+  printed_ends request printed status.Usage h k u p = not_usage printed.ended p.0 u
+  printed_ends request printed status.ReadFault h k u p = absurd p
+  printed_ends request printed status.LineTooLong h k u p = absurd p
+  printed_ends request printed status.InputTooLong h k u p = absurd p
 
   outcome_end : (hash : List ℕ) (outcome : Outcome) → is_scan_end (outcome_printed hash outcome).ended ≡ true
-  outcome_end hash (Told (Ok found)) = refl
-  outcome_end hash (Told (Err bad)) = refl
+  outcome_end hash (Complete (Ok found)) = refl
+  outcome_end hash (Complete (Err bad)) = refl
   outcome_end hash (Failed layer) = refl
 
-  tells_end : (manifest : Manifest) (records : List Advisory) (printed : Printed) → TellsOutcome trees manifest records before.counts now.counts printed → is_scan_end printed.ended ≡ true
-  tells_end manifest records printed (outcome, has, e) = ap (λ (p : Printed). is_scan_end p.ended) e ∙ outcome_end manifest.hash outcome
+  says_end : (manifest : Manifest) (records : List Advisory) (printed : Printed) → SaysOutcome trees manifest records before.counts now.counts printed → is_scan_end printed.ended ≡ true
+  says_end manifest records printed (outcome, has, e) = ap (λ (p : Printed). is_scan_end p.ended) e ∙ outcome_end manifest.hash outcome
 
-  -- what came of an image was printed
-  pub scan_ends : (manifest : Manifest) (records : List Advisory) (ended : Status) → IsAskedBy before.left (Scan manifest records) → IsAtEnd now.left
+  -- the outcome of an image was printed
+  pub scan_ends : (manifest : Manifest) (records : List Advisory) (ended : Status) → IsRequestOf before.remaining (Scan manifest records) → IsAtEnd now.remaining
       → OutcomePrinted trees manifest records before.counts now.counts before.written now.written ended → ScanEnds trees before now ended
   scan_ends manifest records ended h at (inl ((e, p), listed)) = memory_ends ended e (inr (inl (manifest, records, h, at, p, listed)))
-  scan_ends manifest records ended h at (inr (printed, tells, p)) =
-      printed_ends (Scan manifest records) printed ended h (at, tells) (tells_end manifest records printed tells) p
+  scan_ends manifest records ended h at (inr (printed, says, p)) =
+      printed_ends (Scan manifest records) printed ended h (at, says) (says_end manifest records printed says) p
 
   -- a line of the input is refused
-  pub refused_ends : (number : ℕ) (error : RequestError) (ended : Status) → IsAskedBy before.left (RefusedAt number error) → is_request_memory error ≡ false
-      → IsTakenWithin (2 ^ 36) before.left now.left → now.counts ≡ before.counts
-      → RefusalPrinted (refusal_text number error) before.written now.written ended → ScanEnds trees before now ended
-  refused_ends number error ended h named taken unasked (inl (e, p)) = memory_ends ended e (inl (taken, (p, unasked)))
-  refused_ends number error ended h named taken unasked (inr p) =
-      printed_ends (RefusedAt number error) (record { text = refusal_text number error; ended = status.Refused }) ended h (named, taken, unasked, refl) refl p
+  pub refused_ends : (number : ℕ) (fault : RequestFault) (ended : Status) → IsRequestOf before.remaining (RefusedAt number fault)
+      → IsTakenWithin (2 ^ 36) before.remaining now.remaining → now.counts ≡ before.counts
+      → RefusalPrinted (refusal_text number (error_of fault)) before.written now.written ended → ScanEnds trees before now ended
+  refused_ends number fault ended h taken unused (inl (e, p)) = memory_ends ended e (inl (taken, (p, unused)))
+  refused_ends number fault ended h taken unused (inr p) =
+      printed_ends (RefusedAt number fault) (record { text = refusal_text number (error_of fault); ended = status.Refused }) ended h (taken, unused, refl) refl p
 
--- a refusal is what is asked
-pub refused_asked : (left : Option (List ℕ)) (e : InputError) (number : ℕ) (error : RequestError) → e ≡ input.Refused number error
-    → IfSome left (λ bytes. IsRefusedBy (asked_by (input_of bytes)) e) → IsAskedBy left (RefusedAt number error)
-refused_asked left e number error same h = subst (λ f. IfSome left (λ bytes. IsRefusedBy (asked_by (input_of bytes)) f)) same h
-
--- and not for want of memory
-pub refused_named : (e : InputError) (number : ℕ) (error : RequestError) → e ≡ input.Refused number error → refuses_memory e ≡ false → is_request_memory error ≡ false
-refused_named e number error same h = subst (λ f. refuses_memory f ≡ false) same h
+-- a refusal is the request
+pub refused_request : (remaining : Option (List ℕ)) (e : InputError) (number : ℕ) (fault : RequestFault) → e ≡ input.Refused number fault
+    → IfSome remaining (λ bytes. IsRefusedBy (scan_request_of (input_of bytes)) e) → IsRequestOf remaining (RefusedAt number fault)
+refused_request remaining e number fault same h = subst (λ f. IfSome remaining (λ bytes. IsRefusedBy (scan_request_of (input_of bytes)) f)) same h
 
 -- a text that was made was printed
 pub text_printed : (line text : List ℕ) (end : Status) (before now : Option (List ℕ)) (ended : Status) → text ≡ line → IsPrinted (record { text = text; ended = end }) before now ended
     → IsPrinted (record { text = line; ended = end }) before now ended
 text_printed line text end before now ended e p = subst (λ t. IsPrinted (record { text = t; ended = end }) before now ended) e p
 
--- Words that are no scan never end as one whose desk failed.
+-- Arguments other than a scan never end as one whose desk failed.
 
 usage_ends : status.Usage ≡ status.DeskFault → ⊥
 usage_ends h = cc
@@ -124,23 +121,23 @@ kind_ends : (kind : Option PackageKind) (first second : List ℕ) → (order_pri
 kind_ends None first second h = usage_ends h
 kind_ends (Some kind) first second h = compared_ends (compared_as kind first second) h
 
-order_ends : (words : List (List ℕ)) → (order_of words).ended ≡ status.DeskFault → ⊥
+order_ends : (arguments : List (List ℕ)) → (order_of arguments).ended ≡ status.DeskFault → ⊥
 order_ends [] h = usage_ends h
 order_ends (a ∷ []) h = usage_ends h
 order_ends (a ∷ b ∷ []) h = usage_ends h
 order_ends (a ∷ b ∷ c ∷ []) h = kind_ends (kind_of a) b c h
 order_ends (a ∷ b ∷ c ∷ d ∷ ds) h = usage_ends h
 
-words_by : (b : Bool) (words : List (List ℕ)) → (if b then order_of words else usage).ended ≡ status.DeskFault → ⊥
-words_by true words h = order_ends words h
-words_by false words h = usage_ends h
+command_by : (b : Bool) (arguments : List (List ℕ)) → (if b then order_of arguments else usage).ended ≡ status.DeskFault → ⊥
+command_by true arguments h = order_ends arguments h
+command_by false arguments h = usage_ends h
 
-words_end : (words : List (List ℕ)) → (words_printed words).ended ≡ status.DeskFault → ⊥
-words_end [] h = usage_ends h
-words_end (word ∷ words) h = words_by (same word (codes "order")) words h
+command_ends : (arguments : List (List ℕ)) → (command_line arguments).ended ≡ status.DeskFault → ⊥
+command_ends [] h = usage_ends h
+command_ends (argument ∷ arguments) h = command_by (same argument (codes "order")) arguments h
 
 fault_end : (printed : Printed) (before now : Option (List ℕ)) (ended : Status) → IsPrinted printed before now ended → ended ≡ status.DeskFault → printed.ended ≡ status.DeskFault
 fault_end printed before now ended p e = (subst (λ s. IsPrinted printed before now s) e p).0
 
-pub words_blame_none : (words : List (List ℕ)) (before now : Option (List ℕ)) (ended : Status) → IsPrinted (words_printed words) before now ended → ended ≡ status.DeskFault → ⊥
-words_blame_none words before now ended p e = words_end words (fault_end (words_printed words) before now ended p e)
+pub commands_blame_none : (arguments : List (List ℕ)) (before now : Option (List ℕ)) (ended : Status) → IsPrinted (command_line arguments) before now ended → ended ≡ status.DeskFault → ⊥
+commands_blame_none arguments before now ended p e = command_ends arguments (fault_end (command_line arguments) before now ended p e)

@@ -1,4 +1,4 @@
+pub mod Arguments
 pub mod Ends
-pub mod Tells
+pub mod OutcomeLemmas
 pub mod Versions
-pub mod Words

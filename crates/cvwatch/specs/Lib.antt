@@ -1,7 +1,9 @@
 pub mod Command
-pub mod Layers
 pub mod Order
 pub mod Outcome
 pub mod Printed
 pub mod Run
+pub mod Status
 pub mod World
+pub mod code
+pub mod tests

@@ -1,5 +1,5 @@
--- What the command `order` prints (cvwatch's own): how two versions compare, by the order of Debian, of Alpine or of semantic
--- versions, or which of the two is no version.
+-- What the command `order` prints (defined by this project): how two versions compare, by the order of Debian, of Alpine or
+-- of semantic versions, or which of the two is not a valid version.
 use Rattle.std.specs.Prelude.{ℕ, if◌then◌else◌, List, [], ◌∷◌, codes, Option, Some, None}
 use Rattle.std.specs.declared.cmp.Ordering.TheVariants.{Less, Equal, Greater}
 use Rattle.cv_base.specs.Texts.{same}
@@ -12,14 +12,14 @@ use Rattle.cvwatch.specs.declared.order.Compared.TheVariants.{Ordered, NotFirst,
 use Rattle.cvwatch.specs.declared.status.Status.{Status}
 use Rattle.cvwatch.specs.declared.status.Status.TheVariants as status
 
--- the packages whose versions a word names; npm has semantic versions
+-- the packages whose versions an argument names; npm has semantic versions
 abbrev pub kind_of : List ℕ → Option PackageKind
-kind_of word =
-    if same word (codes "deb") then Some Deb
-    else (if same word (codes "apk") then Some Apk
-    else (if same word (codes "semver") then Some Npm else None))
+kind_of name =
+    if same name (codes "deb") then Some Deb
+    else (if same name (codes "apk") then Some Apk
+    else (if same name (codes "semver") then Some Npm else None))
 
--- how two texts compare: the first one that is no version is told
+-- how two texts compare, or the first one that is not a valid version
 abbrev pub compared_as : PackageKind → List ℕ → List ℕ → Compared
 compared_as kind first second =
     if is_version_of kind first then (if is_version_of kind second then Ordered (version_cmp_of kind first second) else NotSecond)
@@ -43,12 +43,12 @@ compared_status NotSecond = status.Refused
 abbrev pub compared_printed : Compared → Printed
 compared_printed compared = record { text = compared_text compared; ended = compared_status compared }
 
--- what is printed where the words name these packages, if any, and two texts
+-- what is printed for these packages, if any, and two texts
 abbrev pub order_printed : Option PackageKind → List ℕ → List ℕ → Printed
 order_printed None first second = usage
 order_printed (Some kind) first second = compared_printed (compared_as kind first second)
 
--- what is printed for the words: a kind and two texts are compared, and all other words print the line of use
+-- what is printed for the arguments: a kind and two texts are compared, and all other arguments print the usage line
 abbrev pub order_of : List (List ℕ) → Printed
-order_of (word ∷ first ∷ second ∷ []) = order_printed (kind_of word) first second
+order_of (name ∷ first ∷ second ∷ []) = order_printed (kind_of name) first second
 order_of _ = usage

@@ -1,22 +1,19 @@
--- What comes of the scan of an image (cvwatch's own), and the line that tells it.
-use Rattle.std.specs.Prelude.{◌≡◌, ℕ, ◌+◌, List, [], ◌∷◌, codes, length, string_bytes, Ok, Err, IfSome}
+-- The outcome of the scan of an image (defined by this project), and the line that says it.
+use Rattle.std.specs.Prelude.{◌≡◌, ℕ, ◌+◌, List, [], ◌∷◌, codes, length, Ok, Err, IfSome}
 use Rattle.cv_base.specs.declared.advisory.Advisory.{Advisory}
 use Rattle.cv_base.specs.declared.manifest.Manifest.{Manifest}
 use Rattle.cv_scan.specs.Layers.{IsFailed, distinct, stored_layers, whole_layers}
 use Rattle.cv_scan.specs.Scan.{Scanned, scan}
-use Rattle.cv_scan.specs.declared.error.ImageError.{ImageError}
-use Rattle.cv_scan.specs.declared.error.ImageError.TheVariants as error
 use Rattle.cv_transcript.specs.Bad.{bad_image_text}
 use Rattle.cv_transcript.specs.Scan.{desk_fault_text, good_text}
 use Rattle.cv_seq.specs.Cause.{Rose}
 use Rattle.cvwatch.specs.Printed.{Printed}
 use Rattle.cvwatch.specs.World.{Counts, Trees}
-use Rattle.cvwatch.specs.declared.scanning.Answer.{Answer}
 use Rattle.cvwatch.specs.declared.status.Status.TheVariants as status
 
 -- the image was scanned, or the desk failed at this layer
 pub data Outcome : Type 0 where
-  Told : Scanned → Outcome
+  Complete : Scanned → Outcome
   Failed : List ℕ → Outcome
 
 -- the line of an image that was scanned, by its digest
@@ -26,36 +23,24 @@ scanned_printed hash (Err bad) = record { text = bad_image_text hash bad; ended 
 
 -- the line of an outcome
 abbrev pub outcome_printed : List ℕ → Outcome → Printed
-outcome_printed hash (Told scanned) = scanned_printed hash scanned
+outcome_printed hash (Complete scanned) = scanned_printed hash scanned
 outcome_printed hash (Failed layer) = record { text = desk_fault_text layer; ended = status.DeskFault }
 
 -- the one feed of a scan
 abbrev pub feeds_of : List Advisory → List (List ℕ × List Advisory)
 feeds_of records = (codes "scan", records) ∷ []
 
--- what came of an image with these records, by the trees that the desk's type names, where it names those of all layers,
--- and by what the desk counted: there was one listing for each distinct layer, or as many as up to the one at which a fault
--- was counted
+-- the outcome of an image with these records, by the trees that the desk's type has, if it has those of all layers, and by
+-- what the desk counted: there was one listing for each distinct layer, or as many as up to the one at which a fault was
+-- counted
 abbrev pub HasOutcome : Trees → Manifest → List Advisory → Counts → Counts → Outcome → Type 0
-HasOutcome trees manifest records before now (Told scanned) =
+HasOutcome trees manifest records before now (Complete scanned) =
     IfSome (stored_layers trees manifest.layers) (λ stored. scan (whole_layers stored) (feeds_of records) ≡ scanned)
     × (now.listings ≡ before.listings + length (distinct manifest.layers))
 HasOutcome trees manifest records before now (Failed layer) =
     IsFailed (distinct manifest.layers) before.listings now.listings layer × Rose before.faults now.faults
 
--- a line tells what came of an image
-abbrev pub TellsOutcome : Trees → Manifest → List Advisory → Counts → Counts → Printed → Type 0
-TellsOutcome trees manifest records before now printed =
+-- a line says the outcome of an image
+abbrev pub SaysOutcome : Trees → Manifest → List Advisory → Counts → Counts → Printed → Type 0
+SaysOutcome trees manifest records before now printed =
     (outcome : Outcome) × HasOutcome trees manifest records before now outcome × (printed ≡ outcome_printed manifest.hash outcome)
-
--- The parts of it, as the code has them.
-
--- an answer of the code
-abbrev pub printed_of : Answer → Printed
-printed_of a = record { text = string_bytes a.text; ended = a.ended }
-
--- a line tells why an image has no findings
-abbrev pub TellsError : List ℕ → ImageError → Printed → Type 0
-TellsError hash (error.Bad bad) printed = printed ≡ record { text = bad_image_text hash bad; ended = status.Refused }
-TellsError hash (error.Desk layer) printed = printed ≡ record { text = desk_fault_text layer; ended = status.DeskFault }
-TellsError hash error.NoMemory printed = ⊥

@@ -1,4 +1,4 @@
--- What is printed (cvwatch's own), and how the command then ends.
+-- What is printed (defined by this project), and how the command then ends.
 use Rattle.std.specs.Prelude.{◌≡◌, ℕ, Bool, true, false, List, codes, Option}
 use Rattle.std.specs.Io.KnownBytes.{Appends}
 use Rattle.cv_io.specs.Writes.{AppendsPrefix}
@@ -10,7 +10,7 @@ pub record Printed : Type 0 where
   pub text : List ℕ
   pub ended : Status
 
--- the line of use, for words that are no command
+-- the usage line, for arguments that are not a command
 abbrev pub usage : Printed
 usage = record { text = codes "usage: cvwatch serve|scan|order|drill\n"; ended = status.Usage }
 
@@ -26,7 +26,7 @@ is_end status.NoMemory = false
 is_end status.LineTooLong = false
 is_end status.InputTooLong = false
 
--- it was written, or a front part of it, by how that ended
+-- it was written, or a front part of it, by how the writing ended
 abbrev pub IsPrinted : Printed → Option (List ℕ) → Option (List ℕ) → Status → Type 0
 IsPrinted printed before now status.Done = (printed.ended ≡ status.Done) × Appends before now printed.text
 IsPrinted printed before now status.Usage = (printed.ended ≡ status.Usage) × Appends before now printed.text

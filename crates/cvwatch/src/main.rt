@@ -28,34 +28,52 @@ use std::{env, io};
 const DESKS: usize = 8;
 
 fn main(rt: HostRuntime) -> ExitCode {
-    ExitCode::from(match start(&rt) {
-        Ok(status) => status as u8,
-        Err(_) => Status::NoMemory as u8,
-    })
+    start(&rt).unwrap_or(Status::NoMemory).exit_code()
 }
 
-/// Runs the words of the command line over real folders and the standard streams.
+/// Runs the arguments of the command line over real folders and the standard streams.
 fn start(rt: &HostRuntime) -> io::Result<Status> {
-    let words = words_of(rt)?;
+    let arguments = arguments_of(rt)?;
     let mut desks = make_desks(rt)?;
     let mut input = StdSource::new(rt.reader());
     let mut output = StdSink::new(io::writer(rt));
-    Ok(run(
+    let status = run(
         rt.alloc(),
-        words.as_slice(),
+        arguments.as_slice(),
         &mut input,
         &mut output,
         &mut desks,
-    ))
+    );
+    match status {
+        Status::ReadFault => explain(rt, "standard input", input.last_error()),
+        Status::WriteFault => explain(rt, "standard output", output.last_error()),
+        Status::DeskFault => explain_desk(rt, &desks),
+        _ => {}
+    }
+    Ok(status)
 }
 
-/// The words of the command line, without the program's name.
-fn words_of(rt: &HostRuntime) -> io::Result<Vec<String>> {
-    let mut words = Vec::new(rt.alloc());
-    for word in env::args(rt)?.skip(1) {
-        words.push(word)?;
+/// Says on standard error why a stream failed. A failure to say it is ignored.
+fn explain(rt: &HostRuntime, name: &str, error: Option<io::Error>) {
+    if let Some(error) = error {
+        let _ = eprintln!(rt; "cvwatch: {name}: {error}");
     }
-    Ok(words)
+}
+
+/// Says on standard error why the first desk failed.
+fn explain_desk(rt: &HostRuntime, desks: &[FolderDesk<HostRuntime>]) {
+    if let Some(failure) = desks.first().and_then(FolderDesk::last_failure) {
+        let _ = eprintln!(rt; "cvwatch: {failure}");
+    }
+}
+
+/// The arguments of the command line, without the name of the program.
+fn arguments_of(rt: &HostRuntime) -> io::Result<Vec<String>> {
+    let mut arguments = Vec::new(rt.alloc());
+    for argument in env::args(rt)?.skip(1) {
+        arguments.push(argument)?;
+    }
+    Ok(arguments)
 }
 
 /// Desks over the folders of the working directory.

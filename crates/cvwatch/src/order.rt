@@ -18,39 +18,39 @@ use std::cmp::Ordering;
 #[derive(Clone, Copy, Debug, PartialEq, Eq)]
 pub enum Compared {
     Ordered(Ordering),
-    /// The first one is no version.
+    /// The first one is not a valid version.
     NotFirst,
-    /// The first one is a version, and the second is none.
+    /// The first one is a valid version, and the second is not.
     NotSecond,
 }
 
-/// Prints how two versions compare. The words are `deb`, `apk` or `semver`, and the two; all other words print the line
-/// of use.
-pub fn order_command<K: Sink>(alloc: Global, words: &[String], output: &mut K) -> Status
-    ensures told { IsPrinted (order_of (map (λ word. string_bytes word) words.now)) (K.contents output.old) (K.contents output.new) result }
+/// Prints how two versions compare. The arguments are `deb`, `apk` or `semver`, and the two; all other arguments print
+/// the usage line.
+pub fn order_command<K: Sink>(alloc: Global, arguments: &[String], output: &mut K) -> Status
+    ensures printed { IsPrinted (order_of (map (λ argument. string_bytes argument) arguments.now)) (K.contents output.old) (K.contents output.new) result }
     ensures write_fault { result ≡ Status.WriteFault → Rose (K.faults output.old) (K.faults output.new) }
 {
-    match words {
-        [word, first, second] => {
-            let (word, first, second) = (word.as_str(), first.as_str(), second.as_str());
-            print_order(alloc, word, first, second, output)
+    match arguments {
+        [name, first, second] => {
+            let (name, first, second) = (name.as_str(), first.as_str(), second.as_str());
+            print_order(alloc, name, first, second, output)
         }
         _ => print_usage(output),
     }
 }
 
-/// Prints how two texts compare as versions of the packages that the word names.
+/// Prints how two texts compare as versions of the packages with this name.
 fn print_order<K: Sink>(
     alloc: Global,
-    word: &str,
+    name: &str,
     first: &str,
     second: &str,
     output: &mut K,
 ) -> Status
-    ensures told { IsPrinted (order_printed (kind_of word.now) first.now second.now) (K.contents output.old) (K.contents output.new) result }
+    ensures printed { IsPrinted (order_printed (kind_of name.now) first.now second.now) (K.contents output.old) (K.contents output.new) result }
     ensures write_fault { result ≡ Status.WriteFault → Rose (K.faults output.old) (K.faults output.new) }
 {
-    let Some(kind) = kind_of(word) else {
+    let Some(kind) = kind_of(name) else {
         return print_usage(output);
     };
     match compare_as(alloc, kind, first, second) {
@@ -59,11 +59,11 @@ fn print_order<K: Sink>(
     }
 }
 
-/// The packages whose versions a word names.
-fn kind_of(word: &str) -> Option<PackageKind>
-    ensures { result ≡ kind_of word.now }
+/// The packages whose versions an argument names.
+fn kind_of(name: &str) -> Option<PackageKind>
+    ensures { result ≡ kind_of name.now }
 {
-    match word {
+    match name {
         "deb" => Some(PackageKind::Deb),
         "apk" => Some(PackageKind::Apk),
         "semver" => Some(PackageKind::Npm),
@@ -131,7 +131,7 @@ fn read_semantic(alloc: Global, text: &str) -> Result<Option<SemanticVersion>, N
 }
 
 fn print_compared<K: Sink>(output: &mut K, compared: Compared) -> Status
-    ensures told { IsPrinted (compared_printed compared) (K.contents output.old) (K.contents output.new) result }
+    ensures printed { IsPrinted (compared_printed compared) (K.contents output.old) (K.contents output.new) result }
     ensures write_fault { result ≡ Status.WriteFault → Rose (K.faults output.old) (K.faults output.new) }
 {
     print(output, compared_text(compared), compared_status(compared))
@@ -159,6 +159,3 @@ fn compared_text(compared: Compared) -> &'static str
         Compared::NotSecond => "not a version: second\n",
     }
 }
-
-#[cfg(test)]
-mod tests;

@@ -8,7 +8,7 @@ use cv_io::{Sink, WriteError, write_all};
 /// Writes a text, and ends with the status that follows it: one that says that a text was written.
 pub fn print<K: Sink>(output: &mut K, text: &str, ended: Status) -> Status
     requires end { is_end ended ≡ true }
-    ensures told { IsPrinted (record { text = text.now; ended = ended }) (K.contents output.old) (K.contents output.new) result }
+    ensures printed { IsPrinted (record { text = text.now; ended = ended }) (K.contents output.old) (K.contents output.new) result }
     ensures write_fault { result ≡ Status.WriteFault → Rose (K.faults output.old) (K.faults output.new) }
 {
     match write_all(output, text.as_bytes()) {

@@ -1,7 +1,7 @@
 ghost use Rattle.std.specs.Prelude.{◌≡◌, ◌^◌, ◌<◌, ◌≤◌, length, map, string_bytes, All};
 ghost use Rattle.cv_seq.specs.Cause.{Rose};
 ghost use Rattle.cvwatch.specs.Printed.{IsPrinted};
-ghost use Rattle.cvwatch.specs.Run.{FirstRose, RunEnds, words_printed};
+ghost use Rattle.cvwatch.specs.Run.{FirstRose, RunEnds, command_line};
 ghost use Rattle.cvwatch.specs.World.{counts_of};
 
 use crate::command::scan_command;
@@ -12,18 +12,18 @@ use cv_desk::Desk;
 use cv_io::{Sink, Source};
 use std::alloc::Global;
 
-/// Runs the command that the words name: today `scan` and `order`.
+/// Runs the command that the arguments name: today `scan` and `order`.
 pub fn run<S: Source, K: Sink, D: Desk>(
     alloc: Global,
-    words: &[String],
+    arguments: &[String],
     input: &mut S,
     output: &mut K,
     desks: &mut Vec<D>,
 ) -> Status
-    requires some { 1 ≤ length desks.old.items }
-    requires few { length desks.old.items ≤ 8 }
+    requires has_desks { 1 ≤ length desks.old.items }
+    requires at_most_8_desks { length desks.old.items ≤ 8 }
     requires room { All (λ desk. D.listings desk < 2 ^ 62) desks.old.items }
-    ensures told { RunEnds D.tree S.left (counts_of D.listings D.faults) (map (λ word. string_bytes word) words.now)
+    ensures outcome { RunEnds D.tree S.remaining (counts_of D.listings D.faults) (map (λ argument. string_bytes argument) arguments.now)
         (record { input = input.old; written = K.contents output.old; desks = desks.old.items })
         (record { input = input.new; written = K.contents output.new; desks = desks.new.items })
         result }
@@ -31,22 +31,22 @@ pub fn run<S: Source, K: Sink, D: Desk>(
     ensures write_fault { result ≡ Status.WriteFault → Rose (K.faults output.old) (K.faults output.new) }
     ensures desk_fault { result ≡ Status.DeskFault → FirstRose D.faults desks.old.items desks.new.items }
 {
-    match words {
-        [word] if word.as_str() == "scan" => {
+    match arguments {
+        [argument] if argument.as_str() == "scan" => {
             let first = &mut desks[0];
             scan_command(alloc, input, output, first)
         }
-        _ => print_command(alloc, words, output),
+        _ => print_command(alloc, arguments, output),
     }
 }
 
-/// Runs a command that reads no input. Words that are no command print the line of use.
-fn print_command<K: Sink>(alloc: Global, words: &[String], output: &mut K) -> Status
-    ensures told { IsPrinted (words_printed (map (λ word. string_bytes word) words.now)) (K.contents output.old) (K.contents output.new) result }
+/// Runs a command that reads no input. Arguments that are not a command print the usage line.
+fn print_command<K: Sink>(alloc: Global, arguments: &[String], output: &mut K) -> Status
+    ensures printed { IsPrinted (command_line (map (λ argument. string_bytes argument) arguments.now)) (K.contents output.old) (K.contents output.new) result }
     ensures write_fault { result ≡ Status.WriteFault → Rose (K.faults output.old) (K.faults output.new) }
 {
-    match words {
-        [word, rest @ ..] if word.as_str() == "order" => order_command(alloc, rest, output),
+    match arguments {
+        [argument, rest @ ..] if argument.as_str() == "order" => order_command(alloc, rest, output),
         _ => print_usage(output),
     }
 }

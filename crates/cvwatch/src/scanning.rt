@@ -1,12 +1,13 @@
 ghost use Rattle.std.specs.Prelude.{◌≡◌, ◌+◌, ◌^◌, ◌<◌, ◌≤◌, true, length, IfOk};
 ghost use Rattle.cv_seq.specs.Cause.{Rose};
 ghost use Rattle.cv_scan.specs.Layers.{distinct};
-ghost use Rattle.cvwatch.specs.Outcome.{TellsError, TellsOutcome, printed_of};
+ghost use Rattle.cvwatch.specs.Outcome.{SaysOutcome};
 ghost use Rattle.cvwatch.specs.Printed.{is_end};
 ghost use Rattle.cvwatch.specs.World.{counts_of};
+ghost use Rattle.cvwatch.specs.code.Printing.{SaysError, printed_of};
 
 use crate::status::Status;
-use cv_base::{Digest, NoMemory, Text};
+use cv_base::{Digest, MAX_LAYERS, NoMemory, Text};
 use cv_desk::Desk;
 use cv_scan::{ImageError, scan_image};
 use cv_scan_input::ScanInput;
@@ -20,23 +21,23 @@ pub struct Answer {
     pub ended: Status,
 }
 
-/// Scans an image, and tells what came of it.
+/// Scans an image, and makes the line of its outcome.
 pub fn scan_answer<D: Desk>(
     alloc: Global,
     desk: &mut D,
-    asked: &ScanInput,
+    request: &ScanInput,
 ) -> Result<Answer, NoMemory>
     requires room { D.listings desk.old < 2 ^ 62 }
-    requires few { length asked.now.manifest.layers ≤ 128 }
-    ensures told { IfOk result (λ answer. TellsOutcome D.tree asked.now.manifest asked.now.records (counts_of D.listings D.faults desk.old) (counts_of D.listings D.faults desk.new) (printed_of answer)) }
-    ensures listed { D.listings desk.new ≤ D.listings desk.old + length (distinct asked.now.manifest.layers) }
+    requires at_most_128_layers { length request.now.manifest.layers ≤ MAX_LAYERS }
+    ensures outcome { IfOk result (λ answer. SaysOutcome D.tree request.now.manifest request.now.records (counts_of D.listings D.faults desk.old) (counts_of D.listings D.faults desk.new) (printed_of answer)) }
+    ensures listed { D.listings desk.new ≤ D.listings desk.old + length (distinct request.now.manifest.layers) }
     ensures end { IfOk result (λ answer. is_end answer.ended ≡ true) }
     ensures cause { IfOk result (λ answer. answer.ended ≡ Status.DeskFault → Rose (D.faults desk.old) (D.faults desk.new)) }
 {
     let feed = Text::of(alloc, "scan")?;
-    let hash = &asked.manifest.hash;
-    let layers = asked.manifest.layers.as_slice();
-    match scan_image(alloc, desk, layers, &feed, asked.records.as_slice()) {
+    let hash = &request.manifest.hash;
+    let layers = request.manifest.layers.as_slice();
+    match scan_image(alloc, desk, layers, &feed, request.records.as_slice()) {
         Ok(found) => Ok(Answer {
             text: good_line(alloc, hash, found.as_slice())?,
             ended: Status::Done,
@@ -45,9 +46,9 @@ pub fn scan_answer<D: Desk>(
     }
 }
 
-/// Tells why an image has no findings.
+/// The line that says why an image has no findings.
 fn error_answer(alloc: Global, hash: &Digest, error: &ImageError) -> Result<Answer, NoMemory>
-    ensures told { IfOk result (λ answer. TellsError hash.now error.now (printed_of answer)) }
+    ensures { IfOk result (λ answer. SaysError hash.now error.now (printed_of answer)) }
 {
     match error {
         ImageError::Bad(bad) => Ok(Answer {

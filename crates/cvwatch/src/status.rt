@@ -1,22 +1,54 @@
-/// How a command ended. The program's exit status is the number.
+ghost use Rattle.std.specs.Prelude.{◌≡◌};
+ghost use Rattle.std.specs.Process.{exit_status};
+ghost use Rattle.cvwatch.specs.Status.{status_code};
+
+use std::process::ExitCode;
+
+/// How a command ended.
 #[derive(Clone, Copy, Debug, PartialEq, Eq)]
 pub enum Status {
-    /// The findings were printed, also where there are none, or how two versions compare.
-    Done = 0,
-    /// The words are no command; the line of use was printed.
-    Usage = 2,
+    /// The findings were printed, also if there are none, or how two versions compare.
+    Done,
+    /// The arguments are not a command; the usage line was printed.
+    Usage,
     /// Reading the input failed; nothing was printed.
-    ReadFault = 3,
+    ReadFault,
     /// Writing failed; a front part of the line may have been written.
-    WriteFault = 4,
-    /// Memory was wanting; nothing was printed, or a front part of the line, or the whole of it.
-    NoMemory = 5,
+    WriteFault,
+    /// The command ran out of memory; nothing was printed, or a front part of the line, or the whole of it.
+    NoMemory,
     /// A line is over its limit, and none before it is refused; nothing was printed.
-    LineTooLong = 6,
+    LineTooLong,
     /// The input has 2^36 bytes or more, and none of its lines before that is refused; nothing was printed.
-    InputTooLong = 7,
-    /// A line of the input or the image was refused and the line that says so was printed, or that a text is no version.
-    Refused = 8,
+    InputTooLong,
+    /// A line of the input or the image was refused, or a text is not a valid version; the line that says so was printed.
+    Refused,
     /// A `desk_fault` line was printed.
-    DeskFault = 9,
+    DeskFault,
+}
+
+impl Status {
+    /// The number of the exit status.
+    pub fn code(self) -> u8
+        ensures { result ≡ status_code self }
+    {
+        match self {
+            Status::Done => 0,
+            Status::Usage => 2,
+            Status::ReadFault => 3,
+            Status::WriteFault => 4,
+            Status::NoMemory => 5,
+            Status::LineTooLong => 6,
+            Status::InputTooLong => 7,
+            Status::Refused => 8,
+            Status::DeskFault => 9,
+        }
+    }
+
+    /// What the program ends with.
+    pub fn exit_code(self) -> ExitCode
+        ensures { exit_status result ≡ status_code self }
+    {
+        ExitCode::from(self.code())
+    }
 }

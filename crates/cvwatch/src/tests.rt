@@ -63,12 +63,12 @@ fn digest(rt: &HostRuntime, digit: char) -> Result<String, Fail> {
     Ok(text)
 }
 
-/// The manifest of an image `1` with the layers of these digits.
+/// The manifest of the image `1` with the layers of these digits.
 fn manifest(rt: &HostRuntime, layers: &str) -> Result<String, Fail> {
     let hash = digest(rt, '1')?;
     let mut text = format!(in rt.alloc(); "{{\"hash\":\"{hash}\",\"layers\":[")?;
-    for (place, digit) in layers.chars().enumerate() {
-        if place > 0 {
+    for (index, digit) in layers.chars().enumerate() {
+        if index > 0 {
             text.push(',')?;
         }
         text.push_str("{\"hash\":\"")?;
@@ -79,7 +79,7 @@ fn manifest(rt: &HostRuntime, layers: &str) -> Result<String, Fail> {
     Ok(text)
 }
 
-/// The input that is such a manifest, and further lines behind it.
+/// The input of such a manifest and further lines.
 fn input(rt: &HostRuntime, layers: &str, lines: &[&str]) -> Result<CalmSource, Fail> {
     let mut text = manifest(rt, layers)?;
     for line in lines {
@@ -94,15 +94,15 @@ fn source(rt: &HostRuntime, text: &str) -> Result<CalmSource, Fail> {
     Ok(CalmSource::new(Seq::of(bytes), 100))
 }
 
-/// What a run of these words prints over this input, and how it ends.
-fn run_words(
+/// What a run of these arguments prints over this input, and how it ends.
+fn run_over(
     rt: &HostRuntime,
-    words: &[&str],
+    arguments: &[&str],
     mut source: CalmSource,
 ) -> Result<(Status, CalmSink), Fail> {
     let mut list = Vec::new(rt.alloc());
-    for word in words {
-        list.push(String::from_str(rt.alloc(), *word)?)?;
+    for argument in arguments {
+        list.push(String::from_str(rt.alloc(), *argument)?)?;
     }
     let mut desks = vec![in rt.alloc(); TableDesk::<Layers>::new()]?;
     let mut sink = CalmSink::new(rt.alloc(), 100);
@@ -116,22 +116,10 @@ fn run_words(
     Ok((status, sink))
 }
 
-/// What a scan of this input prints, and how it ends.
-fn scan(rt: &HostRuntime, source: CalmSource) -> Result<(Status, CalmSink), Fail> {
-    run_words(rt, &["scan"], source)
-}
-
-/// The line of an image whose findings are these.
-fn good(rt: &HostRuntime, findings: &str) -> Result<String, Fail> {
-    let hash = digest(rt, '1')?;
-    Ok(format!(in rt.alloc();
-        "{{\"findings\":[{findings}],\"image\":\"{hash}\",\"reply\":\"good\"}}\n"
-    )?)
-}
-
 #[test]
-fn what_the_records_find_is_told(rt: HostRuntime) -> Result<(), Fail> {
-    let table: [(&str, &[&str], &str); 7] = [
+fn findings_are_printed(rt: HostRuntime) -> Result<(), Fail> {
+    let hash = digest(&rt, '1')?;
+    let table: [(&str, &[&str], &str); 13] = [
         ("a", &[], ""),
         ("a", &[OPENSSL], OPENSSL_FOUND),
         ("a", &["", MODULE_X, "", "", OPENSSL, ""], OPENSSL_FOUND),
@@ -139,18 +127,6 @@ fn what_the_records_find_is_told(rt: HostRuntime) -> Result<(), Fail> {
         ("3", &[OPENSSL], ""),
         ("7", &[OPENSSL_ELEVEN], OPENSSL_NINE_FOUND),
         ("2", &[OPENSSL, ALPINE], ALPINE_FOUND),
-    ];
-    for (layers, records, found) in table {
-        let (status, sink) = scan(&rt, input(&rt, layers, records)?)?;
-        assert_eq!(rt; status, Status::Done);
-        assert_eq!(rt; sink.bytes(), good(&rt, found)?.as_bytes());
-    }
-    Ok(())
-}
-
-#[test]
-fn marks_take_files_of_the_layers_below_away(rt: HostRuntime) -> Result<(), Fail> {
-    let table: [(&str, &[&str], &str); 6] = [
         ("ab", &[OPENSSL], ""),
         ("ac", &[OPENSSL, ZLIB], ZLIB_FOUND),
         ("de", &[MODULE_X, MODULE_Y], MODULE_Y_FOUND),
@@ -159,15 +135,18 @@ fn marks_take_files_of_the_layers_below_away(rt: HostRuntime) -> Result<(), Fail
         ("fb", &[OPENSSL], ""),
     ];
     for (layers, records, found) in table {
-        let (status, sink) = scan(&rt, input(&rt, layers, records)?)?;
-        assert_eq!(rt; status, Status::Done);
-        assert_eq!(rt; sink.bytes(), good(&rt, found)?.as_bytes());
+        let want = format!(in rt.alloc();
+            "{{\"findings\":[{found}],\"image\":\"{hash}\",\"reply\":\"good\"}}\n"
+        )?;
+        let (status, sink) = run_over(&rt, &["scan"], input(&rt, layers, records)?)?;
+        assert_eq!(rt; status, Status::Done, "layers {layers}");
+        assert_eq!(rt; sink.bytes(), want.as_bytes(), "layers {layers}");
     }
     Ok(())
 }
 
 #[test]
-fn the_first_fault_of_a_bad_image_is_told(rt: HostRuntime) -> Result<(), Fail> {
+fn the_first_fault_of_a_bad_image_is_printed(rt: HostRuntime) -> Result<(), Fail> {
     let hash = digest(&rt, '1')?;
     for (layers, bad) in [
         (
@@ -175,43 +154,24 @@ fn the_first_fault_of_a_bad_image_is_told(rt: HostRuntime) -> Result<(), Fail> {
             "{\"cause\":\"bad_file\",\"line\":3,\"path\":\"var/lib/dpkg/status\",\"what\":\"no_colon\"}",
         ),
         (
-            "5",
-            "{\"cause\":\"bad_tree\",\"entry\":0,\"layer\":0,\"what\":\"bad_mark\"}",
-        ),
-        (
             "f5",
             "{\"cause\":\"bad_tree\",\"entry\":0,\"layer\":1,\"what\":\"bad_mark\"}",
         ),
-        ("9", "{\"cause\":\"no_layer\",\"layer\":0}"),
         ("f59", "{\"cause\":\"no_layer\",\"layer\":2}"),
     ] {
         let want = format!(in rt.alloc();
             "{{\"bad\":{bad},\"image\":\"{hash}\",\"reply\":\"bad_image\"}}\n"
         )?;
-        let (status, sink) = scan(&rt, input(&rt, layers, &[OPENSSL])?)?;
-        assert_eq!(rt; status, Status::Refused);
-        assert_eq!(rt; sink.bytes(), want.as_bytes());
+        let (status, sink) = run_over(&rt, &["scan"], input(&rt, layers, &[OPENSSL])?)?;
+        assert_eq!(rt; status, Status::Refused, "layers {layers}");
+        assert_eq!(rt; sink.bytes(), want.as_bytes(), "layers {layers}");
     }
     Ok(())
 }
 
 #[test]
-fn line_1_is_a_manifest(rt: HostRuntime) -> Result<(), Fail> {
-    for (text, want) in [
-        ("", "{\"line\":1,\"refused\":\"no_manifest\"}\n"),
-        ("\n{}\n", "{\"line\":1,\"refused\":\"bad_json\"}\n"),
-        ("{\n{}\n", "{\"line\":1,\"refused\":\"bad_json\"}\n"),
-    ] {
-        let (status, sink) = scan(&rt, source(&rt, text)?)?;
-        assert_eq!(rt; status, Status::Refused);
-        assert_eq!(rt; sink.bytes(), want.as_bytes());
-    }
-    Ok(())
-}
-
-#[test]
-fn a_refused_line_is_told_by_its_number(rt: HostRuntime) -> Result<(), Fail> {
-    let table: [(&str, &[&str], &str); 5] = [
+fn a_refused_line_is_printed_with_its_number(rt: HostRuntime) -> Result<(), Fail> {
+    let table: [(&str, &[&str], &str); 3] = [
         (
             "",
             &[OPENSSL],
@@ -219,18 +179,8 @@ fn a_refused_line_is_told_by_its_number(rt: HostRuntime) -> Result<(), Fail> {
         ),
         (
             "a",
-            &[OPENSSL, OPENSSL],
-            "{\"first\":0,\"line\":3,\"refused\":\"duplicate_id\",\"second\":1}\n",
-        ),
-        (
-            "a",
-            &["{\"id\":\"A\",\"modified\":1}"],
-            "{\"index\":0,\"line\":2,\"refused\":\"bad_advisory\",\"what\":\"no_modified\"}\n",
-        ),
-        (
-            "a",
-            &["", OPENSSL, "", "{}"],
-            "{\"index\":1,\"line\":5,\"refused\":\"bad_advisory\",\"what\":\"no_id\"}\n",
+            &["", OPENSSL, "", OPENSSL],
+            "{\"first\":0,\"line\":5,\"refused\":\"duplicate_id\",\"second\":1}\n",
         ),
         (
             "9",
@@ -239,15 +189,15 @@ fn a_refused_line_is_told_by_its_number(rt: HostRuntime) -> Result<(), Fail> {
         ),
     ];
     for (layers, lines, want) in table {
-        let (status, sink) = scan(&rt, input(&rt, layers, lines)?)?;
-        assert_eq!(rt; status, Status::Refused);
+        let (status, sink) = run_over(&rt, &["scan"], input(&rt, layers, lines)?)?;
+        assert_eq!(rt; status, Status::Refused, "{want}");
         assert_eq!(rt; sink.bytes(), want.as_bytes());
     }
     Ok(())
 }
 
 #[test]
-fn the_layer_that_a_desk_fails_at_is_told(rt: HostRuntime) -> Result<(), Fail> {
+fn the_layer_at_which_a_desk_fails_is_printed(rt: HostRuntime) -> Result<(), Fail> {
     for (layers, call, failed) in [("a", 1, 'a'), ("ab", 3, 'a'), ("aab", 4, 'b')] {
         let layer = digest(&rt, failed)?;
         let want = format!(in rt.alloc();
@@ -258,42 +208,84 @@ fn the_layer_that_a_desk_fails_at_is_told(rt: HostRuntime) -> Result<(), Fail> {
         let mut input = input(&rt, layers, &[OPENSSL])?;
         let mut sink = CalmSink::new(rt.alloc(), 100);
         let status = scan_command(rt.alloc(), &mut input, &mut sink, &mut desk);
-        assert_eq!(rt; status, Status::DeskFault);
+        assert_eq!(rt; status, Status::DeskFault, "layers {layers}");
         assert_eq!(rt; sink.bytes(), want.as_bytes());
     }
     Ok(())
 }
 
 #[test]
-fn a_source_that_fails_is_blamed(rt: HostRuntime) -> Result<(), Fail> {
-    let bytes = Seq::of(Vec::new(rt.alloc()));
-    let mut source = MemSource::new(bytes, 7, Seq::of(vec![in rt.alloc(); 1]?));
-    let mut sink = CalmSink::new(rt.alloc(), 5);
-    let mut desk = TableDesk::<Layers>::new();
-    let status = scan_command(rt.alloc(), &mut source, &mut sink, &mut desk);
-    assert_eq!(rt; status, Status::ReadFault);
-    assert_eq!(rt; sink.bytes(), b"".as_slice());
+fn a_stream_that_fails_is_blamed(rt: HostRuntime) -> Result<(), Fail> {
+    for (read, write, want, bytes) in [
+        (1, 9, Status::ReadFault, b"".as_slice()),
+        (9, 2, Status::WriteFault, b"{\"lin".as_slice()),
+        (
+            9,
+            9,
+            Status::Refused,
+            b"{\"line\":1,\"refused\":\"no_manifest\"}\n".as_slice(),
+        ),
+    ] {
+        let nothing = Seq::of(Vec::new(rt.alloc()));
+        let mut source = MemSource::new(nothing, 7, Seq::of(vec![in rt.alloc(); read]?));
+        let mut sink = MemSink::new(rt.alloc(), 5, Seq::of(vec![in rt.alloc(); write]?));
+        let mut desk = TableDesk::<Layers>::new();
+        let status = scan_command(rt.alloc(), &mut source, &mut sink, &mut desk);
+        assert_eq!(rt; status, want);
+        assert_eq!(rt; sink.bytes(), bytes);
+    }
     Ok(())
 }
 
 #[test]
-fn a_sink_that_fails_is_blamed(rt: HostRuntime) -> Result<(), Fail> {
-    let mut source = source(&rt, "")?;
-    let mut sink = MemSink::new(rt.alloc(), 5, Seq::of(vec![in rt.alloc(); 2]?));
-    let mut desk = TableDesk::<Layers>::new();
-    let status = scan_command(rt.alloc(), &mut source, &mut sink, &mut desk);
-    assert_eq!(rt; status, Status::WriteFault);
-    assert_eq!(rt; sink.bytes(), b"{\"lin".as_slice());
-    Ok(())
-}
-
-#[test]
-fn other_words_print_the_use(rt: HostRuntime) -> Result<(), Fail> {
-    let table: [&[&str]; 3] = [&[], &["walk"], &["scan", "walk"]];
-    for words in table {
-        let (status, sink) = run_words(&rt, words, source(&rt, "")?)?;
-        assert_eq!(rt; status, Status::Usage);
-        assert_eq!(rt; sink.bytes(), USAGE.as_bytes());
+fn versions_compare(rt: HostRuntime) -> Result<(), Fail> {
+    let table: [(&[&str], Status, &str); 16] = [
+        (&["order", "deb", "1.0~rc1", "1.0"], Status::Done, "<\n"),
+        (&["order", "deb", "1.0", "1.0-0"], Status::Done, "=\n"),
+        (&["order", "deb", "1.0-1", "1.0-1+b1"], Status::Done, "<\n"),
+        (&["order", "deb", "1:0", "9"], Status::Done, ">\n"),
+        (
+            &[
+                "order",
+                "deb",
+                "100000000000000000000000000001",
+                "100000000000000000000000000000",
+            ],
+            Status::Done,
+            ">\n",
+        ),
+        (&["order", "apk", "1.2_rc1", "1.2"], Status::Done, "<\n"),
+        (&["order", "apk", "1.2_p1", "1.2a"], Status::Done, "<\n"),
+        (&["order", "apk", "1.2.0", "1.2.0-r1"], Status::Done, "<\n"),
+        (
+            &["order", "semver", "1.0.0-rc.1", "1.0.0"],
+            Status::Done,
+            "<\n",
+        ),
+        (
+            &["order", "deb", "a:1", "a:1"],
+            Status::Refused,
+            "not a version: first\n",
+        ),
+        (
+            &["order", "apk", "1.2", "1.2~ab"],
+            Status::Refused,
+            "not a version: second\n",
+        ),
+        (
+            &["order", "semver", "1.0.0", "1.0"],
+            Status::Refused,
+            "not a version: second\n",
+        ),
+        (&["order", "rpm", "1", "2"], Status::Usage, USAGE),
+        (&["order", "deb", "1"], Status::Usage, USAGE),
+        (&[], Status::Usage, USAGE),
+        (&["scan", "walk"], Status::Usage, USAGE),
+    ];
+    for (arguments, want, line) in table {
+        let (status, sink) = run_over(&rt, arguments, source(&rt, "")?)?;
+        assert_eq!(rt; status, want, "{arguments:?}");
+        assert_eq!(rt; sink.bytes(), line.as_bytes(), "{arguments:?}");
     }
     Ok(())
 }

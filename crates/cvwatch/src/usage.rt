@@ -6,12 +6,12 @@ use crate::print::print;
 use crate::status::Status;
 use cv_io::Sink;
 
-/// What is printed where the words are no command.
+/// What is printed if the arguments are not a command.
 const USAGE: &str = "usage: cvwatch serve|scan|order|drill\n";
 
-/// Says what the program takes.
+/// Prints the usage line.
 pub fn print_usage<K: Sink>(output: &mut K) -> Status
-    ensures told { IsPrinted usage (K.contents output.old) (K.contents output.new) result }
+    ensures printed { IsPrinted usage (K.contents output.old) (K.contents output.new) result }
     ensures write_fault { result ≡ Status.WriteFault → Rose (K.faults output.old) (K.faults output.new) }
 {
     print(output, USAGE, Status::Usage)

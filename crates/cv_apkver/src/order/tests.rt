@@ -1,13 +1,13 @@
 use super::*;
 use std::test::Fail;
 
-// each is less than all behind it
+// each is less than all after it
 const SUFFIXES: [&str; 10] = [
     "3_alpha", "3_beta", "3_pre", "3_rc", "3", "3_cvs", "3_svn", "3_git", "3_hg", "3_p",
 ];
 
 // the same by every part of a version
-const RISING: [&str; 32] = [
+const ASCENDING: [&str; 32] = [
     "0",
     "0-r1",
     "0.0",
@@ -62,31 +62,19 @@ const EQUAL: [(&str, &str); 12] = [
 
 #[test]
 fn versions_compare_by_numbers_letter_suffixes_and_build(rt: HostRuntime) -> Result<(), Fail> {
-    for (i, a) in SUFFIXES.iter().enumerate() {
-        for (j, b) in SUFFIXES.iter().enumerate() {
-            assert_eq!(rt;
-                compare(a.as_bytes(), b.as_bytes()),
-                i.cmp(&j),
-                "{a} and {b}"
-            );
-        }
-    }
-    for (i, a) in RELEASES.iter().enumerate() {
-        for (j, b) in RELEASES.iter().enumerate() {
-            assert_eq!(rt;
-                compare(a.as_bytes(), b.as_bytes()),
-                i.cmp(&j),
-                "{a} and {b}"
-            );
-        }
-    }
-    for (i, a) in RISING.iter().enumerate() {
-        for (j, b) in RISING.iter().enumerate() {
-            assert_eq!(rt;
-                compare(a.as_bytes(), b.as_bytes()),
-                i.cmp(&j),
-                "{a} and {b}"
-            );
+    for versions in [
+        SUFFIXES.as_slice(),
+        RELEASES.as_slice(),
+        ASCENDING.as_slice(),
+    ] {
+        for (i, a) in versions.iter().enumerate() {
+            for (j, b) in versions.iter().enumerate() {
+                assert_eq!(rt;
+                    compare(a.as_bytes(), b.as_bytes()),
+                    i.cmp(&j),
+                    "{a} and {b}"
+                );
+            }
         }
     }
     for (a, b) in EQUAL {

@@ -22,7 +22,7 @@ fn installed(
     })
 }
 
-/// An entry about a package, whose flaw is there from the start and has a fix.
+/// An entry about a package, whose flaw is present from the start and has a fix.
 fn entry(alloc: Global, ecosystem: &str, name: &str, fixed: &str) -> Result<Affected, NoMemory> {
     let mut turns = Vec::new(alloc);
     turns.push(Turn::Introduced(Text::of(alloc, "0")?))?;
@@ -89,7 +89,7 @@ fn texts(alloc: Global, words: &[&str]) -> Result<Vec<Text>, NoMemory> {
 }
 
 /// What is found for an npm package and a Debian one.
-fn told(alloc: Global, given: &[(&str, &[(&str, &str, &str)])]) -> Result<Vec<Text>, Fail> {
+fn found_rows(alloc: Global, given: &[(&str, &[(&str, &str, &str)])]) -> Result<Vec<Text>, Fail> {
     let advisories = records(alloc, given)?;
     let npm = installed(alloc, PackageKind::Npm, "lodash", "zlib", "npm")?;
     let deb = installed(alloc, PackageKind::Deb, "zlib1g", "zlib", "Debian:12")?;
@@ -119,14 +119,14 @@ fn records_are_found_with_and_without_the_release(rt: HostRuntime) -> Result<(),
         "a", "X-7", "4.17.21",
     ];
     assert_eq!(rt;
-        told(alloc, &given)?.as_slice(),
+        found_rows(alloc, &given)?.as_slice(),
         texts(alloc, &want)?.as_slice()
     );
     Ok(())
 }
 
 #[test]
-fn of_two_records_with_one_id_the_later_is_told(rt: HostRuntime) -> Result<(), Fail> {
+fn of_two_records_with_one_id_the_later_stays(rt: HostRuntime) -> Result<(), Fail> {
     let alloc = rt.alloc();
     let given: [(&str, &[(&str, &str, &str)]); 2] = [
         ("X-1", &[("Debian:12", "zlib", "2")]),
@@ -134,9 +134,9 @@ fn of_two_records_with_one_id_the_later_is_told(rt: HostRuntime) -> Result<(), F
     ];
     let want = ["zlib1g", "a", "X-1", "3"];
     assert_eq!(rt;
-        told(alloc, &given)?.as_slice(),
+        found_rows(alloc, &given)?.as_slice(),
         texts(alloc, &want)?.as_slice()
     );
-    assert_eq!(rt; told(alloc, &[])?.as_slice().len(), 0);
+    assert_eq!(rt; found_rows(alloc, &[])?.as_slice().len(), 0);
     Ok(())
 }

@@ -1,7 +1,7 @@
 use super::*;
 use cv_io::{CalmSource, MemSource};
 use cv_osv::RecordWhat;
-use cv_request::{RequestError, RequestWhat};
+use cv_request::{RequestFault, RequestWhat};
 use std::test::Fail;
 
 const MANIFEST: &str =
@@ -11,13 +11,19 @@ const FIRST: &str = "{\"id\":\"X-1\",\"modified\":\"m\"}";
 
 const SECOND: &str = "{\"id\":\"X-2\",\"modified\":\"m\",\"withdrawn\":\"w\"}";
 
-fn source(alloc: Global, text: &str) -> Result<CalmSource, Fail> {
-    Ok(CalmSource::new(Seq::of(text.as_bytes().to_vec(alloc)?), 7))
+/// The lines as an input.
+fn input_of(alloc: Global, lines: &[&str]) -> Result<Seq<u8>, Fail> {
+    let mut text = String::new(alloc);
+    for line in lines {
+        text.push_str(*line)?;
+        text.push('\n')?;
+    }
+    Ok(Seq::of(text.as_bytes().to_vec(alloc)?))
 }
 
 /// Why an input is refused, if it is.
-fn refusal_of(alloc: Global, text: &str) -> Result<Option<InputError>, Fail> {
-    let mut input = source(alloc, text)?;
+fn refusal_of(alloc: Global, lines: &[&str]) -> Result<Option<InputError>, Fail> {
+    let mut input = CalmSource::new(input_of(alloc, lines)?, 7);
     match read_scan_input(alloc, &mut input) {
         Ok(_) => Ok(None),
         Err(InputError::NoMemory) => Err(Fail::from(InputError::NoMemory)),
@@ -26,106 +32,76 @@ fn refusal_of(alloc: Global, text: &str) -> Result<Option<InputError>, Fail> {
 }
 
 #[test]
-fn empty_lines_between_records_are_passed_over(rt: HostRuntime) -> Result<(), Fail> {
+fn empty_lines_are_ignored(rt: HostRuntime) -> Result<(), Fail> {
     let alloc = rt.alloc();
-    let text = format!(in alloc; "{MANIFEST}\n\n{FIRST}\r\n\r\n\n{SECOND}")?;
-    let mut input = source(alloc, text.as_str())?;
-    let asked = read_scan_input(alloc, &mut input)?;
-    assert_eq!(rt; asked.manifest.layers.as_slice().len(), 1);
-    let table = [("X-1", false), ("X-2", true)];
-    assert_eq!(rt; asked.records.as_slice().len(), table.len());
-    for (record, (id, withdrawn)) in asked.records.as_slice().iter().zip(table) {
-        assert_eq!(rt; record.id.as_str(), id);
-        assert_eq!(rt; record.withdrawn, withdrawn);
-    }
+    let bytes = input_of(alloc, &[MANIFEST, "", FIRST, "\r", "", SECOND])?;
+    let mut input = CalmSource::new(bytes, 7);
+    let request = read_scan_input(alloc, &mut input)?;
+    assert_eq!(rt; request.manifest.layers.as_slice().len(), 1);
+    let [first, second] = request.records.as_slice() else {
+        return Err(Fail::from("there are two records"));
+    };
+    assert_eq!(rt; first.id.as_str(), "X-1");
+    assert_eq!(rt; second.id.as_str(), "X-2");
+    assert!(rt; second.withdrawn && !first.withdrawn);
+    shared(request);
+    shared(InputError::NoManifest);
     Ok(())
 }
 
 #[test]
-fn a_manifest_may_stand_alone(rt: HostRuntime) -> Result<(), Fail> {
-    let mut input = source(rt.alloc(), MANIFEST)?;
-    let asked = read_scan_input(rt.alloc(), &mut input)?;
-    assert!(rt; asked.records.as_slice().is_empty());
-    Ok(())
-}
-
-#[test]
-fn line_1_is_the_manifest(rt: HostRuntime) -> Result<(), Fail> {
-    let alloc = rt.alloc();
-    let at_1 = |error| InputError::Refused { line: 1, error };
-    let table = [
-        (String::new(alloc), InputError::NoManifest),
+fn the_first_refused_line_is_the_answer(rt: HostRuntime) -> Result<(), Fail> {
+    let no_id = RequestFault::BadAdvisory {
+        index: 1,
+        what: RecordWhat::NoId,
+    };
+    let same_id = RequestFault::DuplicateId {
+        first: 1,
+        second: 2,
+    };
+    let table: [(&[&str], u64, RequestFault); 6] = [
+        (&["", MANIFEST], 1, RequestFault::BadJson),
         (
-            format!(in alloc; "\n{MANIFEST}\n")?,
-            at_1(RequestError::BadJson),
+            &["[]", FIRST, FIRST],
+            1,
+            RequestFault::BadRequest(RequestWhat::BadManifest),
         ),
         (
-            format!(in alloc; "{{\n{MANIFEST}\n")?,
-            at_1(RequestError::BadJson),
+            &[FIRST, MANIFEST],
+            1,
+            RequestFault::BadRequest(RequestWhat::BadHash),
         ),
-        (
-            format!(in alloc; "[]\n{FIRST}\n{FIRST}\n")?,
-            at_1(RequestError::BadRequest(RequestWhat::BadManifest)),
-        ),
-        (
-            format!(in alloc; "{FIRST}\n{MANIFEST}\n")?,
-            at_1(RequestError::BadRequest(RequestWhat::BadHash)),
-        ),
+        (&[MANIFEST, FIRST, "", "X", "{}"], 4, RequestFault::BadJson),
+        (&[MANIFEST, "", FIRST, "", "", "{}", FIRST], 6, no_id),
+        (&[MANIFEST, SECOND, FIRST, "", FIRST, "X"], 5, same_id),
     ];
-    for (text, want) in table {
-        assert_eq!(rt; refusal_of(alloc, text.as_str())?, Some(want), "{text}");
-    }
-    Ok(())
-}
-
-#[test]
-fn the_first_refused_record_is_told_at_its_line(rt: HostRuntime) -> Result<(), Fail> {
-    let alloc = rt.alloc();
-    let table = [
-        (
-            format!(in alloc; "{MANIFEST}\n{FIRST}\n\nX\n{{}}\n")?,
-            4,
-            RequestError::BadJson,
-        ),
-        (
-            format!(in alloc; "{MANIFEST}\n\n{FIRST}\n\n\n{{}}\n{FIRST}\n")?,
-            6,
-            RequestError::BadAdvisory {
-                index: 1,
-                what: RecordWhat::NoId,
-            },
-        ),
-        (
-            format!(in alloc; "{MANIFEST}\n{SECOND}\n{FIRST}\n\n{FIRST}\nX\n")?,
-            5,
-            RequestError::DuplicateId {
-                first: 1,
-                second: 2,
-            },
-        ),
-    ];
-    for (text, line, error) in table {
+    for (lines, line, fault) in table {
         assert_eq!(rt;
-            refusal_of(alloc, text.as_str())?,
-            Some(InputError::Refused { line, error }),
-            "{text}"
+            refusal_of(rt.alloc(), lines)?,
+            Some(InputError::Refused { line, fault })
         );
     }
+    assert_eq!(rt; refusal_of(rt.alloc(), &[])?, Some(InputError::NoManifest));
+    assert_eq!(rt; refusal_of(rt.alloc(), &[MANIFEST])?, None);
     Ok(())
 }
 
 #[test]
 fn a_failing_source_is_blamed(rt: HostRuntime) -> Result<(), Fail> {
     let alloc = rt.alloc();
-    let text = format!(in alloc; "{MANIFEST}\n{FIRST}\n")?;
     for call in 1..4 {
-        let bytes = Seq::of(text.as_bytes().to_vec(alloc)?);
         let fails = Seq::of(vec![in alloc; call]?);
-        let mut input = MemSource::new(bytes, 100, fails);
-        match read_scan_input(alloc, &mut input) {
-            Ok(_) => return Err(Fail::from("a failing read was passed over")),
-            Err(error) => assert_eq!(rt; error, InputError::ReadFault, "call {call} fails"),
-        }
+        let mut input = MemSource::new(input_of(alloc, &[MANIFEST, FIRST])?, 100, fails);
+        assert!(rt;
+            matches!(
+                read_scan_input(alloc, &mut input),
+                Err(InputError::ReadFault)
+            ),
+            "call {call} fails"
+        );
     }
     Ok(())
 }
+
+/// Takes what may go to another thread and be shared.
+fn shared<T: Send + Sync + Drop>(_value: T) {}

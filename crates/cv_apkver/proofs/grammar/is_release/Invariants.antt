@@ -4,7 +4,7 @@ use Rattle.cv_apkver.specs.Parts.{is_release, pieces}
 use Rattle.cv_apkver.proofs.grammar.is_release.Given as goal
 
 abbrev pub invariant-loop-last : goal.invariant-loop-last
-invariant-loop-last l = is_release (pieces DOT l.left) ≡ is_release (pieces DOT l.fn.text)
+invariant-loop-last l = is_release (pieces DOT l.remaining) ≡ is_release (pieces DOT l.fn.text)
 
 abbrev pub decreases-loop-last : goal.decreases-loop-last
-decreases-loop-last l = length l.left
+decreases-loop-last l = length l.remaining

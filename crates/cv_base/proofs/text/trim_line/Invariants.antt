@@ -4,7 +4,7 @@ use Rattle.cv_base.proofs.text.trim_line.Given as goal
 
 -- what was dropped is dropped from the whole
 abbrev pub invariant-loop-last : goal.invariant-loop-last
-invariant-loop-last l = without_end is_dropped l.left ≡ without_end is_dropped l.fn.line
+invariant-loop-last l = without_end is_dropped l.kept ≡ without_end is_dropped l.fn.line
 
 abbrev pub decreases-loop-last : goal.decreases-loop-last
-decreases-loop-last l = length l.left
+decreases-loop-last l = length l.kept

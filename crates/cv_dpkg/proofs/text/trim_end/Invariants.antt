@@ -4,7 +4,7 @@ use Rattle.cv_dpkg.proofs.text.trim_end.Given as goal
 
 -- what was dropped is dropped from the whole
 abbrev pub invariant-loop-last : goal.invariant-loop-last
-invariant-loop-last l = without_end is_blank l.left ≡ without_end is_blank l.fn.text
+invariant-loop-last l = without_end is_blank l.rest ≡ without_end is_blank l.fn.text
 
 abbrev pub decreases-loop-last : goal.decreases-loop-last
-decreases-loop-last l = length l.left
+decreases-loop-last l = length l.rest

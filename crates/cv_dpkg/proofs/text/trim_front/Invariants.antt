@@ -1,10 +1,10 @@
 use Rattle.std.proofs.Common.{◌≡◌, length}
-use Rattle.cv_dpkg.specs.Lines.{without_front}
+use Rattle.cv_dpkg.specs.Fields.{without_front}
 use Rattle.cv_dpkg.proofs.text.trim_front.Given as goal
 
 -- what was dropped is dropped from the whole
-abbrev pub invariant-loop-left : goal.invariant-loop-left
-invariant-loop-left l = without_front l.left ≡ without_front l.fn.text
+abbrev pub invariant-loop-rest : goal.invariant-loop-rest
+invariant-loop-rest l = without_front l.rest ≡ without_front l.fn.text
 
-abbrev pub decreases-loop-left : goal.decreases-loop-left
-decreases-loop-left l = length l.left
+abbrev pub decreases-loop-rest : goal.decreases-loop-rest
+decreases-loop-rest l = length l.rest

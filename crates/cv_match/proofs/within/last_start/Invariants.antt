@@ -2,13 +2,13 @@ use Rattle.std.proofs.Common.{◌≡◌, None, length}
 use Rattle.std.specs.Option.{option_copied}
 use Rattle.std.specs.Ordering.{on}
 use Rattle.cv_match.specs.Order.{version_cmp_of}
-use Rattle.cv_match.specs.Walk.{last_start}
+use Rattle.cv_match.specs.code.Walk.{last_start}
 use Rattle.cv_match.proofs.within.last_start.Given as goal
 
--- the best so far, with those that are left, gives the latest of all
-abbrev pub invariant-loop-left : goal.invariant-loop-left
-invariant-loop-left g l = let R = on g.V.Version.text (version_cmp_of g.V.Version.kind) in
-    last_start R l.version (option_copied l.best) l.left ≡ last_start R l.version None l.fn.events
+-- the best so far, with those that remain, gives the latest of all
+abbrev pub invariant-loop-remaining : goal.invariant-loop-remaining
+invariant-loop-remaining g l = let R = on g.V.Version.text (version_cmp_of g.V.Version.kind) in
+    last_start R l.version (option_copied l.best) l.remaining ≡ last_start R l.version None l.fn.events
 
-abbrev pub decreases-loop-left : goal.decreases-loop-left
-decreases-loop-left g l = length l.left
+abbrev pub decreases-loop-remaining : goal.decreases-loop-remaining
+decreases-loop-remaining g l = length l.remaining

@@ -4,7 +4,7 @@ use Rattle.std.specs.Cmp.Lexicographic.{slice_cmp}
 use Rattle.cv_order.specs.Digits.{after_digits, front_digits, run_cmp}
 use Rattle.cv_order.proofs.digits.compare_runs.Given as goal
 
--- the digits that are left decide by how many they are, then the first difference so far, then they by theirs
+-- the digits that remain decide by how many they are, then the first difference so far, then they by theirs
 abbrev pub invariant-loop-x : goal.invariant-loop-x
 invariant-loop-x l =
     let left = front_digits l.left in let right = front_digits l.right in

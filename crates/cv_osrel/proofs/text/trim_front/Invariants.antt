@@ -4,8 +4,8 @@ use Rattle.cv_order.specs.Digits.{after_while}
 use Rattle.cv_osrel.proofs.text.trim_front.Given as goal
 
 -- what was dropped is dropped from the whole
-abbrev pub invariant-loop-left : goal.invariant-loop-left
-invariant-loop-left l = after_while is_dropped l.left ≡ after_while is_dropped l.fn.text
+abbrev pub invariant-loop-rest : goal.invariant-loop-rest
+invariant-loop-rest l = after_while is_dropped l.rest ≡ after_while is_dropped l.fn.text
 
-abbrev pub decreases-loop-left : goal.decreases-loop-left
-decreases-loop-left l = length l.left
+abbrev pub decreases-loop-rest : goal.decreases-loop-rest
+decreases-loop-rest l = length l.rest

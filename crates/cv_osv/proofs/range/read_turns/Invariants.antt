@@ -1,4 +1,4 @@
--- What has been read, and then what is left, is the whole.
+-- What has been read and then the remaining items are the whole.
 use Rattle.std.specs.Prelude.{◌≡◌, length}
 use Rattle.cv_base.specs.Results.{onto}
 use Rattle.cv_osv.proofs.range.read_turns.Given as goal
@@ -6,9 +6,9 @@ use Rattle.cv_osv.specs.Json.{each_joined}
 use Rattle.cv_osv.specs.Record.{turns_of}
 use Rattle.serde_json.specs.View.{items_view}
 
-abbrev pub invariant-loop-left : goal.invariant-loop-left
-invariant-loop-left l =
-    onto l.turns.items (each_joined turns_of (items_view l.left)) ≡ each_joined turns_of (items_view l.fn.events)
+abbrev pub invariant-loop-remaining : goal.invariant-loop-remaining
+invariant-loop-remaining l =
+    onto l.turns.items (each_joined turns_of (items_view l.remaining)) ≡ each_joined turns_of (items_view l.fn.events)
 
-abbrev pub decreases-loop-left : goal.decreases-loop-left
-decreases-loop-left l = length l.left
+abbrev pub decreases-loop-remaining : goal.decreases-loop-remaining
+decreases-loop-remaining l = length l.remaining

@@ -1,7 +1,7 @@
 use Rattle.std.proofs.Common.{◌≡◌, ◌∷◌, ◌++◌, refl, sym, ap, ◌∙◌}
 use Rattle.cv_base.specs.Path.{components}
-use Rattle.cv_overlay.proofs.CoverWords.{empty_text, some_text}
-use Rattle.cv_overlay.proofs.TextWords.{parent_needed, stands_in, stands_in_none}
+use Rattle.cv_overlay.proofs.CoverLemmas.{empty_text, some_text}
+use Rattle.cv_overlay.proofs.TextLemmas.{parent_needed, stands_in, stands_in_none}
 use Rattle.cv_overlay.proofs.check.stands_by_parent.Goals as goal
 
 pub returns-in_default-before : goal.returns-in_default-before

@@ -1,5 +1,5 @@
 use Rattle.std.proofs.Common.{ℕ, List, Bor, ◌∙◌}
-use Rattle.cv_overlay.proofs.CoverWords.{searched_text}
+use Rattle.cv_overlay.proofs.CoverLemmas.{searched_text}
 use Rattle.cv_overlay.proofs.cover.has_below.Goals as goal
 
 pub returns : goal.returns

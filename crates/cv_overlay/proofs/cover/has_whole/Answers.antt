@@ -2,7 +2,7 @@ use Rattle.std.proofs.Common.{rules, ℕ, Vec, Global, ◌∙◌}
 use Rattle.std.specs.Cmp.Lexicographic.{slice_cmp}
 use Rattle.std.specs.Ordering.{nat_cmp}
 use Rattle.std.proofs.lemmas.Fn.{always_returns_same}
-use Rattle.cv_overlay.proofs.CoverWords.{searched_text}
+use Rattle.cv_overlay.proofs.CoverLemmas.{searched_text}
 use Rattle.cv_overlay.proofs.cover.has_whole.Goals as goal
 
 pub returns : goal.returns

@@ -2,7 +2,7 @@ use Rattle.std.proofs.Common.{◌∷◌, ◌++◌, sym, ap, ◌∙◌, Result, O
 use Rattle.std.specs.Result.{IfOk}
 use Rattle.cv_base.specs.Path.{components}
 use Rattle.cv_overlay.specs.Mark.{target_of}
-use Rattle.cv_overlay.proofs.CoverWords.{target_in, target_top}
+use Rattle.cv_overlay.proofs.CoverLemmas.{target_in, target_top}
 use Rattle.cv_overlay.proofs.cover.target_text.Goals as goal
 
 if_ok : {A E : Type 0} (P Q : A → Type 0) (r : Result A E) → IfOk r P → ((x : A) → P x → Q x) → IfOk r Q

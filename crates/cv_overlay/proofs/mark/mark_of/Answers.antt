@@ -1,8 +1,8 @@
 use Rattle.std.proofs.Common.{sym, ap, ◌∙◌}
 use Rattle.cv_base.specs.Path.{components}
 use Rattle.cv_overlay.specs.Mark.{mark_of}
-use Rattle.cv_overlay.specs.Text.{mark_by}
-use Rattle.cv_overlay.proofs.TextWords.{mark_of_name, mark_of_last}
+use Rattle.cv_overlay.specs.code.Text.{mark_by}
+use Rattle.cv_overlay.proofs.TextLemmas.{mark_of_name, mark_of_last}
 use Rattle.cv_overlay.proofs.mark.mark_of.Goals as goal
 
 pub returns-in-None : goal.returns-in-None

@@ -1,7 +1,7 @@
 use Rattle.std.proofs.Common.{◌≡◌, ◌+◌, ◌≤◌, ◌++◌, length, vec_len, vec_capacity}
 use Rattle.cv_overlay.proofs.merge.put_all.Given as goal
 
--- what was put, and what is left, is the whole
+-- the entries so far, with the remaining ones, are the whole
 abbrev pub invariant-loop-entry : goal.invariant-loop-entry
 invariant-loop-entry l = record {
   items : l.room.items ++ l.rest.items ≡ l.fn.room.items ++ l.fn.rest.items;

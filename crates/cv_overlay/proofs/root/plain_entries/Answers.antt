@@ -2,7 +2,7 @@ use Rattle.std.proofs.Common.{◌≡◌, suc, ◌+◌, List, [], ◌∷◌, ◌+
 use Rattle.cv_base.specs.declared.tree.TreeEntry.{TreeEntry}
 use Rattle.cv_overlay.specs.Lay.{is_plain}
 use Rattle.cv_overlay.specs.Mark.{mark}
-use Rattle.cv_overlay.proofs.MergeWords.{kept_step}
+use Rattle.cv_overlay.proofs.MergeLemmas.{kept_step}
 use Rattle.cv_overlay.proofs.root.plain_entries.Goals as goal
 
 pub loop-entry-preserved : goal.loop-entry-preserved

@@ -4,9 +4,9 @@ use Rattle.cv_base.specs.Results.{onto}
 use Rattle.cv_request.specs.Manifest.{layers_from}
 use Rattle.cv_request.proofs.manifest.read_each.Given as goal
 
--- the layers so far, with those that are left, are all
+-- the layers so far and the remaining ones are all
 abbrev pub invariant-loop-item : goal.invariant-loop-item
 invariant-loop-item l = record {
-  number : l.number ≡ l.item-index;
-  layers : onto l.layers.items (layers_from l.number (items_view (drop l.item-index l.items))) ≡ layers_from 0 (items_view l.items);
+  index : l.index ≡ l.item-index;
+  layers : onto l.layers.items (layers_from l.index (items_view (drop l.item-index l.items))) ≡ layers_from 0 (items_view l.items);
 }

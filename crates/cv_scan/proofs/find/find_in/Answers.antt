@@ -1,7 +1,7 @@
+use Rattle.cv_scan.proofs.Lookup.{found_of}
 use Rattle.std.proofs.Common.{◌∙◌}
-use Rattle.cv_scan.proofs.Looked.{found_of}
 use Rattle.cv_scan.proofs.find.find_in.Goals as goal
 
-pub returns : goal.returns
-returns g c = found_of c.args.«package».now c.args.feed.now c.args.advisories.now c.as_slice.result.now c.find_numbered.result
-    (c.as_slice.ensures.value ∙ c.in_ok-numbers.ensures c.args.advisories.now c.requires.indexed) c.find_numbered.ensures
+pub returns-clause-found : goal.returns-clause-found
+returns-clause-found g c = found_of c.args.«package».now c.args.feed.now c.args.advisories.now c.deref.result.now c.find_by_kind.result
+    (c.deref.ensures.value ∙ c.in_ok-indices.ensures c.args.advisories.now c.requires.indexed) c.find_by_kind.ensures.found

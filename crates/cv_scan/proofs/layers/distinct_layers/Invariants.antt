@@ -1,11 +1,11 @@
 use Rattle.std.proofs.Common.{◌≡◌, ◌≤◌, length, drop}
 use Rattle.cv_scan.specs.Layers.{distinct}
-use Rattle.cv_scan.proofs.Distinct.{behind}
+use Rattle.cv_scan.proofs.Distinct.{followed}
 use Rattle.cv_scan.proofs.layers.distinct_layers.Given as goal
 
--- those that were found, with those that are left, are the distinct ones of all
+-- those that were found, with the remaining ones, are the distinct ones of all
 abbrev pub invariant-loop-layer : goal.invariant-loop-layer
 invariant-loop-layer l = record {
-  told : behind l.distinct.items (drop l.layer-index l.layers) ≡ distinct l.layers;
+  layers : followed l.distinct.items (drop l.layer-index l.layers) ≡ distinct l.layers;
   fewer : length l.distinct.items ≤ l.layer-index;
 }

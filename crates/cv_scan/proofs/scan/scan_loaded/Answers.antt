@@ -1,8 +1,8 @@
 use Rattle.std.proofs.Common.{◌∷◌, [], map, Ok, ap, ◌∙◌, sym, Bor, List}
 use Rattle.cv_base.specs.declared.tree.Tree.{Tree}
 use Rattle.cv_base.specs.declared.tree.TreeEntry.{TreeEntry}
-use Rattle.cv_scan.specs.Layers.{tree_in}
-use Rattle.cv_scan.proofs.Scans.{layers_bad, layers_good, trees_few}
+use Rattle.cv_scan.specs.code.Layers.{tree_in}
+use Rattle.cv_scan.proofs.Scans.{layers_bad, layers_good, trees_within}
 use Rattle.cv_scan.proofs.scan.scan_loaded.Goals as goal
 
 abbrev entries_of : Bor Tree → List TreeEntry
@@ -10,7 +10,7 @@ entries_of tree = tree.now.entries
 
 pub scan_trees-requires : goal.scan_trees-requires
 scan_trees-requires c = record {
-  few = trees_few (tree_in c.args.loaded.now) entries_of c.args.layers.now c.deref.result.now (c.in-Ok.ensures ∙ ap (λ ts. Ok (map entries_of ts)) (sym c.deref.ensures.value)) c.requires.few;
+  at_most_128_layers = trees_within (tree_in c.args.loaded.now) entries_of c.args.layers.now c.deref.result.now (c.in-Ok.ensures ∙ ap (λ ts. Ok (map entries_of ts)) (sym c.deref.ensures.value)) c.requires.at_most_128_layers;
 }
 
 pub returns-in-Ok : goal.returns-in-Ok

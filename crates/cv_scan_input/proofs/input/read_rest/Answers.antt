@@ -1,22 +1,22 @@
--- A refused line is what the whole asks, and the last call took within the limit too.
+-- A refused line is the request of the whole, and the last call took within the limit too.
 use Rattle.std.specs.Prelude.{Ok}
 use Rattle.std.proofs.Common.{◌∙◌, subst}
 use Rattle.cv_io.specs.Reader.{Reads, reading}
-use Rattle.cv_scan_input.proofs.Going.{going_refused, going_handed}
+use Rattle.cv_scan_input.proofs.Progress.{progress_refused, progress_handed}
 use Rattle.cv_scan_input.proofs.Taken.{taken_from}
 use Rattle.cv_scan_input.proofs.input.read_rest.Goals as goal
 
-pub returns-in_err-records-clause-told : goal.returns-in_err-records-clause-told
-returns-in_err-records-clause-told g c =
-    let left = g.S.Source.left in
-    let whole = reading c.args.reader (left c.args.input.now) in
-    let before = reading c.loop-records.reader (left c.loop-records.input) in
-    let now = reading c.next.new.self (left c.next.new.input) in
+pub returns-in_err-records-clause-request : goal.returns-in_err-records-clause-request
+returns-in_err-records-clause-request g c =
+    let remaining = g.S.Source.remaining in
+    let whole = reading c.args.reader (remaining c.args.input.now) in
+    let before = reading c.loop-records.reader (remaining c.loop-records.input) in
+    let now = reading c.next.new.self (remaining c.next.new.input) in
     let read = subst (λ line. Reads before now (Ok line)) c.in-Text.is c.in_ok-text.ensures.reads in
     let error = c.in_err-records.field-0.0 in
-    going_handed c.args.manifest whole error _
-    (going_refused c.args.manifest whole before now c.loop-records.records _ c.in-Text.text error c.loop-records.invariant.told read
-    (rw (← c.as_slice.ensures) c.in_err-records.ensures.told))
+    progress_handed c.args.manifest whole error _
+    (progress_refused c.args.manifest whole before now c.loop-records.records _ c.in-Text.text error c.loop-records.invariant.request read
+    (rw (← c.as_slice.ensures) c.in_err-records.ensures))
     c.from_residual-in_err-records.ensures.1
 
 pub returns-in_err-text-clause-limit : goal.returns-in_err-text-clause-limit

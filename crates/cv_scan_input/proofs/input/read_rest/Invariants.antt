@@ -1,22 +1,22 @@
--- The records so far, with what is left to read, are all, and each line took of the room.
+-- The records so far, with the lines that are not yet read, are all, and each line took of the room.
 use Rattle.std.specs.Prelude.{◌≡◌, ◌+◌, ◌^◌, ◌≤◌, true, false}
 use Rattle.std.specs.Io.KnownBytes.{IsAtEnd}
 use Rattle.cv_io.specs.Reader.{reading, room_of}
-use Rattle.cv_scan_input.specs.Passed.{Passed}
-use Rattle.cv_scan_input.specs.Taken.{IsTakenTo}
-use Rattle.cv_scan_input.proofs.Going.{Going}
+use Rattle.cv_scan_input.specs.code.Accepted.{Accepted}
+use Rattle.cv_scan_input.specs.code.TakenParts.{IsTakenTo}
+use Rattle.cv_scan_input.proofs.Progress.{Progress}
 use Rattle.cv_scan_input.proofs.input.read_rest.Given as goal
 
 abbrev pub invariant-loop-records : goal.invariant-loop-records
 invariant-loop-records g l = record {
   going : l.reader.spent ≡ false;
-  told : Going l.fn.manifest (reading l.fn.reader (g.S.Source.left l.fn.input)) (reading l.reader (g.S.Source.left l.input)) l.records (l.number + 1);
+  request : Progress l.fn.manifest (reading l.fn.reader (g.S.Source.remaining l.fn.input)) (reading l.reader (g.S.Source.remaining l.input)) l.records (l.number + 1);
   before : l.reader.ended ≡ false → l.fn.reader.ended ≡ false;
-  passed : l.reader.ended ≡ false → Passed l.fn.manifest l.fn.reader l.reader l.records (l.number + 1) (g.S.Source.left l.fn.input) (g.S.Source.left l.input);
+  accepted : l.reader.ended ≡ false → Accepted l.fn.manifest l.fn.reader l.reader l.records (l.number + 1) (g.S.Source.remaining l.fn.input) (g.S.Source.remaining l.input);
   limit : l.reader.max_line ≡ 67108864;
   inputs : l.reader.max_input ≡ 2 ^ 36;
-  taken : IsTakenTo l.fn.reader.taken l.reader.taken (g.S.Source.left l.fn.input) (g.S.Source.left l.input);
-  seen : l.reader.ended ≡ true → IsAtEnd (g.S.Source.left l.input);
+  taken : IsTakenTo l.fn.reader.taken l.reader.taken (g.S.Source.remaining l.fn.input) (g.S.Source.remaining l.input);
+  seen : l.reader.ended ≡ true → IsAtEnd (g.S.Source.remaining l.input);
   room : l.number + room_of l.reader ≤ 2 ^ 36 + 1;
   later : g.S.Source.faults l.fn.input ≤ g.S.Source.faults l.input;
 }

@@ -3,5 +3,5 @@ use Rattle.cv_base.proofs.path.RelPath.is_above.Goals as goal
 
 pub returns : goal.returns
 returns c =
-    rw (c.is_above_text.ensures, c.as_bytes.ensures.value, c.as_bytes-2.ensures.value, ← c.plain_text.ensures.parts, ← c.plain_text-2.ensures.parts)
-    (above_components c.plain_text.result.now c.plain_text-2.result.now)
+    rw (c.is_above_text.ensures, c.as_bytes.ensures.value, c.as_bytes-2.ensures.value, ← c.text.ensures.parts, ← c.text-2.ensures.parts)
+    (above_components c.text.result.now c.text-2.result.now)

@@ -1,9 +1,9 @@
 use Rattle.std.proofs.Common.{◌≡◌, ℕ, List, [], ◌∷◌, ◌++◌, ◌||◌, Bor, Vec, Global, map, ap, ◌∙◌}
 use Rattle.std.proofs.lemmas.List.{map-append}
 use Rattle.cv_base.specs.Path.{components}
-use Rattle.cv_overlay.specs.Cover.{hides_text}
+use Rattle.cv_overlay.specs.code.Cover.{hides_text}
 use Rattle.cv_overlay.specs.Mark.{at_or_above}
-use Rattle.cv_overlay.proofs.CoverWords.{target_some, told_whole, whole_is}
+use Rattle.cv_overlay.proofs.CoverLemmas.{target_some, hides_whole, whole_is}
 use Rattle.cv_overlay.proofs.cover.Covers.add_target.Goals as goal
 
 pub returns : goal.returns
@@ -16,6 +16,6 @@ returns c = λ t.
     ap (map (λ (w : Vec ℕ Global). w.items)) c.in_ok-push.ensures.items ∙ map-append (λ (w : Vec ℕ Global). w.items) covers.whole.items (c.in_ok-target_text.field-0 ∷ []) in
     let parts = c.in_ok-target_text.ensures c.requires in
     ap (λ (w : List (List ℕ)). hides_text w below covers.all t) more
-    ∙ told_whole whole below covers.all t target
+    ∙ hides_whole whole below covers.all t target
     ∙ ap (λ h. hides_text whole below covers.all t || h) (whole_is target t (target_some target (components c.args.text.now) parts))
     ∙ ap (λ p. hides_text whole below covers.all t || at_or_above p (components t)) parts

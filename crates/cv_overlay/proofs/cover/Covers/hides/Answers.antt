@@ -1,7 +1,7 @@
 use Rattle.std.proofs.Common.{ℕ, true, false, List, Bor, Vec, Global, map, refl, sym, ap, ◌∙◌}
 use Rattle.std.proofs.Math.Bool.{and-false, and-true}
 use Rattle.cv_base.specs.Texts.{is_cons, has_text}
-use Rattle.cv_overlay.proofs.CoverWords.{empty_text, looked_so, some_text}
+use Rattle.cv_overlay.proofs.CoverLemmas.{empty_text, lookup_so, some_text}
 use Rattle.cv_overlay.proofs.cover.Covers.hides.Goals as goal
 
 pub returns-then-has_front : goal.returns-then-has_front
@@ -10,7 +10,7 @@ returns-then-has_front c =
     let whole : List (List ℕ) = map (λ (w : Vec ℕ Global). w.items) covers.whole.items in
     let below : List (List ℕ) = map (λ (b : Bor (List ℕ)). b.now) covers.below.items in
     let t = c.args.text.now in
-    looked_so whole below covers.all t true (has_text whole t) (is_cons t) (sym c.if-has_front.true ∙ c.has_front.ensures) refl refl
+    lookup_so whole below covers.all t true (has_text whole t) (is_cons t) (sym c.if-has_front.true ∙ c.has_front.ensures) refl refl
 
 pub returns-then-has_whole : goal.returns-then-has_whole
 returns-then-has_whole c =
@@ -18,7 +18,7 @@ returns-then-has_whole c =
     let whole : List (List ℕ) = map (λ (w : Vec ℕ Global). w.items) covers.whole.items in
     let below : List (List ℕ) = map (λ (b : Bor (List ℕ)). b.now) covers.below.items in
     let t = c.args.text.now in
-    looked_so whole below covers.all t false true (is_cons t) (sym c.if-has_front.false ∙ c.has_front.ensures)
+    lookup_so whole below covers.all t false true (is_cons t) (sym c.if-has_front.false ∙ c.has_front.ensures)
     (sym c.if-has_whole.true ∙ c.has_whole.ensures ∙ ap (λ (l : List (Vec ℕ Global)). has_text (map (λ (w : Vec ℕ Global). w.items) l) t) c.deref.ensures.value) refl
 
 pub returns-then-is_empty : goal.returns-then-is_empty
@@ -28,7 +28,7 @@ returns-then-is_empty c =
     let below : List (List ℕ) = map (λ (b : Bor (List ℕ)). b.now) covers.below.items in
     let t = c.args.text.now in
     sym (and-false covers.all)
-    ∙ looked_so whole below covers.all t false false false (sym c.if-has_front.false ∙ c.has_front.ensures)
+    ∙ lookup_so whole below covers.all t false false false (sym c.if-has_front.false ∙ c.has_front.ensures)
     (sym c.if-has_whole.false ∙ c.has_whole.ensures ∙ ap (λ (l : List (Vec ℕ Global)). has_text (map (λ (w : Vec ℕ Global). w.items) l) t) c.deref.ensures.value)
     (sym (empty_text t c.is_empty.result c.is_empty.ensures c.if-is_empty.true))
 
@@ -39,6 +39,6 @@ returns c =
     let below : List (List ℕ) = map (λ (b : Bor (List ℕ)). b.now) covers.below.items in
     let t = c.args.text.now in
     sym (and-true covers.all)
-    ∙ looked_so whole below covers.all t false false true (sym c.if-has_front.false ∙ c.has_front.ensures)
+    ∙ lookup_so whole below covers.all t false false true (sym c.if-has_front.false ∙ c.has_front.ensures)
     (sym c.if-has_whole.false ∙ c.has_whole.ensures ∙ ap (λ (l : List (Vec ℕ Global)). has_text (map (λ (w : Vec ℕ Global). w.items) l) t) c.deref.ensures.value)
     (sym (some_text t c.is_empty.result c.is_empty.ensures c.if-is_empty.false))

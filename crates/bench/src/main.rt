@@ -1,0 +1,81 @@
+//! Does one piece of cvwatch's work over a large input, or many times over, so that a script of bench/ can time it.
+//!
+//! ```text
+//! bench lines                              counts the lines of standard input
+//! bench match deb|apk|npm [PAIRS [TIMES]]  prepares a record TIMES times, asks PAIRS times whether it affects a package
+//! bench orders deb|apk [PAIRS [LENGTH]]    compares PAIRS pairs of versions: usual ones, or such of LENGTH bytes
+//! bench osv                                counts the OSV records of the JSON list on standard input
+//! bench overlay [ENTRIES [WHITEOUTS]]      lays ten layers on each other, of ENTRIES entries each
+//! bench status                             counts the packages of the dpkg status file on standard input
+//! ```
+//!
+//! It prints the piece of work and a count of what came of it. Without arguments it does a little of each.
+#![tactic(auto)]
+
+mod documents;
+mod flaw;
+mod lines;
+mod matching;
+mod orders;
+mod overlay;
+
+use crate::flaw::Flaw;
+use crate::orders::Order;
+use cv_base::NoMemory;
+use std::{env, io};
+
+const WORKS: [&str; 6] = ["lines", "match", "orders", "osv", "overlay", "status"];
+
+fn main(rt: HostRuntime) -> io::Result<()> {
+    let mut arguments = Vec::new(rt.alloc());
+    for argument in env::args(&rt)?.skip(1) {
+        arguments.push(argument)?;
+    }
+    match arguments.as_slice().split_first() {
+        Some((work, rest)) => report(&rt, work.as_str(), rest),
+        None => report_all(&rt),
+    }
+}
+
+fn report_all(rt: &HostRuntime) -> io::Result<()> {
+    for work in WORKS {
+        report(rt, work, &[])?;
+    }
+    Ok(())
+}
+
+fn report(rt: &HostRuntime, work: &str, arguments: &[String]) -> io::Result<()> {
+    match run(rt, work, arguments) {
+        Ok(count) => println!(rt; "{work} {count}"),
+        Err(NoMemory) => println!(rt; "{work}: out of memory"),
+    }
+}
+
+/// What the work counts, and 0 for an input that is refused or for a work that there is not.
+fn run(rt: &HostRuntime, work: &str, arguments: &[String]) -> Result<u64, NoMemory> {
+    let alloc = rt.alloc();
+    let kind = arguments.first().map_or("deb", String::as_str);
+    match work {
+        "lines" => lines::count(alloc, rt.reader()),
+        "match" => {
+            let (pairs, times) = (number(arguments, 1, 100), number(arguments, 2, 1));
+            matching::hits(alloc, Flaw::of(kind), pairs, times)
+        }
+        "orders" => {
+            let (pairs, length) = (number(arguments, 1, 1000), number(arguments, 2, 0));
+            orders::less(alloc, Order::of(kind), pairs, length)
+        }
+        "osv" => documents::records(alloc, rt.reader()),
+        "overlay" => overlay::entries(alloc, number(arguments, 0, 200), number(arguments, 1, 0)),
+        "status" => documents::packages(alloc, rt.reader()),
+        _ => Ok(0),
+    }
+}
+
+/// The number that stands among the arguments at an index, or another one where none stands there.
+fn number(arguments: &[String], index: usize, other: u64) -> u64 {
+    match arguments.get(index) {
+        Some(argument) => argument.as_str().parse().unwrap_or(other),
+        None => other,
+    }
+}

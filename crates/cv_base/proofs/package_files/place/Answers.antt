@@ -1,6 +1,0 @@
-use Rattle.std.proofs.Common.{refl}
-use Rattle.cv_base.proofs.PathLemmas.{join_components}
-use Rattle.cv_base.proofs.package_files.place.Goals as goal
-
-pub returns : goal.returns
-returns c = rw (c.place_of_text.ensures, ← c.plain_text.ensures.parts, join_components c.plain_text.result.now) refl

@@ -1,5 +1,0 @@
-mod Digests
-mod Layers
-mod Packages
-mod Paths
-mod Places

@@ -1,0 +1,5 @@
+pub mod Follows
+pub mod NameLaws
+pub mod Names
+pub mod NextWord
+pub mod Steps

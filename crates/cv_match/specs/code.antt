@@ -1,0 +1,5 @@
+pub mod Hit
+pub mod Keyed
+pub mod Kinds
+pub mod Reading
+pub mod Walk

@@ -1,0 +1,136 @@
+-- The packages of small roots, computed.
+use Rattle.std.specs.Prelude.{◌≡◌, ℕ, nat_lt, true, List, [], ◌∷◌, codes, length, Option, Some, None, Ok, Err, refl}
+use lib.Utf8.{encode}
+use Rattle.std.specs.Str.{is_utf8, chars}
+use Rattle.cv_base.specs.Path.{components}
+use Rattle.cv_base.specs.declared.fault.What.TheVariants as what
+use Rattle.cv_base.specs.declared.limits.TheConstants.{PACKAGE_FILE_LIMIT}
+use Rattle.cv_base.specs.declared.«package».Package.{Package}
+use Rattle.cv_base.specs.declared.«package».PackageKind.TheVariants.{Deb, Apk, Npm}
+use Rattle.cv_base.specs.declared.places.Place.{Place}
+use Rattle.cv_base.specs.declared.tree.Content.TheVariants as content
+use Rattle.cv_base.specs.declared.tree.Node.TheVariants as node
+use Rattle.cv_base.specs.declared.tree.TreeEntry.{TreeEntry}
+use Rattle.cv_packages.specs.Found.{found_in}
+use Rattle.cv_packages.specs.Packages.{assembled, packages}
+use Rattle.cv_npm.specs.declared.package.NpmPackage.{NpmPackage}
+use Rattle.cv_packages.specs.declared.found.FileFound.{FileFound}
+use Rattle.cv_packages.specs.declared.found.Found.TheVariants as found
+use Rattle.cv_packages.specs.declared.error.FileFault.TheVariants.{BadFile, TooLarge}
+
+abbrev file : List ℕ → List ℕ → TreeEntry
+file text bytes = record { path = components text; node = node.File (content.Bytes bytes) }
+
+abbrev other : List ℕ → TreeEntry
+other text = record { path = components text; node = node.Other }
+
+abbrev large : List ℕ → TreeEntry
+large text = record { path = components text; node = node.File content.TooLarge }
+
+abbrev etc_debian : TreeEntry
+etc_debian = file (codes "etc/os-release") (codes "ID=debian\nVERSION_ID=12\n")
+
+abbrev usr_alpine : TreeEntry
+usr_alpine = file (codes "usr/lib/os-release") (codes "ID=alpine\nVERSION_ID=3.18.4\n")
+
+-- a status file with one package, and the package
+abbrev zlib : TreeEntry
+zlib = file (codes "var/lib/dpkg/status") (codes "Package: zlib\nStatus: install ok installed\nVersion: 1\n")
+
+abbrev zlib_of : List ℕ → Package
+zlib_of ecosystem = record {
+  kind = Deb;
+  path = components (codes "var/lib/dpkg/status");
+  name = codes "zlib";
+  version = codes "1";
+  source = codes "zlib";
+  source_version = codes "1";
+  arch = [];
+  ecosystem = ecosystem;
+}
+
+abbrev debian_found : FileFound
+debian_found = record { path = components (codes "etc/os-release"); found = found.Os (record { id = codes "debian"; version = Some (codes "12") }) }
+
+abbrev npm_found : List ℕ → Option NpmPackage → FileFound
+npm_found text named = record { path = components text; found = found.Npm named }
+
+-- etc/os-release counts before usr/lib/os-release, as also a file without assignments
+etc_counts : (packages (etc_debian ∷ usr_alpine ∷ zlib ∷ []) ≡ Ok (zlib_of (codes "Debian:12") ∷ []))
+    × (packages (file (codes "etc/os-release") [] ∷ usr_alpine ∷ zlib ∷ []) ≡ Ok (zlib_of (codes "linux") ∷ []))
+unfolding packages is_utf8 chars encode
+etc_counts = (refl, refl)
+
+-- if the former is no file, as a link, the latter counts
+usr_counts : packages (other (codes "etc/os-release") ∷ usr_alpine ∷ zlib ∷ []) ≡ Ok (zlib_of (codes "Alpine:v3.18") ∷ [])
+unfolding packages is_utf8 chars encode
+usr_counts = refl
+
+-- without either the system is unknown
+no_system : packages (zlib ∷ []) ≡ Ok (zlib_of (codes "unknown") ∷ [])
+unfolding packages
+no_system = refl
+
+-- one that does not count is ignored, and one that counts may not be too large
+large_system : (packages (etc_debian ∷ large (codes "usr/lib/os-release") ∷ []) ≡ Ok []) × (packages (large (codes "etc/os-release") ∷ usr_alpine ∷ []) ≡ Err (TooLarge (components (codes "etc/os-release"))))
+unfolding packages
+large_system = (refl, refl)
+
+-- a paragraph without a Status is a package in a file of the folder, and a fault in the status file
+status_optional : packages (file (codes "var/lib/dpkg/status.d/base") (codes "Package: base-files\nVersion: 12.4\nArchitecture: amd64\n") ∷ [])
+    ≡ Ok (record {
+      kind = Deb;
+      path = components (codes "var/lib/dpkg/status.d/base");
+      name = codes "base-files";
+      version = codes "12.4";
+      source = codes "base-files";
+      source_version = codes "12.4";
+      arch = codes "amd64";
+      ecosystem = codes "unknown";
+    } ∷ [])
+unfolding packages
+status_optional = refl
+
+-- an apk package has its origin as its source, and its own version for that
+apk : packages (file (codes "lib/apk/db/installed") (codes "P:libssl3\nV:3.1.4-r1\nA:x86_64\no:openssl\n") ∷ usr_alpine ∷ [])
+    ≡ Ok (record {
+      kind = Apk;
+      path = components (codes "lib/apk/db/installed");
+      name = codes "libssl3";
+      version = codes "3.1.4-r1";
+      source = codes "openssl";
+      source_version = codes "3.1.4-r1";
+      arch = codes "x86_64";
+      ecosystem = codes "Alpine:v3.18";
+    } ∷ [])
+unfolding packages is_utf8 chars encode
+apk = refl
+
+-- an npm package is its own source, has no architecture, and is of npm on every system; a file that names none has none
+npm : assembled (debian_found ∷ npm_found (codes "node_modules/@s/n/package.json") (Some (record { name = codes "@s/n"; version = codes "1.0.0" })) ∷ npm_found (codes "node_modules/x/package.json") None ∷ [])
+    ≡ Ok (record {
+      kind = Npm;
+      path = components (codes "node_modules/@s/n/package.json");
+      name = codes "@s/n";
+      version = codes "1.0.0";
+      source = codes "@s/n";
+      source_version = codes "1.0.0";
+      arch = [];
+      ecosystem = codes "npm";
+    } ∷ [])
+npm = refl
+
+-- the first refused file in the order of paths is named, whatever its reader
+first_refused : (packages (file (codes "lib/apk/db/installed") (codes "P:a\nV:1\nx\n") ∷ large (codes "var/lib/dpkg/status") ∷ []) ≡ Err (BadFile (components (codes "lib/apk/db/installed")) 3 what.NoColon))
+    × (packages (zlib ∷ large (codes "var/lib/dpkg/status.d/a") ∷ file (codes "var/lib/dpkg/status.d/b") (codes "nocolon\n") ∷ []) ≡ Err (TooLarge (components (codes "var/lib/dpkg/status.d/a"))))
+unfolding packages
+first_refused = (refl, refl)
+
+-- a file away from the places, and what is no file at one of them
+ignored : packages (large (codes "srv/data") ∷ other (codes "var/lib/dpkg/status") ∷ []) ≡ Ok []
+unfolding packages
+ignored = refl
+
+-- a file of more bytes than the limit is too large at each place
+large_file : (place : Place) (bytes : List ℕ) → nat_lt PACKAGE_FILE_LIMIT (length bytes) ≡ true → found_in place (content.Bytes bytes) ≡ found.TooLarge
+large_file place bytes h = rw h refl

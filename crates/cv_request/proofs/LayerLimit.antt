@@ -1,0 +1,45 @@
+-- A manifest has at most `MAX_LAYERS` layers.
+use Rattle.std.proofs.Common.{◌≡◌, ◌≤◌, ℕ, ◌+◌, Bool, true, false, List, [], ◌∷◌, length, refl, ap, sym, ◌∙◌, arith}
+use Rattle.std.proofs.lemmas.Bool.Decides.{nat_tests}
+use Rattle.std.specs.Prelude.{◌==◌, nat_lt, cond, Result, Ok, Err, Option}
+use Rattle.serde_json.specs.Data.{Data, Items, no_items, item}
+use Rattle.cv_base.specs.Results.{◌>>=◌}
+use Rattle.cv_base.specs.declared.limits.TheConstants.{MAX_LAYERS}
+use Rattle.cv_request.specs.Manifest.{checked_layers, count, layer_of, layers_from, layers_in, list_or}
+use Rattle.cv_request.specs.Fault.{refusing}
+use Rattle.cv_request.specs.declared.error.RequestWhat.{RequestWhat}
+use Rattle.cv_request.specs.declared.error.RequestWhat.TheVariants.{BadLayers, NoLayers, TooManyLayers}
+
+-- both steps of what was read were read
+bind_ok : {A B : Type 0} (r : Result A RequestWhat) (f : A → Result B RequestWhat) (y : B) → (r >>= f) ≡ Ok y → (x : A) × (r ≡ Ok x) × (f x ≡ Ok y)
+bind_ok (Ok x) f y h = (x, refl, h)
+bind_ok (Err what) f y h = absurd (cc)
+
+-- as many layers are read as there are items
+layers_many : (n : ℕ) (items : Items) (layers : List (List ℕ)) → layers_from n items ≡ Ok layers → length layers ≡ count items
+layers_many n no_items layers h = let k : [] ≡ layers = cc in ap length (sym k)
+layers_many n (item d ds) layers h =
+    let first = bind_ok (layer_of n d) _ layers h in
+    let later = bind_ok (layers_from (n + 1) ds) _ layers first.2 in
+    let k : first.0 ∷ later.0 ≡ layers = cc (later.2) in
+    let many = layers_many (n + 1) ds later.0 later.1 in
+    rw (← k, many) (omega arith)
+
+checked_by : (items : Items) (layers : List (List ℕ)) (is_none is_many : Bool) → nat_lt MAX_LAYERS (count items) ≡ is_many
+    → cond is_none (Err NoLayers) (cond is_many (Err TooManyLayers) (layers_from 0 items)) ≡ Ok layers → length layers ≤ MAX_LAYERS
+checked_by items layers true is_many e h = absurd (cc)
+checked_by items layers false true e h = absurd (cc)
+checked_by items layers false false e h = let many = layers_many 0 items layers h in grind (arith, nat_tests)
+
+layers_within : (found : Option Data) (layers : List (List ℕ)) → layers_in found ≡ Ok layers → length layers ≤ MAX_LAYERS
+layers_within found layers h =
+    let listed = bind_ok (list_or BadLayers found) checked_layers layers h in
+    checked_by listed.0 layers (count listed.0 == 0) (nat_lt MAX_LAYERS (count listed.0)) refl listed.2
+
+-- the same by what a call answers
+pub read_within : (found : Option Data) (layers : List (List ℕ)) → refusing (layers_in found) ≡ Ok layers → length layers ≤ MAX_LAYERS
+read_within found layers h = by_read (layers_in found) refl h
+  where
+    by_read : (r : Result (List (List ℕ)) RequestWhat) → layers_in found ≡ r → refusing r ≡ Ok layers → length layers ≤ MAX_LAYERS
+    by_read (Ok xs) e k = let same : xs ≡ layers = cc (k) in layers_within found layers (e ∙ ap Ok same)
+    by_read (Err what) e k = absurd (cc)

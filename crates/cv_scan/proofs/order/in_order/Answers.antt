@@ -1,9 +1,0 @@
-use Rattle.std.proofs.Common.{subst, sym, ◌∙◌}
-use Rattle.std.specs.List.Sorted.{IsStrictlySortedBy}
-use Rattle.cv_base.proofs.InOrder.{order_rises}
-use Rattle.cv_match.specs.Findings.{finding_cmp, finding_total}
-use Rattle.cv_scan.proofs.order.in_order.Goals as goal
-
-pub returns-clause-rises : goal.returns-clause-rises
-returns-clause-rises c =
-    subst (IsStrictlySortedBy finding_cmp) (sym (c.of.ensures ∙ c.in_ok-ordered.ensures)) (order_rises finding_total c.args.found.items)

@@ -1,0 +1,4 @@
+-- Words that only retell private functions.
+pub mod Accepted
+pub mod Remaining
+pub mod TakenParts

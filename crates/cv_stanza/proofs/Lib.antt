@@ -1,0 +1,4 @@
+pub mod First
+pub mod Parts
+pub mod Reading
+pub mod Values

@@ -1,0 +1,2 @@
+-- Data of tests.
+pub mod Layers
