@@ -9,4 +9,4 @@ folder_text digest = codes "layers/sha256/" ++ encode_lower digest
 
 -- the most entries that a walk lists: one more than a layer may have, so that a layer with more entries is refused
 abbrev pub most_entries : ℕ
-most_entries = 1000001
+most_entries = MAX_ENTRIES + 1

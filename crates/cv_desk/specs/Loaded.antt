@@ -2,6 +2,7 @@
 use Rattle.std.specs.Prelude.{ℕ, Bool, true, nat_lt, is_none, if◌then◌else◌, List, length, Option}
 use Rattle.cv_base.specs.Path.{Path}
 use Rattle.cv_base.specs.Place.{place_of}
+use Rattle.cv_base.specs.declared.limits.TheConstants.{PACKAGE_FILE_LIMIT}
 use Rattle.cv_base.specs.declared.tree.Content.{Content}
 use Rattle.cv_base.specs.declared.tree.Content.TheVariants.{Bytes, TooLarge, Unread}
 use Rattle.cv_base.specs.declared.tree.Kind.{Kind}
@@ -17,7 +18,7 @@ use Rattle.cv_desk.specs.declared.desk.FileRead.TheVariants as read
 -- what is kept of a file
 abbrev pub content_of : Path → List ℕ → Content
 content_of path bytes =
-    if is_none (place_of path) then Unread else (if nat_lt 33554432 (length bytes) then TooLarge else Bytes bytes)
+    if is_none (place_of path) then Unread else (if nat_lt PACKAGE_FILE_LIMIT (length bytes) then TooLarge else Bytes bytes)
 
 -- an item as it is loaded at a path
 abbrev pub node_of : Path → Item → Node
@@ -37,7 +38,7 @@ answered read.NotFile = node.Other
 
 -- a file as it is loaded, if this is at its path
 abbrev pub loaded_file : Path → Option Item → Node
-loaded_file path found = if is_none (place_of path) then node.File Unread else answered (file_read found 33554432)
+loaded_file path found = if is_none (place_of path) then node.File Unread else answered (file_read found PACKAGE_FILE_LIMIT)
 
 -- a listed entry as it is loaded
 abbrev pub loaded_kind : Path → Kind → Option Item → Node

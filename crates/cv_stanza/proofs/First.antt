@@ -4,13 +4,14 @@ use Rattle.std.specs.Bool.{⊤}
 use Rattle.std.specs.Prelude.{IfErr, IfSome}
 use Rattle.std.specs.List.{AllByRecursion, flat_map, onto_first, slice_split}
 use Rattle.std.specs.Option.{option_map_or, option_or}
+use Rattle.cv_base.specs.Lines.{Line, numbered}
 use Rattle.cv_base.specs.Answer.{Yields}
 use Rattle.cv_base.specs.Reading.{read_fault}
 use Rattle.cv_base.specs.Results.{or_first_fault}
 use Rattle.cv_base.specs.declared.fault.FileBad.{FileBad}
 use Rattle.cv_base.specs.declared.fault.ReadBad.{ReadBad}
 use Rattle.cv_base.specs.declared.fault.What.{What}
-use Rattle.cv_stanza.specs.Blocks.{BlockRules, IsFirstBad, Line, all_faults, at, end_faults, faults, is_gap, last_number, line_faults, numbered, read_blocks, texts}
+use Rattle.cv_stanza.specs.Blocks.{BlockRules, IsFirstBad, all_faults, at, end_faults, faults, is_gap, last_number, line_faults, read_blocks, texts}
 
 -- the lines of faults ascend, from this one on
 abbrev From : ℕ → List FileBad → Type 0

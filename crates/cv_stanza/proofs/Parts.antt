@@ -2,8 +2,9 @@
 use Rattle.std.proofs.Common.{◌≡◌, ℕ, Bool, true, false, cond, List, [], ◌∷◌, ◌++◌, Option, Some, refl, sym, ap, ◌∙◌, append_assoc, append-nil}
 use Rattle.std.specs.List.{onto_first, slice_split}
 use Rattle.std.specs.Option.{option_or}
+use Rattle.cv_base.specs.Lines.{Line}
 use Rattle.cv_base.specs.declared.fault.What.{What}
-use Rattle.cv_stanza.specs.Blocks.{Line, at, is_gap, last_number, line_faults, texts}
+use Rattle.cv_stanza.specs.Blocks.{at, is_gap, last_number, line_faults, texts}
 
 -- the last line's number
 pub last_snoc : (p : List Line) (l : Line) → last_number (p ++ l ∷ []) ≡ Some l.number

@@ -3,12 +3,13 @@ use Rattle.std.proofs.Common.{◌≡◌, ℕ, ◌+◌, Bool, true, false, if◌t
 use Rattle.std.specs.Prelude.{IfSome}
 use Rattle.std.specs.List.{flat_map, onto_first, slice_split}
 use Rattle.std.specs.Option.{option_map_or, option_or}
+use Rattle.cv_base.specs.Lines.{Line, numbered}
 use Rattle.cv_base.specs.Reading.{read_fault}
 use Rattle.cv_base.specs.Results.{◌>>=◌, or_first_fault}
 use Rattle.cv_base.specs.declared.fault.FileBad.{FileBad}
 use Rattle.cv_base.specs.declared.fault.ReadBad.{ReadBad}
 use Rattle.cv_base.specs.declared.fault.What.{What}
-use Rattle.cv_stanza.specs.Blocks.{BlockRules, Line, at, end_faults, faults, is_gap, items, last_number, line_faults, numbered, read_blocks, texts}
+use Rattle.cv_stanza.specs.Blocks.{BlockRules, at, end_faults, faults, is_gap, items, last_number, line_faults, read_blocks, texts}
 use Rattle.cv_stanza.specs.code.Steps.{Agrees, BlockSteps, at_line, closed, ended, or_fault, read_on}
 use Rattle.cv_stanza.proofs.Parts.{first_fault, glue, glue_first, glue_none, last_snoc, texts_snoc}
 

@@ -3,9 +3,10 @@
 --
 -- `read_blocks rules lines` takes the rules of a format and the lines of a file. It gives what the blocks are read into, in
 -- order, or the first fault of the file. It lists all faults of all blocks, by line, and stops at none.
-use Rattle.std.specs.Prelude.{ℕ, ◌+◌, ◌≤◌, Bool, true, false, List, [], ◌∷◌, ◌++◌, map, Option, None, Some, Result}
+use Rattle.std.specs.Prelude.{ℕ, ◌≤◌, Bool, true, false, List, [], ◌∷◌, ◌++◌, map, Option, None, Some, Result}
 use Rattle.std.specs.List.{AllByRecursion, flat_map, slice_split}
 use Rattle.std.specs.Option.{option_map_or, option_or}
+use Rattle.cv_base.specs.Lines.{Line, numbered}
 use Rattle.cv_base.specs.Results.{or_first_fault}
 use Rattle.cv_base.specs.Texts.{is_nil}
 use Rattle.cv_base.specs.declared.fault.FileBad.{FileBad}
@@ -17,16 +18,6 @@ pub record BlockRules (A : Type 0) : Type 0 where
   pub line_fault : List (List ℕ) → List ℕ → Option What
   pub whole_fault : List (List ℕ) → Option What
   pub items : List (List ℕ) → List A
-
--- a line with its number in the file
-pub record Line : Type 0 where
-  pub number : ℕ
-  pub text : List ℕ
-
--- lines are numbered on from a number
-abbrev pub numbered : ℕ → List (List ℕ) → List Line
-numbered n [] = []
-numbered n (t ∷ ts) = record { number = n; text = t } ∷ numbered (n + 1) ts
 
 -- an empty line
 abbrev pub is_gap : Line → Bool
