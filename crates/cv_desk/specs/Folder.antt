@@ -1,6 +1,7 @@
 -- Layers as folders (defined by this project): the folder of a layer is `layers/sha256/` and the 64 digits of its digest, below
 -- the working directory.
-use Rattle.std.specs.Prelude.{ℕ, List, ◌++◌, codes}
+use Rattle.std.specs.Prelude.{ℕ, ◌+◌, List, ◌++◌, codes}
+use Rattle.cv_base.specs.declared.limits.TheConstants.{MAX_ENTRIES}
 use Rattle.hex.specs.Hex.{encode_lower}
 
 -- the folder of a layer

@@ -10,7 +10,7 @@ ghost use Rattle.cv_desk.specs.code.Walked.{IsWithin, is_failure, joined};
 
 use crate::desk::FileRead;
 use crate::failure::{FolderError, FolderFailure};
-use cv_base::{Digest, Kind, ListEntry, PathError, RelPath};
+use cv_base::{Digest, Kind, ListEntry, MAX_ENTRIES, PathError, RelPath};
 use cv_seq::{NoMemory, Seq};
 use std::alloc::Global;
 use std::fs::{self, DirEntry, Metadata};
@@ -18,7 +18,7 @@ use std::io::{self, ErrorKind};
 use std::rt::Files;
 
 /// A walk ends after so many entries: one more than a layer may have.
-const MOST_ENTRIES: usize = 1_000_001;
+const MOST_ENTRIES: usize = MAX_ENTRIES + 1;
 
 /// Lists the entries below a layer's folder in the order of their paths, or says that there is no such folder.
 pub fn list_folder<R: Files + AllocGlobal + Clone + Drop>(
