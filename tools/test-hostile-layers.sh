@@ -129,6 +129,13 @@ same 'an entry below a file' "$status" 1
 has 'an entry below a file' "$said" 'lies below a file'
 
 unpack <<END
+file a text
+file a/.wh.b text
+END
+same 'a mark below a file' "$status $made" '0 f a'
+has 'a mark below a file' "$said" "left out: 'a/.wh.b': a mark below a file"
+
+unpack <<END
 file . text
 END
 same 'a file that stands for the layer' "$status" 1
@@ -219,6 +226,13 @@ END
 head -c 1300 "$work/whole.tar" >"$work/layer.tar"
 unpack_tar
 same 'a layer that is cut short' "$status" 1
+
+# as `umoci insert` leaves it out: the last entry begins at 1024, and has 9 bytes behind its header
+for size in 1545 1544; do
+    head -c "$size" "$work/whole.tar" >"$work/layer.tar"
+    unpack_tar
+    same "a layer of $size bytes without the end of its last block" "$status" "$((size < 1545))"
+done
 
 { head -c 1024 "$work/whole.tar"; printf 'x%.0s' {1..1024}; tail -c +2049 "$work/whole.tar"; } >"$work/layer.tar"
 unpack_tar
