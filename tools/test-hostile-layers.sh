@@ -30,7 +30,7 @@ unpack_tar() {
 check_outside() {
     same 'outside' "$(tree "$work/box" | grep -v '^. inner')" $'d outside\nf outside/file'
     same 'outside' "$(cat "$work/box/outside/file")" untouched
-    same 'folders' "$(cd "$work/box/inner/out/layers" && find . -maxdepth 2 -mindepth 2 | sed 's/[0-9a-f]\{64\}/DIGITS/')" "$([ "$status" != 0 ] || echo ./sha256/DIGITS)"
+    same 'folders' "$(cd "$work/box/inner/out/layers/sha256" && find . -mindepth 1 -maxdepth 1 | sed 's/[0-9a-f]\{64\}/DIGITS/')" "$([ "$status" != 0 ] || echo ./DIGITS)"
 }
 
 # the absolute names that the layers have below

@@ -103,8 +103,11 @@ same 'a link' "$(readlink "$one/srv")" /app
 same 'the last of two entries of a path' "$(cat "$one/twice/node_modules/i/package.json")" "$(package i 2.0.0)"
 same 'the owner' "$(find first -printf '%U:%G\n' | sort -u)" "$(id -u):$(id -g)"
 
-# what is there stays as it is, and nothing is said of it
+# what is there stays as it is, and nothing is said of it, whether the line of the image is kept or not
 touch "$one/kept"
+"$tools/image-to-layers" by-umoci:test first 2>said | cmp - line
+same 'an image that is there' "$(ls "$one/kept") $(cat said)" "$one/kept "
+rm -r first/layers/images
 "$tools/image-to-layers" by-umoci:test first 2>said | cmp - line
 same 'a layer that is there' "$(ls "$one/kept") $(cat said)" "$one/kept "
 rm -r "$one"
@@ -118,7 +121,7 @@ check_form() {
     "$tools/image-to-layers" "$2" out >line-2 2>/dev/null
     same "$1: the layers" "$(layers_of line-2)" "$(layers_of line)"
     checks=$((checks + 1))
-    diff -r --no-dereference first out >&2 || failed "$1: other folders"
+    diff -r --no-dereference first/layers/sha256 out/layers/sha256 >&2 || failed "$1: other folders"
 }
 layout gzip "${tars[@]/#/gzip:}"
 layout zstd "${tars[@]/#/zstd:}"
@@ -172,7 +175,7 @@ layout alpine gzip:alpine.tar
 "$tools/compare-with-umoci" alpine:test
 
 # a run that is killed leaves no half layer under its final name, and a later one finishes the work
-seq -f 'file many/%g text' 20000 | "$tools/test-tar" many.tar
+seq -f 'file many/%g text' 4000 | "$tools/test-tar" many.tar
 layout many gzip:many.tar
 "$tools/image-to-layers" many whole >/dev/null
 tree "whole/layers/sha256/$(digits <many.tar)" >whole.tree
@@ -180,7 +183,7 @@ began=$(date +%s%N)
 "$tools/image-to-layers" many timed >/dev/null
 lasted=$(($(date +%s%N) - began))
 for signal in INT TERM KILL; do
-    for part in 2 4 6 7 8 9; do
+    for part in 4 6 8 9; do
         rm -rf killed
         # a process group of its own, which gets the signal as a whole, as from a terminal
         setsid "$tools/image-to-layers" many killed >/dev/null 2>&1 &
@@ -233,7 +236,6 @@ END
     skopeo copy -q --format v2s2 oci:gzip:test "docker://$registry/team/app:docker"
     check_form 'a registry, with the manifest of Docker' "docker://$registry/team/app:docker"
     same 'a registry, with the manifest of Docker: the digest' "$(jq -r .hash line-2)" "$(digest_at team/app docker)"
-    rm -r out/layers/images
 
     # an image for two platforms
     manifest=$(jq -c '.manifests[0] | del(.annotations)' gzip/index.json)
