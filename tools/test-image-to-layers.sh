@@ -189,7 +189,7 @@ for signal in INT TERM KILL; do
         setsid "$tools/image-to-layers" many killed >/dev/null 2>&1 &
         sleep "$(awk "BEGIN { print $lasted * $part / 10 / 1e9 }")"
         kill -s "$signal" -- "-$!" 2>/dev/null || true
-        wait "$!" || true
+        wait "$!" 2>/dev/null || true
         checks=$((checks + 1))
         for folder in killed/layers/sha256/[0-9a-f]*; do
             [ ! -d "$folder" ] || tree "$folder" | cmp -s - whole.tree || failed "half a layer after $signal at $part/10"
