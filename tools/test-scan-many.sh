@@ -113,7 +113,7 @@ has 'its progress bar' "$(cat said)" "100%"
 same 'its layers' "$(find folder/layers/sha256 -mindepth 1 -maxdepth 1 | wc -l)" "$((count + 25))"
 same 'a second run of the name' "$(many --run whole list 2>&1 >/dev/null)" 'scan-many: there is a run whole: go on with it by --resume, or choose another name by --run'
 : >scans
-many --run whole --resume list >out-2 2>/dev/null
+many --run whole --resume list >out-2 2>said || failed "status $?: $(tail -n 5 said)"
 same 'a run that goes on with nothing' "$(wc -l <scans) $(digits <out-2)" "0 $(digits <out)"
 
 # $2 is to be $3 or more, and $4 or less
@@ -124,7 +124,7 @@ within() {
     fi
 }
 
-wait_for_scans() { while [ "$(wc -l <"folder/runs/$1/joblog" 2>/dev/null || echo 0)" -le "$2" ]; do sleep 0.05; done; }
+wait_for_scans() { until [ -e "folder/runs/$1/joblog" ] && [ "$(wc -l <"folder/runs/$1/joblog")" -gt "$2" ]; do sleep 0.05; done; }
 
 # a run that is asked to end, twice, and goes on
 : >scans
@@ -144,7 +144,7 @@ for limit in 10 30; do
         pid=$!
     fi
 done
-many --run asked --resume short >out 2>said
+many --run asked --resume short >out 2>said || failed "status $?: $(tail -n 5 said)"
 same 'no image is scanned twice' "$(most_scans) $(grep -c '^begins' scans)" "1 $fewer $fewer"
 same 'none is lost' "$(found out | digits)" "$(expected "$fewer" | digits)"
 
@@ -161,7 +161,7 @@ have=$(($(wc -l <folder/runs/killed/joblog) - 1))
 # as a job may have been killed between its last step and the log
 ends=$(grep -c '^ends' scans)
 within 'the scans' "$ends" "$have" "$((have + 4))"
-many --run killed --resume short >out 2>said
+many --run killed --resume short >out 2>said || failed "status $?: $(tail -n 5 said)"
 same 'none is lost' "$(found out | digits)" "$(expected "$fewer" | digits)"
 within 'all scans' "$(grep -c '^ends' scans)" "$fewer" "$((fewer + 4))"
 same 'no answer is made again' "$(awk -F '\t' 'NR > 1 { print $1 }' folder/runs/killed/joblog | sort | uniq -d | wc -l)" 0
@@ -182,7 +182,7 @@ same 'an image that is not there' "$status $(jq -r .reply out | paste -sd ' ')" 
 has 'its error' "$(jq -r 'select(.reply == "failed") | .error' out)" no-such-image
 cp -r "images/with space/3" no-such-image
 : >scans
-many --run three --retry three >out 2>said
+many --run three --retry three >out 2>said || failed "status $?: $(tail -n 5 said)"
 same 'it is tried again, and nothing else' "$(grep -c '^ends' scans) $(jq -r .reply out | paste -sd ' ')" '1 good good good'
 
 # two hosts
