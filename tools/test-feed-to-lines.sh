@@ -55,7 +55,7 @@ same 'a release that begins alike' "$(ids --ecosystem Debian:12 e.json)" ''
 jq -c '.withdrawn = "2024-02-01T00:00:00Z"' folder/b.json >folder/withdrawn.json
 jq -c '.id = "W"' folder/withdrawn.json >w.json
 same 'a withdrawn record' "$(ids w.json d.json)" D
-has 'a withdrawn record' "$(cat said)" '1 records are withdrawn or of other ecosystems'
+has 'a withdrawn record' "$(cat said)" 'withdrawn or of other ecosystems: 1'
 same 'with withdrawn records' "$(ids --withdrawn w.json d.json)" 'D W'
 
 # of the records of one id the last one counts, even where it is withdrawn
@@ -63,14 +63,14 @@ jq -c '.modified = "2024-01-01T00:00:00.5Z" | .summary = "later"' folder/b.json 
 for order in 'later.json folder/b.json' 'folder/b.json later.json'; do
     # shellcheck disable=SC2086
     same "one id: $order" "$("$tools/feed-to-lines" $order 2>said | jq -r '"\(.id) \(.summary)"')" 'B later'
-    has 'one id' "$(cat said)" '1 records had the id of another one'
+    has 'one id' "$(cat said)" 'a later record has their id: 1'
 done
 jq -c '.modified = "2024-03-01T00:00:00Z" | .withdrawn = .modified' later.json >gone.json
 same 'withdrawn later' "$(ids later.json gone.json)" ''
 
 printf '3 "text" null {} {"id":3,"modified":"x"} [[]]\n' >strange.json
 same 'values that are no records' "$(ids strange.json d.json)" D
-has 'values that are no records' "$(cat said)" '6 values were no records'
+has 'values that are no records' "$(cat said)" 'no records: 6'
 
 # what is no JSON
 echo '{"id":' >'folder/below/b ad.json'

@@ -9,9 +9,9 @@ set -euo pipefail
 # shellcheck source=tools/find-cvwatch
 . "$tools/find-cvwatch"
 REAL=$(find_cvwatch "") || { echo "there is no cvwatch: build it, or set CVWATCH" >&2; exit 1; }
-# how many images are in a whole run, and in those that are interrupted
-count=200
-fewer=60
+# how many images are in a whole run, which an argument may change, and in those that are interrupted
+count=${1:-200}
+fewer=$((count < 60 ? count : 60))
 cd "$work"
 
 # a program that notes the image of each scan, and whether it finished
@@ -156,7 +156,7 @@ wait_for_scans killed 20
 session=$(ps -o sid= -p "$pid" | tr -d ' ')
 # shellcheck disable=SC2046
 kill -KILL $(ps -o pid= -s "$session")
-wait "$pid" || true
+wait "$pid" 2>/dev/null || true
 have=$(($(wc -l <folder/runs/killed/joblog) - 1))
 # as a job may have been killed between its last step and the log
 ends=$(grep -c '^ends' scans)
@@ -166,6 +166,20 @@ same 'none is lost' "$(found out | digits)" "$(expected "$fewer" | digits)"
 within 'all scans' "$(grep -c '^ends' scans)" "$fewer" "$((fewer + 4))"
 same 'no answer is made again' "$(awk -F '\t' 'NR > 1 { print $1 }' folder/runs/killed/joblog | sort | uniq -d | wc -l)" 0
 same 'half layers' "$(find folder/layers/sha256 -mindepth 1 -maxdepth 1 -name '[0-9a-f]*' | wc -l)" "$((count + 25))"
+
+# a second signal stops the images that are being scanned too, which are scanned when the run goes on
+: >scans
+"$tools/scan-many" "${words[@]}" --jobs 4 --run stopped short >out 2>said &
+pid=$!
+wait_for_scans stopped 10
+kill -TERM "$pid"
+sleep 0.1
+kill -TERM "$pid"
+status=0
+wait "$pid" || status=$?
+same 'a run that is stopped' "$status" 3
+many --run stopped --resume short >out 2>said || failed "status $?: $(tail -n 5 said)"
+same 'none is lost' "$(found out | digits)" "$(expected "$fewer" | digits)"
 
 # other lists and records are refused
 has 'another list' "$(many --run killed --resume list 2>&1 >/dev/null)" 'is not the list that the run killed began with'
