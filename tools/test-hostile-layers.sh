@@ -227,7 +227,7 @@ head -c 1300 "$work/whole.tar" >"$work/layer.tar"
 unpack_tar
 same 'a layer that is cut short' "$status" 1
 
-# as `umoci insert` leaves it out: the last entry begins at 1024, and has 9 bytes behind its header
+# as `umoci insert` leaves it out: the last entry begins at 1024, and has 9 bytes after its header
 for size in 1545 1544; do
     head -c "$size" "$work/whole.tar" >"$work/layer.tar"
     unpack_tar

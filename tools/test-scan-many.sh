@@ -196,7 +196,7 @@ same 'an image that is not there' "$status $(jq -r .reply out | paste -sd ' ')" 
 has 'its error' "$(jq -r 'select(.reply == "failed") | .error' out)" no-such-image
 cp -r "images/with space/3" no-such-image
 : >scans
-many --run three --retry three >out 2>said || failed "status $?: $(tail -n 5 said)"
+many --retry three >out 2>said || failed "status $?: $(tail -n 5 said)"
 same 'it is tried again, and nothing else' "$(grep -c '^ends' scans) $(jq -r .reply out | paste -sd ' ')" '1 good good good'
 
 # two hosts
