@@ -222,7 +222,7 @@ END
     export HOME=$work/home
     mkdir -p "$HOME/.config/containers"
     printf '[[registry]]\nlocation = "%s"\ninsecure = true\n' "$registry" >"$HOME/.config/containers/registries.conf"
-    curl -s --retry 30 --retry-delay 1 --retry-connrefused -o /dev/null "http://$registry/v2/"
+    curl -sS --retry 300 --retry-delay 1 --retry-connrefused -o /dev/null "http://$registry/v2/"
 
     # the digest that the registry gives to a name
     digest_at() {
