@@ -1,6 +1,6 @@
 -- Slots of prepared records: empty ones, what one holds, and one that is filled.
 use Rattle.std.specs.Prelude.{◌≡◌, ℕ, List, [], ◌∷◌, map, Option, Some, None, slice_get, option_and_then}
-use Rattle.std.proofs.Common.{zero, suc, sym, ap, ◌∙◌}
+use Rattle.std.proofs.Common.{zero, suc, subst, sym, ap, ◌∙◌}
 use Rattle.std.proofs.Math.ListN.{set}
 use Rattle.std.proofs.lemmas.Option.{same_Some}
 use Rattle.cv_base.specs.declared.advisory.Advisory.{Advisory}
@@ -9,9 +9,12 @@ use Rattle.cv_match.specs.Prepared.{Prepared}
 use Rattle.cv_scan.specs.code.Slots.{AreSlots, IsSlot, no_slot, prepared_for}
 
 -- empty slots
-pub none_held : (kind : PackageKind) (records : List Advisory) → AreSlots kind (map no_slot records) records
+none_held : (kind : PackageKind) (records : List Advisory) → AreSlots kind (map no_slot records) records
 none_held kind [] = tt
 none_held kind (a ∷ rest) = (tt, none_held kind rest)
+
+pub empty_held : (kind : PackageKind) (slots : List (Option Prepared)) (records : List Advisory) → slots ≡ map no_slot records → AreSlots kind slots records
+empty_held kind slots records h = subst (λ (ss : List (Option Prepared)). AreSlots kind ss records) (sym h) (none_held kind records)
 
 in_slot : (kind : PackageKind) (slot : Option Prepared) (b a : Advisory) (r : Prepared) → IsSlot kind slot b → slot ≡ Some r → Some b ≡ Some a → r ≡ prepared_for kind a
 in_slot kind None b a r h e f = cc

@@ -18,6 +18,7 @@ pub(crate) struct SlotsByKind {
 }
 
 /// Empty slots for these records.
+#[tactic(auto, using(crate::proofs::SlotLemmas::empty_held))]
 pub(crate) fn empty_slots(alloc: Global, advisories: &[Advisory]) -> Result<SlotsByKind, NoMemory>
     ensures { IfOk result (λ slots. AreSlotsByKind slots.deb.items slots.apk.items slots.npm.items advisories.now) }
 {

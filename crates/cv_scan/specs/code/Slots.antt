@@ -23,7 +23,7 @@ abbrev pub AreSlots : PackageKind → List (Option Prepared) → List Advisory �
 AreSlots kind slots records = AllZip (IsSlot kind) slots records
 
 -- the slots for each kind of package
-pub record AreSlotsByKind (deb apk npm : List (Option Prepared)) (records : List Advisory) : Type 0 where
-  pub deb : AreSlots Deb deb records
-  pub apk : AreSlots Apk apk records
-  pub npm : AreSlots Npm npm records
+pub record AreSlotsByKind (debs apks npms : List (Option Prepared)) (records : List Advisory) : Type 0 where
+  pub deb : AreSlots Deb debs records
+  pub apk : AreSlots Apk apks records
+  pub npm : AreSlots Npm npms records
