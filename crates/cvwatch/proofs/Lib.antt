@@ -1,4 +1,5 @@
 pub mod Arguments
 pub mod Ends
 pub mod OutcomeLemmas
+pub mod Runs
 pub mod Versions

@@ -21,8 +21,9 @@ use crate::run::run;
 use crate::status::Status;
 use cv_desk::{Desk, FolderDesk};
 use cv_io::{StdSink, StdSource};
+use std::env;
+use std::io::{self, ErrorKind};
 use std::process::ExitCode;
-use std::{env, io};
 
 /// As many desks as a service may have workers.
 const DESKS: usize = 8;
@@ -67,8 +68,17 @@ fn explain_desk(rt: &HostRuntime, desks: &[FolderDesk<HostRuntime>]) {
     }
 }
 
-/// The arguments of the command line, without the name of the program.
+/// The arguments of the command line, without the name of the program. If one is not UTF-8, they are not a command, and
+/// none are handed on.
 fn arguments_of(rt: &HostRuntime) -> io::Result<Vec<String>> {
+    match read_arguments(rt) {
+        Ok(arguments) => Ok(arguments),
+        Err(error) if error.kind() == ErrorKind::InvalidData => Ok(Vec::new(rt.alloc())),
+        Err(error) => Err(error),
+    }
+}
+
+fn read_arguments(rt: &HostRuntime) -> io::Result<Vec<String>> {
     let mut arguments = Vec::new(rt.alloc());
     for argument in env::args(rt)?.skip(1) {
         arguments.push(argument)?;
