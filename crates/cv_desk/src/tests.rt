@@ -138,21 +138,16 @@ fn the_second_and_third_call_fail_be_they_listings_or_reads(rt: HostRuntime) -> 
     Ok(())
 }
 
-/// A type that threads may share.
-fn shared<T: Send + Sync>(value: T) -> T {
-    value
-}
+/// Only a type that threads may share is one for which this can be called.
+fn is_shared<T: Send + Sync>() {}
 
 #[test]
-fn threads_may_share_desks(rt: HostRuntime) -> Result<(), Fail> {
-    let layer = Digest::of([0; 32]);
-    let fails = Seq::of(vec![in rt.alloc(); 1]?);
-    let mut faulty = shared(Faulty::new(shared(TableDesk::<Sample>::new()), fails));
-    let mut folders = shared(FolderDesk::new(rt.clone()?));
-    let fault = shared(faulty.list(rt.alloc(), &layer));
-    assert_eq!(rt; fault, Err(DeskFault::Failed));
-    let absent = shared(folders.list(rt.alloc(), &layer));
-    assert_eq!(rt; absent, Ok(None));
+fn threads_may_share_desks(_rt: HostRuntime) -> Result<(), Fail> {
+    is_shared::<TableDesk<Sample>>();
+    is_shared::<Faulty<TableDesk<Sample>>>();
+    is_shared::<FolderDesk<HostRuntime>>();
+    is_shared::<DeskFault>();
+    is_shared::<FileRead>();
     Ok(())
 }
 
