@@ -346,9 +346,7 @@ fn a_package_has_a_key_for_its_ecosystem_and_one_for_the_part_before_the_colon(
 fn is_shared<T: Send + Sync>() {}
 
 #[test]
-fn prepared_records_are_shared_by_threads() {
-    is_shared::<ReadyAdvisory>();
-    is_shared::<PreparedForKinds>();
+fn prepared_packages_are_shared_by_threads() {
     is_shared::<ReadyPackage>();
     is_shared::<Hit>();
     is_shared::<FixedAt>();
