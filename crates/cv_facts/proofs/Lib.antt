@@ -1,0 +1,5 @@
+pub mod HidesLemmas
+pub mod ListingLemmas
+pub mod Ordered
+pub mod PlacedLemmas
+pub mod TargetLemmas

@@ -1,0 +1,83 @@
+-- A file at a place of package files, as it is read.
+use Rattle.std.specs.Prelude.{◌≡◌, ℕ, Bool, true, false, List, Option, None, Some, Result, Ok, Err, IfOk, IfSome, is_none, if◌then◌else◌, refl}
+use Rattle.std.proofs.Common.{ap, sym, ◌∙◌}
+use Rattle.cv_base.specs.Path.{Path}
+use Rattle.cv_base.specs.Place.{place_of}
+use Rattle.cv_base.specs.declared.limits.TheConstants.{PACKAGE_FILE_LIMIT}
+use Rattle.cv_base.specs.declared.places.Place.{Place}
+use Rattle.cv_base.specs.declared.tree.Content.TheVariants as content
+use Rattle.cv_base.specs.declared.tree.Kind.{Kind}
+use Rattle.cv_base.specs.declared.tree.Kind.TheVariants as kind
+use Rattle.cv_base.specs.declared.tree.Node.TheVariants as node
+use Rattle.cv_desk.specs.Loaded.{answered, loaded_file, loaded_kind}
+use Rattle.cv_desk.specs.Stored.{Item, Stored, file_read, item_in}
+use Rattle.cv_desk.specs.declared.desk.FileRead.{FileRead}
+use Rattle.cv_desk.specs.declared.desk.FileRead.TheVariants.{Bytes, NotFile, TooLarge}
+use Rattle.cv_overlay.specs.Lay.{is_plain}
+use Rattle.cv_overlay.specs.Mark.{is_dir_node, mark_of}
+use Rattle.cv_packages.specs.Files.{file_of}
+use Rattle.cv_packages.specs.Found.{found_in}
+use Rattle.cv_packages.specs.declared.found.FileFound.{FileFound}
+use Rattle.cv_facts.specs.Files.{own_file}
+use Rattle.cv_facts.specs.code.Listing.{listed_kind}
+use Rattle.cv_facts.specs.declared.error.IndexError.{IndexError}
+
+loaded_by_place : (path : Path) (pl : Place) (item : Option Item) → place_of path ≡ Some pl → loaded_file path item ≡ answered (file_read item PACKAGE_FILE_LIMIT)
+loaded_by_place path pl item h = ap (λ (p : Option Place). if is_none p then node.File content.Unread else answered (file_read item PACKAGE_FILE_LIMIT)) h
+
+placed : (tree : Option (Option (List Stored))) (path : Path) (pl : Place) (found : FileRead) (r : Result (Option FileFound) IndexError)
+    → place_of path ≡ Some pl → IfSome tree (λ t. found ≡ file_read (item_in t path) PACKAGE_FILE_LIMIT)
+    → IfOk r (λ file. file ≡ file_of path (Some pl) (answered found))
+    → IfSome tree (λ t. IfOk r (λ file. file ≡ file_of path (Some pl) (loaded_file path (item_in t path))))
+placed None path pl found r h k f = tt
+placed (Some t) path pl found (Err e) h k f = tt
+placed (Some t) path pl found (Ok file) h k f =
+    f ∙ ap (λ (x : FileRead). file_of path (Some pl) (answered x)) k ∙ ap (file_of path (Some pl)) (sym (loaded_by_place path pl (item_in t path) h))
+
+pub bytes_read : (tree : Option (Option (List Stored))) (path : Path) (pl : Place) (bytes : List ℕ) (r : Result (Option FileFound) IndexError)
+    → place_of path ≡ Some pl → IfSome tree (λ t. Bytes bytes ≡ file_read (item_in t path) PACKAGE_FILE_LIMIT)
+    → IfOk r (λ file. file ≡ Some (record { path = path; found = found_in pl (content.Bytes bytes) }))
+    → IfSome tree (λ t. IfOk r (λ file. file ≡ file_of path (Some pl) (loaded_file path (item_in t path))))
+bytes_read tree path pl bytes r h k f = placed tree path pl (Bytes bytes) r h k f
+
+pub too_large : (tree : Option (Option (List Stored))) (path : Path) (pl : Place) (r : Result (Option FileFound) IndexError)
+    → place_of path ≡ Some pl → IfSome tree (λ t. TooLarge ≡ file_read (item_in t path) PACKAGE_FILE_LIMIT)
+    → IfOk r (λ file. file ≡ Some (record { path = path; found = found_in pl content.TooLarge }))
+    → IfSome tree (λ t. IfOk r (λ file. file ≡ file_of path (Some pl) (loaded_file path (item_in t path))))
+too_large tree path pl r h k f = placed tree path pl TooLarge r h k f
+
+pub no_file : (tree : Option (Option (List Stored))) (path : Path) (pl : Place) (r : Result (Option FileFound) IndexError)
+    → place_of path ≡ Some pl → IfSome tree (λ t. NotFile ≡ file_read (item_in t path) PACKAGE_FILE_LIMIT)
+    → IfOk r (λ file. file ≡ None)
+    → IfSome tree (λ t. IfOk r (λ file. file ≡ file_of path (Some pl) (loaded_file path (item_in t path))))
+no_file tree path pl r h k f = placed tree path pl NotFile r h k f
+
+-- A listed entry.
+
+by_mark : (plain : Bool) (path : Path) (place : Option Place) → (if plain then file_of path place node.Dir else None) ≡ None
+by_mark true path None = refl
+by_mark true path (Some pl) = refl
+by_mark false path place = refl
+
+by_mark_other : (plain : Bool) (path : Path) (place : Option Place) → (if plain then file_of path place node.Other else None) ≡ None
+by_mark_other true path None = refl
+by_mark_other true path (Some pl) = refl
+by_mark_other false path place = refl
+
+not_dir : (x : FileRead) → is_dir_node (answered x) ≡ false
+not_dir (Bytes bytes) = refl
+not_dir TooLarge = refl
+not_dir NotFile = refl
+
+not_dir_file : (path : Path) (unread : Bool) (x : FileRead) → is_dir_node (if unread then node.File content.Unread else answered x) ≡ false
+not_dir_file path true x = refl
+not_dir_file path false x = not_dir x
+
+-- a listed entry is the file that it is as it is loaded
+pub kind_is : (tree : Option (List Stored)) (path : Path) (k : Kind)
+    → listed_kind tree path k ≡ own_file (record { path = path; node = loaded_kind path k (item_in tree path) })
+kind_is tree path kind.Dir = sym (by_mark (is_plain (mark_of path true)) path (place_of path))
+kind_is tree path kind.Other = sym (by_mark_other (is_plain (mark_of path false)) path (place_of path))
+kind_is tree path kind.File =
+    ap (λ (dir : Bool). if is_plain (mark_of path dir) then file_of path (place_of path) (loaded_file path (item_in tree path)) else None)
+    (sym (not_dir_file path (is_none (place_of path)) (file_read (item_in tree path) PACKAGE_FILE_LIMIT)))

@@ -1,0 +1,6 @@
+pub mod Cause
+pub mod Cover
+pub mod Files
+pub mod Reduction
+pub mod code
+pub mod tests

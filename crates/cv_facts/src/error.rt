@@ -1,0 +1,61 @@
+use cv_desk::DeskFault;
+use cv_seq::NoMemory;
+use std::alloc::{AllocError, AllocFailed};
+use thiserror::Error;
+
+/// Why a layer was not indexed.
+#[derive(Clone, Copy, Debug, PartialEq, Eq, Error)]
+pub enum IndexError {
+    #[error("the layer could not be read")]
+    DeskFault,
+    #[error("out of memory")]
+    NoMemory,
+}
+
+impl From<DeskFault> for IndexError {
+    ghost use Rattle.std.specs.Prelude.{◌≡◌};
+    ghost use Rattle.cv_facts.specs.code.Listing.{index_error};
+
+    ghost from_gives = { λ fault e. e ≡ index_error fault };
+
+    fn from(fault: DeskFault) -> IndexError {
+        match fault {
+            DeskFault::Failed => IndexError::DeskFault,
+            DeskFault::NoMemory => IndexError::NoMemory,
+        }
+    }
+}
+
+impl From<NoMemory> for IndexError {
+    ghost use Rattle.std.specs.Prelude.{◌≡◌};
+    ghost use Rattle.cv_facts.specs.declared.error.IndexError.TheVariants as error;
+
+    ghost from_gives = { λ _ e. e ≡ error.NoMemory };
+
+    fn from(_error: NoMemory) -> IndexError {
+        IndexError::NoMemory
+    }
+}
+
+impl From<AllocError> for IndexError {
+    ghost use Rattle.std.specs.Prelude.{◌≡◌};
+    ghost use Rattle.cv_facts.specs.declared.error.IndexError.TheVariants as error;
+
+    ghost from_gives = { λ _ e. e ≡ error.NoMemory };
+
+    fn from(_error: AllocError) -> IndexError {
+        IndexError::NoMemory
+    }
+}
+
+/// The rejected value is dropped.
+impl<T: Drop> From<AllocFailed<T>> for IndexError {
+    ghost use Rattle.std.specs.Prelude.{◌≡◌};
+    ghost use Rattle.cv_facts.specs.declared.error.IndexError.TheVariants as error;
+
+    ghost from_gives = { λ _ e. e ≡ error.NoMemory };
+
+    fn from(_failed: AllocFailed<T>) -> IndexError {
+        IndexError::NoMemory
+    }
+}

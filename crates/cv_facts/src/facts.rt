@@ -1,0 +1,76 @@
+ghost use Rattle.std.specs.Prelude.{◌≡◌, IfOk};
+ghost use Rattle.cv_facts.specs.Reduction.{IsRight};
+
+use crate::reduction::Shape;
+use cv_base::Digest;
+use cv_desk::Desk;
+use cv_seq::NoMemory;
+use std::alloc::Global;
+use std::marker::{Model, PhantomData};
+use std::sync::Arc;
+
+/// What is known of the layer of a digest on the desks of a type: if the type says what the layer is, the shape is that
+/// layer's. Copies share the shape.
+#[derive(Drop)]
+pub struct LayerFacts<D: Desk> {
+    digest: Digest,
+    shape: Arc<Shape, Global>,
+    of: PhantomData<D>,
+}
+
+impl<D: Desk> Model for LayerFacts<D> {
+    ghost use Rattle.std.specs.Arc.{arc_value};
+    ghost use Rattle.cv_facts.specs.Reduction.{IsRight, Known};
+
+    ghost Value = { Known };
+
+    ghost view = { λ f. record { digest = f.digest; shape = arc_value f.shape } };
+
+    ghost invariant = { λ f. IsRight D.tree (record { digest = f.digest; shape = arc_value f.shape }) };
+}
+
+impl<D: Desk> LayerFacts<D> {
+    /// The facts of a layer of this shape.
+    pub(crate) fn of(alloc: Global, digest: Digest, shape: Shape) -> Result<LayerFacts<D>, NoMemory>
+        requires { IsRight D.tree (record { digest = digest; shape = shape }) }
+        ensures { IfOk result (λ facts. facts ≡ record { digest = digest; shape = shape }) }
+    {
+        Ok(LayerFacts {
+            digest,
+            shape: Arc::new(alloc, shape)?,
+            of: PhantomData,
+        })
+    }
+
+    /// The digest of the layer.
+    pub fn digest(&self) -> Digest
+        ensures { result ≡ self.now.digest }
+    {
+        self.digest
+    }
+
+    /// The shape of the layer.
+    pub fn shape(&self) -> &Shape
+        ensures { result.now ≡ self.now.shape }
+    {
+        &self.shape
+    }
+
+    /// The same facts, which share the shape.
+    pub fn share(&self) -> Result<LayerFacts<D>, NoMemory>
+        ensures { IfOk result (λ facts. facts ≡ self.now) }
+    {
+        Ok(LayerFacts {
+            digest: self.digest,
+            shape: Arc::try_clone(&self.shape)?,
+            of: PhantomData,
+        })
+    }
+
+    /// The facts are right. It does nothing.
+    pub fn known(&self)
+        ensures { IsRight D.tree self.now }
+    {
+        let _digest = &self.digest;
+    }
+}

@@ -1,0 +1,99 @@
+ghost use Rattle.std.specs.Prelude.{◌≡◌, ◌+◌, ◌^◌, ◌<◌, IfOk, IfSome};
+ghost use Rattle.cv_seq.specs.Cause.{CausedBy};
+ghost use Rattle.cv_facts.specs.Cause.{is_desk_fault};
+ghost use Rattle.cv_facts.specs.Reduction.{shape_of};
+ghost use Rattle.cv_facts.specs.code.Listing.{found_shape, listed_reduction, listed_shape};
+
+use crate::error::IndexError;
+use crate::facts::LayerFacts;
+use crate::files::read_files;
+use crate::hides::hides_of;
+use crate::order::in_path_order;
+use crate::reduction::{Reduction, Shape};
+use cv_base::{Digest, ListEntry, Seq};
+use cv_desk::Desk;
+use cv_overlay::check_tree;
+use std::alloc::Global;
+
+/// Indexes a layer: lists it once, checks the listing, and reads its package files. A layer whose listing is no good tree is
+/// not read.
+pub fn index_layer<D: Desk>(
+    alloc: Global,
+    desk: &mut D,
+    layer: Digest,
+) -> Result<LayerFacts<D>, IndexError>
+    requires room { D.listings desk.old < 2 ^ 63 + 2 ^ 62 }
+    ensures digest { IfOk result (λ facts. facts.digest ≡ layer) }
+    ensures cause { CausedBy (D.faults desk.old) (D.faults desk.new) (is_desk_fault result) }
+    ensures counted { D.listings desk.new ≡ D.listings desk.old + 1 }
+{
+    let shape = read_shape(alloc, desk, &layer)?;
+    Ok(LayerFacts::of(alloc, layer, shape)?)
+}
+
+/// The shape of a layer.
+fn read_shape<D: Desk>(alloc: Global, desk: &mut D, layer: &Digest) -> Result<Shape, IndexError>
+    requires room { D.listings desk.old < 2 ^ 63 + 2 ^ 62 }
+    ensures shape { IfSome (D.tree layer.now) (λ t. IfOk result (λ shape. shape ≡ shape_of t)) }
+    ensures cause { CausedBy (D.faults desk.old) (D.faults desk.new) (is_desk_fault result) }
+    ensures counted { D.listings desk.new ≡ D.listings desk.old + 1 }
+{
+    let listed = desk.list(alloc, layer)?;
+    found_shape(alloc, desk, layer, listed)
+}
+
+/// The shape of a layer that was listed, if there is one.
+fn found_shape<D: Desk>(
+    alloc: Global,
+    desk: &mut D,
+    layer: &Digest,
+    listed: Option<Seq<ListEntry>>,
+) -> Result<Shape, IndexError>
+    ensures shape { IfSome (D.tree layer.now) (λ t. IfOk result (λ shape. shape ≡ found_shape t listed)) }
+    ensures cause { CausedBy (D.faults desk.old) (D.faults desk.new) (is_desk_fault result) }
+    ensures same { D.listings desk.new ≡ D.listings desk.old }
+{
+    match listed {
+        None => Ok(Shape::NoLayer),
+        Some(listed) => listed_shape(alloc, desk, layer, listed.as_slice()),
+    }
+}
+
+/// The shape of a layer with this listing.
+fn listed_shape<D: Desk>(
+    alloc: Global,
+    desk: &mut D,
+    layer: &Digest,
+    entries: &[ListEntry],
+) -> Result<Shape, IndexError>
+    ensures shape { IfSome (D.tree layer.now) (λ t. IfOk result (λ shape. shape ≡ listed_shape t entries.now)) }
+    ensures cause { CausedBy (D.faults desk.old) (D.faults desk.new) (is_desk_fault result) }
+    ensures same { D.listings desk.new ≡ D.listings desk.old }
+{
+    match check_tree(entries) {
+        Err(fault) => Ok(Shape::BadTree(fault)),
+        Ok(()) => Ok(Shape::Reduced(reduce(alloc, desk, layer, entries)?)),
+    }
+}
+
+/// The reduction of a layer with this listing.
+fn reduce<D: Desk>(
+    alloc: Global,
+    desk: &mut D,
+    layer: &Digest,
+    entries: &[ListEntry],
+) -> Result<Reduction, IndexError>
+    ensures reduction { IfSome (D.tree layer.now) (λ t. IfOk result (λ reduction. reduction ≡ listed_reduction t entries.now)) }
+    ensures cause { CausedBy (D.faults desk.old) (D.faults desk.new) (is_desk_fault result) }
+    ensures same { D.listings desk.new ≡ D.listings desk.old }
+{
+    let files = read_files(alloc, desk, layer, entries)?;
+    let hides = hides_of(alloc, entries)?;
+    Ok(Reduction {
+        whiteouts: Seq::of(in_path_order(alloc, hides.whiteouts)?),
+        opaques: Seq::of(in_path_order(alloc, hides.opaques)?),
+        covers: Seq::of(hides.covers),
+        place_dirs: Seq::of(hides.place_dirs),
+        files: Seq::of(files),
+    })
+}

@@ -1,0 +1,26 @@
+//! Reduces a layer to what the packages of an image need of it: what it hides of the layers below it, and what its own
+//! package files have.
+//!
+//! ```text
+//! let facts = index_layer(alloc, &mut desk, digest)?;
+//! if let Shape::Reduced(reduction) = facts.shape() {
+//!     assert!(reduction.files.as_slice().is_empty());
+//! }
+//! ```
+#![tactic(auto)]
+
+mod error;
+mod facts;
+mod files;
+mod hides;
+mod index;
+mod order;
+mod reduction;
+#[cfg(test)]
+mod tests;
+
+pub use cv_packages::{FileFound, Found};
+pub use error::IndexError;
+pub use facts::LayerFacts;
+pub use index::index_layer;
+pub use reduction::{Reduction, Shape};
