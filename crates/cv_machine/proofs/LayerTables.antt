@@ -1,0 +1,126 @@
+-- The table of layers: what is found after layers entered it, and after some left it.
+use Rattle.std.specs.Prelude.{◌≡◌, ℕ, Bool, true, false, ◌||◌, cond, not, List, [], ◌∷◌, Option, Some, None, refl}
+use Rattle.std.specs.Cmp.Lexicographic.{nat_list_cmp_total, nat_list_eq_equiv, texts_ties}
+use Rattle.std.specs.List.Sorted.{IsStrictlySortedBy}
+use Rattle.std.specs.Map.{keys_of}
+use Rattle.std.specs.Option.{is_some}
+use Rattle.std.specs.declared.cmp.Ordering.{Ordering}
+use Rattle.std.specs.declared.cmp.Ordering.TheVariants.{Less, Equal, Greater}
+use Rattle.std.specs.Ordering.{is_eq}
+use Rattle.std.proofs.Common.{ap, sym, ◌∙◌}
+use Rattle.std.proofs.lemmas.Map.Lookups.{exact_bytes}
+use Rattle.cv_base.specs.Texts.{has_text, same}
+use Rattle.cv_match.specs.Findings.{text_cmp}
+use Rattle.cv_machine.specs.Laws.{is_claimed}
+use Rattle.cv_machine.specs.Layers.{is_claimed_as, is_named}
+use Rattle.cv_machine.specs.State.{Images, Layers, value_at, with_value}
+use Rattle.cv_machine.specs.Step.{entered, remaining}
+use Rattle.cv_machine.specs.declared.status.Status.{Status}
+use Rattle.cv_machine.specs.declared.status.Status.TheVariants as status
+use Rattle.cv_machine.proofs.Entries.{lookup_filter, lookup_put, passing, sorted_put}
+
+-- what is found with one more value
+pub value_put : {V : Type 0} (entries : List (List ℕ × V)) (key : List ℕ) (value : V) (q : List ℕ)
+    → value_at (with_value entries key value) q ≡ cond (same key q) (Some value) (value_at entries q)
+value_put entries key value q =
+    lookup_put nat_list_cmp_total entries key value q
+    ∙ ap (λ b. cond b (Some value) (value_at entries q)) (sym (texts_ties q key) ∙ nat_list_eq_equiv.symm q key)
+
+-- keys that are the same are one key
+pub same_key : (key q : List ℕ) → same key q ≡ true → key ≡ q
+same_key key q h = exact_bytes key q (equal (text_cmp key q) (sym (texts_ties key q) ∙ h)) where
+  equal : (r : Ordering) → is_eq r ≡ true → r ≡ Equal
+  equal Less e = absurd (cc e)
+  equal Equal e = refl
+  equal Greater e = absurd (cc e)
+
+-- the table with a layer in it
+abbrev one_entered : Layers → List ℕ → Layers
+one_entered table layer = cond (is_some (value_at table layer)) table (with_value table layer status.Queued)
+
+one_some : (table : Layers) (layer q : List ℕ) → is_some (value_at (one_entered table layer) q) ≡ (same layer q || is_some (value_at table q))
+one_some table layer q = by_tests (is_some (value_at table layer)) (same layer q) refl refl where
+  by_tests : (s t : Bool) → is_some (value_at table layer) ≡ s → same layer q ≡ t
+      → is_some (value_at (cond s table (with_value table layer status.Queued)) q) ≡ (t || is_some (value_at table q))
+  by_tests true true some key = ap (λ k. is_some (value_at table k)) (sym (same_key layer q key)) ∙ some
+  by_tests true false some key = refl
+  by_tests false true some key = ap is_some (value_put table layer status.Queued q ∙ ap (λ b. cond b (Some status.Queued) (value_at table q)) key)
+  by_tests false false some key = ap is_some (value_put table layer status.Queued q ∙ ap (λ b. cond b (Some status.Queued) (value_at table q)) key)
+
+unclaimed : (found : Option Status) → is_some found ≡ false → is_claimed found ≡ false
+unclaimed None h = refl
+unclaimed (Some status) h = absurd (cc h)
+
+one_claimed : (table : Layers) (layer q : List ℕ) → is_claimed (value_at (one_entered table layer) q) ≡ is_claimed (value_at table q)
+one_claimed table layer q = by_tests (is_some (value_at table layer)) (same layer q) refl refl where
+  by_tests : (s t : Bool) → is_some (value_at table layer) ≡ s → same layer q ≡ t
+      → is_claimed (value_at (cond s table (with_value table layer status.Queued)) q) ≡ is_claimed (value_at table q)
+  by_tests true t some key = refl
+  by_tests false true some key =
+      ap is_claimed (value_put table layer status.Queued q ∙ ap (λ b. cond b (Some status.Queued) (value_at table q)) key)
+      ∙ sym (ap (λ k. is_claimed (value_at table k)) (sym (same_key layer q key)) ∙ unclaimed (value_at table layer) some)
+  by_tests false false some key = ap is_claimed (value_put table layer status.Queued q ∙ ap (λ b. cond b (Some status.Queued) (value_at table q)) key)
+
+or_turned : (a b c : Bool) → (b || (a || c)) ≡ ((a || b) || c)
+or_turned true true c = refl
+or_turned true false c = refl
+or_turned false true c = refl
+or_turned false false c = refl
+
+-- after layers entered, those are in the table that are among them or were in it
+pub entered_some : (table : Layers) (layers : List (List ℕ)) (q : List ℕ)
+    → is_some (value_at (entered table layers) q) ≡ (has_text layers q || is_some (value_at table q))
+entered_some table [] q = refl
+entered_some table (layer ∷ layers) q =
+    entered_some (one_entered table layer) layers q
+    ∙ ap (λ b. has_text layers q || b) (one_some table layer q)
+    ∙ or_turned (same layer q) (has_text layers q) (is_some (value_at table q))
+
+-- and no other ones are Claimed
+pub entered_claimed : (table : Layers) (layers : List (List ℕ)) (q : List ℕ) → is_claimed (value_at (entered table layers) q) ≡ is_claimed (value_at table q)
+entered_claimed table [] q = refl
+entered_claimed table (layer ∷ layers) q = entered_claimed (one_entered table layer) layers q ∙ one_claimed table layer q
+
+-- the table stays in order
+pub entered_sorted : (table : Layers) (layers : List (List ℕ)) → IsStrictlySortedBy text_cmp (keys_of table) → IsStrictlySortedBy text_cmp (keys_of (entered table layers))
+entered_sorted table [] h = h
+entered_sorted table (layer ∷ layers) h = entered_sorted (one_entered table layer) layers (by_test (is_some (value_at table layer))) where
+  by_test : (b : Bool) → IsStrictlySortedBy text_cmp (keys_of (cond b table (with_value table layer status.Queued)))
+  by_test true = h
+  by_test false = sorted_put nat_list_cmp_total table layer status.Queued h
+
+-- what is found of a layer after some left: `here` says that the dropped image names it, `there` that another one does
+abbrev pub stays : Bool → Bool → Status → Bool
+stays here there status = (not here || there) || is_claimed_as status
+
+abbrev pub staying : Bool → Bool → Option Status → Option Status
+staying here there None = None
+staying here there (Some status) = cond (stays here there status) (Some status) None
+
+pub remaining_found : (table : Layers) (layers : List (List ℕ)) (others : Images) (q : List ℕ) → IsStrictlySortedBy text_cmp (keys_of table)
+    → value_at (remaining table layers others) q ≡ staying (has_text layers q) (is_named others q) (value_at table q)
+remaining_found table layers others q h =
+    lookup_filter nat_list_cmp_total exact_bytes (λ (e : List ℕ × Status). stays (has_text layers e.0) (is_named others e.0) e.1) table q h
+    ∙ by_found (value_at table q) where
+      by_found : (found : Option Status)
+          → passing (λ (e : List ℕ × Status). stays (has_text layers e.0) (is_named others e.0) e.1) q found ≡ staying (has_text layers q) (is_named others q) found
+      by_found None = refl
+      by_found (Some status) = refl
+
+-- then those are in the table that another image names or that are Claimed, if those were that some image named or that were
+pub staying_right : (here there : Bool) (found : Option Status) → is_some found ≡ ((here || there) || is_claimed found)
+    → is_some (staying here there found) ≡ (there || is_claimed (staying here there found))
+staying_right here there None h = absent here there h where
+  absent : (here there : Bool) → false ≡ ((here || there) || false) → false ≡ (there || false)
+  absent true there h = absurd (cc h)
+  absent false true h = h
+  absent false false h = refl
+staying_right here there (Some status) h = present here there (is_claimed_as status) refl h where
+  present : (here there claimed : Bool) → is_claimed_as status ≡ claimed → true ≡ ((here || there) || claimed)
+      → is_some (cond ((not here || there) || claimed) (Some status) None) ≡ (there || is_claimed (cond ((not here || there) || claimed) (Some status) None))
+  present true true claimed is h = refl
+  present true false true is h = sym is
+  present true false false is h = refl
+  present false true claimed is h = refl
+  present false false true is h = sym is
+  present false false false is h = absurd (cc h)

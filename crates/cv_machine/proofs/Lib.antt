@@ -1,0 +1,6 @@
+mod Boards
+pub mod Consistent
+pub mod Entries
+mod Examples
+pub mod LayerTables
+mod Stepped

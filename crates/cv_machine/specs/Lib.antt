@@ -1,0 +1,9 @@
+pub mod Answer
+pub mod Board
+pub mod History
+pub mod Laws
+pub mod Layers
+pub mod Rows
+pub mod Scans
+pub mod State
+pub mod Step

@@ -1,0 +1,10 @@
+use super::*;
+
+fn is_shared<T: Send + Sync>() {}
+
+#[test]
+fn acts_are_shared() {
+    is_shared::<WholeAct>();
+    is_shared::<Status>();
+    is_shared::<Limits>();
+}
