@@ -1,6 +1,5 @@
 -- Each event leaves a consistent state consistent.
-use Rattle.std.specs.Prelude.{◌≡◌, ℕ, ◌+◌, ◌≤◌, ◌<◌, Bool, true, false, ◌||◌, cond, nat_lt, List, [], ◌∷◌, length, Option, Some, None, refl}
-use Rattle.std.specs.Cmp.{nat_cmp_total}
+use Rattle.std.specs.Prelude.{◌≡◌, ℕ, ◌+◌, ◌≤◌, ◌<◌, Bool, true, false, ◌==◌, ◌||◌, cond, nat_lt, List, [], ◌∷◌, length, Option, Some, None, refl}
 use Rattle.std.specs.Cmp.Lexicographic.{nat_list_cmp_total, texts_ties}
 use Rattle.std.specs.BTreeMap.{is_at}
 use Rattle.std.specs.List.{AllByRecursion}
@@ -8,8 +7,9 @@ use Rattle.std.specs.List.Sorted.{IsStrictlySortedBy}
 use Rattle.std.specs.Map.{keys_of}
 use Rattle.std.specs.Option.{is_some}
 use Rattle.std.specs.Ordering.{nat_cmp}
+use Rattle.std.specs.declared.cmp.Ordering.TheVariants.{Less, Equal, Greater}
 use Rattle.std.proofs.Common.{ap, sym, ◌∙◌, arith}
-use Rattle.std.proofs.lemmas.Bool.{ltb-true}
+use Rattle.std.proofs.lemmas.Bool.{lt-ltb, ltb-true}
 use Rattle.cv_base.specs.Texts.{has_text, same}
 use Rattle.cv_base.specs.declared.advisory.Advisory.{Advisory}
 use Rattle.cv_base.specs.declared.finding.Row.{Row}
@@ -29,7 +29,7 @@ use Rattle.cv_machine.specs.declared.act.WholeAct.TheVariants as act
 use Rattle.cv_machine.specs.declared.limits.Limits.{Limits}
 use Rattle.cv_machine.specs.declared.status.Status.{Status}
 use Rattle.cv_machine.specs.declared.status.Status.TheVariants as status
-use Rattle.cv_machine.proofs.Entries.{all_cut, all_put, any_cut, any_put, length_cut, length_found, length_put, lookup_cut, sorted_cut, sorted_filter, sorted_put}
+use Rattle.cv_machine.proofs.Entries.{all_cut, all_last, any_cut, any_put, length_cut, length_found, length_put, lookup_cut, sorted_cut, sorted_filter, sorted_last, sorted_put}
 use Rattle.cv_machine.proofs.LayerTables.{entered_claimed, entered_some, entered_sorted, remaining_found, same_key, staying, staying_right, value_put}
 
 -- one of two ends of an event
@@ -184,14 +184,22 @@ all_later : (n : ℕ) (xs : List ℕ) → AllByRecursion (λ number. number ≤ 
 all_later n [] h = tt
 all_later n (x ∷ xs) h = (omega (arith, h.0), all_later n xs h.1)
 
-notified_sorted : (ns : Notifications) (number : ℕ) (rows : List Row) → IsStrictlySortedBy nat_cmp (keys_of ns) → IsStrictlySortedBy nat_cmp (keys_of (notified ns number rows))
-notified_sorted ns number [] h = h
-notified_sorted ns number (row ∷ rows) h = sorted_put nat_cmp_total ns number (row ∷ rows) h
+less : (x y : ℕ) → x < y → nat_cmp x y ≡ Less
+less x y h = ap (λ b. cond b Less (cond (x == y) Equal Greater)) (lt-ltb x y h)
+
+all_below : (n : ℕ) (xs : List ℕ) → AllByRecursion (λ number. number ≤ n) xs → AllByRecursion (λ number. nat_cmp number (n + 1) ≡ Less) xs
+all_below n [] h = tt
+all_below n (x ∷ xs) h = (let below : x < n + 1 = omega (arith, h.0) in less x (n + 1) below, all_below n xs h.1)
+
+notified_sorted : (ns : Notifications) (n : ℕ) (rows : List Row) → IsStrictlySortedBy nat_cmp (keys_of ns) → AllByRecursion (λ number. number ≤ n) (keys_of ns)
+    → IsStrictlySortedBy nat_cmp (keys_of (notified ns (n + 1) rows))
+notified_sorted ns n [] h numbers = h
+notified_sorted ns n (row ∷ rows) h numbers = sorted_last nat_cmp ns (n + 1) (row ∷ rows) h (all_below n (keys_of ns) numbers)
 
 notified_numbers : (ns : Notifications) (n : ℕ) (rows : List Row) → AllByRecursion (λ number. number ≤ n) (keys_of ns)
     → AllByRecursion (λ number. number ≤ n + 1) (keys_of (notified ns (n + 1) rows))
 notified_numbers ns n [] h = all_later n (keys_of ns) h
-notified_numbers ns n (row ∷ rows) h = all_put nat_cmp (λ number. number ≤ n + 1) ns (n + 1) (row ∷ rows) (omega arith) (all_later n (keys_of ns) h)
+notified_numbers ns n (row ∷ rows) h = all_last (λ number. number ≤ n + 1) ns (n + 1) (row ∷ rows) (all_later n (keys_of ns) h) (omega arith)
 
 pub few_after : (s : State) (feed : List ℕ) (records : List Advisory) → IsConsistent s → has_room s feed ≡ true → length (with_value s.feeds feed records) ≤ s.limits.feeds
 few_after s feed records h room = by_found (is_some (value_at s.feeds feed)) refl room where
@@ -210,7 +218,7 @@ updated_consistent s feeds rows h sorted few = record {
   images = h.images;
   layers = h.layers;
   feeds = sorted;
-  notifications = notified_sorted s.notifications (s.generation + 1) rows h.notifications;
+  notifications = notified_sorted s.notifications s.generation rows h.notifications h.numbers;
   numbers = notified_numbers s.notifications s.generation rows h.numbers;
   few_images = h.few_images;
   few_feeds = few;

@@ -1,5 +1,5 @@
 -- Lists of entries in ascending order of their keys: what one more entry, or one less, leaves, and what is then found.
-use Rattle.std.specs.Prelude.{◌≡◌, ◌+◌, ◌≤◌, Bool, true, false, ◌||◌, cond, List, [], ◌∷◌, length, filter, Option, Some, None, refl}
+use Rattle.std.specs.Prelude.{◌≡◌, ◌+◌, ◌≤◌, Bool, true, false, ◌||◌, cond, List, [], ◌∷◌, ◌++◌, length, filter, Option, Some, None, refl}
 use Rattle.std.specs.BTreeMap.{insert_entry, is_at}
 use Rattle.std.specs.Cmp.{Equal-is, IsTotalOrder, alike_right, eq_by_cmp_equiv}
 use Rattle.std.specs.List.{AllByRecursion, list_any}
@@ -194,3 +194,15 @@ any_cut {K} {V} test at (e ∷ es) v h = by_test (at e.0) (λ (later : lookup at
       → (test e.1 || list_any (λ (e : K × V). test e.1) es) ≡ (test v || list_any (λ (e : K × V). test e.1) (cond b es (e ∷ remove_entry at es)))
   by_test true rest found = ap (λ x. test x || list_any (λ (e : K × V). test e.1) es) (same_Some e.1 v found)
   by_test false rest found = ap (λ b. test e.1 || b) (rest found) ∙ or_swap_inner false (test e.1) (test v) (list_any (λ (e : K × V). test e.1) (remove_entry at es))
+
+-- one more entry after the others
+pub all_last : {K V : Type 0} (P : K → Type 0) (es : List (K × V)) (k : K) (v : V) → AllByRecursion P (keys_of es) → P k
+    → AllByRecursion P (keys_of (es ++ (k, v) ∷ []))
+all_last P [] k v h p = (p, tt)
+all_last P (e ∷ es) k v h p = (h.0, all_last P es k v h.1 p)
+
+pub sorted_last : {K V : Type 0} (R : K → K → Ordering) (es : List (K × V)) (k : K) (v : V) → IsStrictlySortedBy R (keys_of es)
+    → AllByRecursion (λ x. R x k ≡ Less) (keys_of es) → IsStrictlySortedBy R (keys_of (es ++ (k, v) ∷ []))
+unfolding IsStrictlySortedBy
+sorted_last R [] k v h below = (tt, tt)
+sorted_last R (e ∷ es) k v h below = (all_last (λ x. R e.0 x ≡ Less) es k v h.0 below.0, sorted_last R es k v h.1 below.1)

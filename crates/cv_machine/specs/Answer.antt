@@ -1,5 +1,6 @@
 -- What a read is answered in a state (defined by this project).
-use Rattle.std.specs.Prelude.{ℕ, ◌+◌, ◌-◌, ◌*◌, ◌/◌, nat_lt, if◌then◌else◌, List, length, map, take, drop, Option, Some, None, Ok, Err}
+use Rattle.std.specs.Prelude.{ℕ, ◌-◌, ◌*◌, nat_lt, if◌then◌else◌, List, length, map, take, drop, Option, Some, None, Ok, Err}
+use Rattle.std.specs.Int.{div_ceil}
 use Rattle.cv_base.specs.declared.finding.Row.{Row}
 use Rattle.cv_records.specs.declared.read.Answer.{Answer}
 use Rattle.cv_records.specs.declared.read.Answer.TheVariants as answer
@@ -33,9 +34,9 @@ report_at (Some layers) trees state =
 abbrev pub report_of : Trees → State → List ℕ → ReportOutcome
 report_of trees state image = report_at (value_at state.images image) trees state
 
--- how many pages of this size rows have
+-- how many pages of this size rows have: their number divided by the size, rounded up
 abbrev pub page_count : ℕ → List Row → ℕ
-page_count size rows = (length rows + (size - 1)) / size
+page_count size rows = div_ceil (length rows) size
 
 -- a page of rows. The first page has the number 1, and each but the last has as many rows as the size says
 abbrev pub page_at : Option (List Row) → ℕ → ℕ → PageOutcome

@@ -1,7 +1,7 @@
 -- What the machine holds (defined by this project). Each of its lists is in ascending order of its keys, each key once:
 -- images by hash, layers by digest, feeds by name, notifications by number. It holds no findings, and nothing that was read
 -- from a layer.
-use Rattle.std.specs.Prelude.{ℕ, List, [], Option}
+use Rattle.std.specs.Prelude.{ℕ, List, [], ◌∷◌, ◌++◌, Option}
 use Rattle.std.specs.BTreeMap.{insert_entry, is_at}
 use Rattle.std.specs.Map.{lookup, remove_entry}
 use Rattle.std.specs.Ordering.{nat_cmp}
@@ -56,9 +56,9 @@ without_value entries key = remove_entry (is_at (text_cmp key)) entries
 abbrev pub notification_at : Notifications → ℕ → Option (List Row)
 notification_at notifications number = lookup (is_at (nat_cmp number)) notifications
 
--- notifications with one more
+-- notifications with one more after the others, of which none has a higher number
 abbrev pub with_notification : Notifications → ℕ → List Row → Notifications
-with_notification notifications number rows = insert_entry nat_cmp notifications number rows
+with_notification notifications number rows = notifications ++ (number, rows) ∷ []
 
 -- notifications without one
 abbrev pub without_notification : Notifications → ℕ → Notifications
