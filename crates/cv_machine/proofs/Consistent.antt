@@ -1,5 +1,5 @@
 -- Each event leaves a consistent state consistent.
-use Rattle.std.specs.Prelude.{◌≡◌, ℕ, ◌+◌, ◌≤◌, ◌<◌, Bool, true, false, ◌==◌, ◌||◌, cond, nat_lt, List, [], ◌∷◌, length, Option, Some, None, refl}
+use Rattle.std.specs.Prelude.{◌≡◌, ℕ, ◌+◌, ◌≤◌, ◌<◌, Bool, true, false, ◌==◌, ◌&&◌, ◌||◌, not, cond, nat_le, nat_lt, List, [], ◌∷◌, length, Option, Some, None, refl}
 use Rattle.std.specs.Cmp.Lexicographic.{nat_list_cmp_total, texts_ties}
 use Rattle.std.specs.BTreeMap.{is_at}
 use Rattle.std.specs.List.{AllByRecursion}
@@ -9,7 +9,7 @@ use Rattle.std.specs.Option.{is_some}
 use Rattle.std.specs.Ordering.{nat_cmp}
 use Rattle.std.specs.declared.cmp.Ordering.TheVariants.{Less, Equal, Greater}
 use Rattle.std.proofs.Common.{ap, sym, ◌∙◌, arith}
-use Rattle.std.proofs.lemmas.Bool.{lt-ltb, ltb-true}
+use Rattle.std.proofs.lemmas.Bool.{leb-false, lt-ltb, ltb-true}
 use Rattle.cv_base.specs.Texts.{has_text, same}
 use Rattle.cv_base.specs.declared.advisory.Advisory.{Advisory}
 use Rattle.cv_base.specs.declared.finding.Row.{Row}
@@ -23,7 +23,7 @@ use Rattle.cv_machine.specs.Layers.{is_claimed_as, is_claimed_by, is_named}
 use Rattle.cv_machine.specs.Rows.{rows_of}
 use Rattle.cv_machine.specs.Scans.{Trees}
 use Rattle.cv_machine.specs.State.{Feeds, Images, Layers, Notifications, State, notification_at, opening, value_at, with_value, without_value}
-use Rattle.cv_machine.specs.Step.{ack_at, by_id, claim_at, drop_at, entered, finish, has_room, notified, register_at, remaining, step, update, updated}
+use Rattle.cv_machine.specs.Step.{ack_at, by_id, claim_at, drop_at, entered, finish, is_full, notified, register_at, remaining, step, update, updated}
 use Rattle.cv_machine.specs.declared.act.WholeAct.{WholeAct}
 use Rattle.cv_machine.specs.declared.act.WholeAct.TheVariants as act
 use Rattle.cv_machine.specs.declared.limits.Limits.{Limits}
@@ -201,15 +201,15 @@ notified_numbers : (ns : Notifications) (n : ℕ) (rows : List Row) → AllByRec
 notified_numbers ns n [] h = all_later n (keys_of ns) h
 notified_numbers ns n (row ∷ rows) h = all_last (λ number. number ≤ n + 1) ns (n + 1) (row ∷ rows) (all_later n (keys_of ns) h) (omega arith)
 
-pub few_after : (s : State) (feed : List ℕ) (records : List Advisory) → IsConsistent s → has_room s feed ≡ true → length (with_value s.feeds feed records) ≤ s.limits.feeds
+pub few_after : (s : State) (feed : List ℕ) (records : List Advisory) → IsConsistent s → is_full s feed ≡ false → length (with_value s.feeds feed records) ≤ s.limits.feeds
 few_after s feed records h room = by_found (is_some (value_at s.feeds feed)) refl room where
-  by_found : (b : Bool) → is_some (value_at s.feeds feed) ≡ b → (b || nat_lt (length s.feeds) s.limits.feeds) ≡ true → length (with_value s.feeds feed records) ≤ s.limits.feeds
+  by_found : (b : Bool) → is_some (value_at s.feeds feed) ≡ b → (not b && nat_le s.limits.feeds (length s.feeds)) ≡ false → length (with_value s.feeds feed records) ≤ s.limits.feeds
   by_found true found some =
       let same_length : length (with_value s.feeds feed records) ≡ length s.feeds = length_found nat_list_cmp_total s.feeds feed records h.feeds found in
       omega (arith, same_length, h.few_feeds)
   by_found false found few =
       let grown : length (with_value s.feeds feed records) ≤ length s.feeds + 1 = length_put text_cmp s.feeds feed records in
-      let below : length s.feeds < s.limits.feeds = ltb-true _ _ few in
+      let below : length s.feeds < s.limits.feeds = leb-false _ _ few in
       omega (arith, grown, below)
 
 pub updated_consistent : (s : State) (feeds : Feeds) (rows : List Row) → IsConsistent s → IsStrictlySortedBy text_cmp (keys_of feeds) → length feeds ≤ s.limits.feeds
@@ -226,13 +226,13 @@ updated_consistent s feeds rows h sorted few = record {
 }
 
 pub update_consistent : (trees : Trees) (s : State) (feed : List ℕ) (records : List Advisory) → IsConsistent s → IsConsistent (update trees s feed records).0
-update_consistent trees s feed records h = by_room (has_room s feed) refl where
-  by_room : (b : Bool) → has_room s feed ≡ b
-      → IsConsistent (either b (updated s (with_value s.feeds feed (by_id records)) (rows_of trees s (with_value s.feeds feed (by_id records)))) (s, reply.TooManyFeeds)).0
-  by_room true room =
+update_consistent trees s feed records h = by_room (is_full s feed) refl where
+  by_room : (b : Bool) → is_full s feed ≡ b
+      → IsConsistent (either b (s, reply.TooManyFeeds) (updated s (with_value s.feeds feed (by_id records)) (rows_of trees s (with_value s.feeds feed (by_id records))))).0
+  by_room true full = h
+  by_room false room =
       updated_consistent s (with_value s.feeds feed (by_id records)) (rows_of trees s (with_value s.feeds feed (by_id records))) h
       (sorted_put nat_list_cmp_total s.feeds feed (by_id records) h.feeds) (few_after s feed (by_id records) h room)
-  by_room false room = h
 
 -- Ack
 

@@ -16,7 +16,7 @@ use Rattle.cv_machine.specs.Layers.{is_claimed_by, is_named}
 use Rattle.cv_machine.specs.Rows.{rows_of}
 use Rattle.cv_machine.specs.Scans.{IsKnown, Trees, trees_of}
 use Rattle.cv_machine.specs.State.{State, notification_at, value_at, with_value, without_value}
-use Rattle.cv_machine.specs.Step.{ack_at, by_id, claim_at, drop_at, entered, finish, has_room, register_at, step, update, updated}
+use Rattle.cv_machine.specs.Step.{ack_at, by_id, claim_at, drop_at, entered, finish, is_full, register_at, step, update, updated}
 use Rattle.cv_machine.specs.declared.act.WholeAct.{WholeAct}
 use Rattle.cv_machine.specs.declared.act.WholeAct.TheVariants as act
 use Rattle.cv_machine.specs.declared.status.Status.{Status}
@@ -71,11 +71,11 @@ finish_orderly s layer worker next answer plain = by_claim (is_claimed_by worker
   by_claim false = stays s reply.NotClaimed refl
 
 update_orderly : (trees : Trees) (s : State) (feed : List ℕ) (records : List Advisory) → IsOrderly s (update trees s feed records)
-update_orderly trees s feed records = by_room (has_room s feed) where
+update_orderly trees s feed records = by_room (is_full s feed) where
   by_room : (b : Bool)
-      → IsOrderly s (either b (updated s (with_value s.feeds feed (by_id records)) (rows_of trees s (with_value s.feeds feed (by_id records)))) (s, reply.TooManyFeeds))
-  by_room true = record { unchanged = λ h. absurd (cc h); generation = (refl, refl); limits = refl }
-  by_room false = stays s reply.TooManyFeeds refl
+      → IsOrderly s (either b (s, reply.TooManyFeeds) (updated s (with_value s.feeds feed (by_id records)) (rows_of trees s (with_value s.feeds feed (by_id records)))))
+  by_room true = stays s reply.TooManyFeeds refl
+  by_room false = record { unchanged = λ h. absurd (cc h); generation = (refl, refl); limits = refl }
 
 ack_orderly : (found : Option (List Row)) (s : State) (number : ℕ) → IsOrderly s (ack_at found s number)
 ack_orderly None s number = stays s reply.NoNotification refl

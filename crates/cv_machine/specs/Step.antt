@@ -1,6 +1,6 @@
 -- The events of the machine (defined by this project): what the state is after an event, and what is replied. A reply that
 -- is given with the state as it was changes nothing.
-use Rattle.std.specs.Prelude.{ℕ, ◌+◌, Bool, ◌||◌, not, nat_lt, if◌then◌else◌, List, [], ◌∷◌, length, filter, Option, Some, None}
+use Rattle.std.specs.Prelude.{ℕ, ◌+◌, Bool, ◌&&◌, ◌||◌, not, nat_le, nat_lt, if◌then◌else◌, List, [], ◌∷◌, length, filter, Option, Some, None}
 use Rattle.std.specs.Cmp.Lexicographic.{pointwise}
 use Rattle.std.specs.Option.{is_some}
 use Rattle.std.specs.Ordering.{on}
@@ -100,16 +100,16 @@ updated state feeds rows = (
   reply.Updated (state.generation + 1) (length rows),
 )
 
--- there may be a feed of this name: there is one, or there are fewer feeds than may be
-abbrev pub has_room : State → List ℕ → Bool
-has_room state feed = is_some (value_at state.feeds feed) || nat_lt (length state.feeds) state.limits.feeds
+-- a feed of this name is new, and there are as many feeds as may be
+abbrev pub is_full : State → List ℕ → Bool
+is_full state feed = not (is_some (value_at state.feeds feed)) && nat_le state.limits.feeds (length state.feeds)
 
 -- Update of a feed: TooManyFeeds if it is new and there are as many feeds as may be, or else Updated: the feed has these
 -- records in place of those before
 abbrev pub update : Trees → State → List ℕ → List Advisory → State × Reply
 update trees state feed records =
     let feeds = with_value state.feeds feed (by_id records) in
-    if has_room state feed then updated state feeds (rows_of trees state feeds) else (state, reply.TooManyFeeds)
+    if is_full state feed then (state, reply.TooManyFeeds) else updated state feeds (rows_of trees state feeds)
 
 -- Ack, by the notification of this number: NoNotification if there is none, or else Acked: it goes
 abbrev pub ack_at : Option (List Row) → State → ℕ → State × Reply
