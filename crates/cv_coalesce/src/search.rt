@@ -14,7 +14,7 @@ pub fn has(list: &[RelPath], path: &RelPath) -> bool
 }
 
 /// Whether a sorted list has the path of the first components of another one, so many of them.
-fn has_front(list: &[RelPath], path: &RelPath, depth: usize) -> bool
+pub fn has_front(list: &[RelPath], path: &RelPath, depth: usize) -> bool
     requires { IsSorted path_cmp list.now }
     ensures { result ≡ list_any (λ t. same_path t (take depth path.now)) list.now }
 {
