@@ -1,8 +1,9 @@
 -- The shape of a layer that is indexed from its listing and its reads is that of the layer as it is stored.
-use Rattle.std.specs.Prelude.{◌≡◌, ℕ, Bool, true, false, nat_lt, is_none, if◌then◌else◌, List, [], ◌∷◌, length, map, Option, Some, None, Result, Ok, Err, IfOk, IfSome, refl}
+use Rattle.std.specs.Prelude.{◌≡◌, ℕ, ◌+◌, ◌<◌, Bool, true, false, nat_lt, is_none, if◌then◌else◌, List, [], ◌∷◌, ◌++◌, drop, get_or, length, map, Option, Some, None, Result, Ok, Err, IfOk, IfSome, refl}
 use Rattle.std.specs.List.{cons_option}
-use Rattle.std.specs.Option.{option_map}
-use Rattle.std.proofs.Common.{ap, sym, ◌∙◌}
+use Rattle.std.specs.Option.{option_map, option_to_list}
+use Rattle.std.proofs.Common.{ap, append_assoc, sym, ◌∙◌}
+use Rattle.std.proofs.lemmas.List.{drop_more}
 use Rattle.cv_base.specs.InOrder.{in_order}
 use Rattle.cv_base.specs.Path.{Path, path_cmp}
 use Rattle.cv_base.specs.Place.{place_of}
@@ -27,7 +28,7 @@ use Rattle.cv_packages.specs.declared.found.Found.TheVariants as found
 use Rattle.cv_facts.specs.Cover.{covers, opaque_dirs, place_dirs, targets}
 use Rattle.cv_facts.specs.Files.{own_file, own_files}
 use Rattle.cv_facts.specs.Reduction.{IsRight, shape_by, shape_of}
-use Rattle.cv_facts.specs.code.Listing.{found_shape, listed_files, listed_shape, listed_shape_by}
+use Rattle.cv_facts.specs.code.Listing.{found_shape, listed_file, listed_files, listed_shape, listed_shape_by}
 use Rattle.cv_facts.proofs.PlacedLemmas.{kind_is}
 use Rattle.cv_facts.specs.declared.error.IndexError.{IndexError}
 use Rattle.cv_facts.specs.declared.reduction.Shape.{Shape}
@@ -72,6 +73,30 @@ files_by tree (e ∷ es) = λ i. cons_option (kind_is tree e.path e.kind i) (fil
 
 files_are : (es : List Stored) → IsDistinctIn (Some (Some es)) → listed_files (Some es) (map listed_entry es) ≡ own_files (map whole es)
 files_are es h = files_by (Some es) (map listed_entry es) ∙ ap own_files (loaded_whole es h) ∙ own_loaded es
+
+onto : (o : Option FileFound) (rest : List FileFound) → option_to_list o ++ rest ≡ cons_option o rest
+onto None rest = refl
+onto (Some f) rest = refl
+
+-- no files so far, with those of all entries, are all
+pub none_listed : (tree : Option (Option (List Stored))) (es : List ListEntry) (fs : List FileFound) → fs ≡ [] → IfSome tree (λ t. fs ++ listed_files t es ≡ listed_files t es)
+none_listed None es fs h = tt
+none_listed (Some t) es fs h = ap (λ (gs : List FileFound). gs ++ listed_files t es) h
+
+-- the files so far, with those of the entries that remain, are all
+pub one_listed : (tree : Option (Option (List Stored))) (es : List ListEntry) (i : ℕ) (x : ListEntry) (old new : List FileFound) (file : Option FileFound)
+    → i < length es → x ≡ get_or es i x → new ≡ old ++ option_to_list file → IfSome tree (λ t. file ≡ listed_file t x)
+    → IfSome tree (λ t. old ++ listed_files t (drop i es) ≡ listed_files t es) → IfSome tree (λ t. new ++ listed_files t (drop (i + 1) es) ≡ listed_files t es)
+one_listed None es i x old new file lt at n h k = tt
+one_listed (Some t) es i x old new file lt at n h k =
+    let rest = drop (i + 1) es in
+    let here : drop i es ≡ x ∷ rest = drop_more es i x lt ∙ ap (λ (y : ListEntry). y ∷ rest) (sym at) in
+    ap (λ (fs : List FileFound). fs ++ listed_files t rest) n
+    ∙ append_assoc old (option_to_list file) (listed_files t rest)
+    ∙ ap (λ (f : Option FileFound). old ++ (option_to_list f ++ listed_files t rest)) h
+    ∙ ap (λ (fs : List FileFound). old ++ fs) (onto (listed_file t x) (listed_files t rest))
+    ∙ ap (λ (ys : List ListEntry). old ++ listed_files t ys) (sym here)
+    ∙ k
 
 -- The shape.
 

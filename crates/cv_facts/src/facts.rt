@@ -1,4 +1,5 @@
 ghost use Rattle.std.specs.Prelude.{◌≡◌, IfOk};
+ghost use Rattle.cv_facts.specs.Order.{IsOrdered};
 ghost use Rattle.cv_facts.specs.Reduction.{IsRight};
 
 use crate::reduction::Shape;
@@ -10,7 +11,7 @@ use std::marker::{Model, PhantomData};
 use std::sync::Arc;
 
 /// What is known of the layer of a digest on the desks of a type: if the type says what the layer is, the shape is that
-/// layer's. Copies share the shape.
+/// layer's. The lists of the shape are in order, whatever the type says. Copies share the shape.
 #[derive(Drop)]
 pub struct LayerFacts<D: Desk> {
     digest: Digest,
@@ -20,19 +21,21 @@ pub struct LayerFacts<D: Desk> {
 
 impl<D: Desk> Model for LayerFacts<D> {
     ghost use Rattle.std.specs.Arc.{arc_value};
+    ghost use Rattle.cv_facts.specs.Order.{IsOrdered};
     ghost use Rattle.cv_facts.specs.Reduction.{IsRight, Known};
 
     ghost Value = { Known };
 
     ghost view = { λ f. record { digest = f.digest; shape = arc_value f.shape } };
 
-    ghost invariant = { λ f. IsRight D.tree (record { digest = f.digest; shape = arc_value f.shape }) };
+    ghost invariant = { λ f. IsRight D.tree (record { digest = f.digest; shape = arc_value f.shape }) × IsOrdered (arc_value f.shape) };
 }
 
 impl<D: Desk> LayerFacts<D> {
     /// The facts of a layer of this shape.
     pub(crate) fn of(alloc: Global, digest: Digest, shape: Shape) -> Result<LayerFacts<D>, NoMemory>
-        requires { IsRight D.tree (record { digest = digest; shape = shape }) }
+        requires right { IsRight D.tree (record { digest = digest; shape = shape }) }
+        requires ordered { IsOrdered shape }
         ensures { IfOk result (λ facts. facts ≡ record { digest = digest; shape = shape }) }
     {
         Ok(LayerFacts {
@@ -70,6 +73,13 @@ impl<D: Desk> LayerFacts<D> {
     /// The facts are right. It does nothing.
     pub fn known(&self)
         ensures { IsRight D.tree self.now }
+    {
+        let _digest = &self.digest;
+    }
+
+    /// The lists of the shape are in order. It does nothing.
+    pub fn ordered(&self)
+        ensures { IsOrdered self.now.shape }
     {
         let _digest = &self.digest;
     }

@@ -1,9 +1,11 @@
-ghost use Rattle.std.specs.Prelude.{◌≡◌, ◌++◌, Some, IfOk, IfSome, OnOk};
+ghost use Rattle.std.specs.Prelude.{◌≡◌, ◌++◌, None, Some, IfOk, IfSome, OnOk};
 ghost use Rattle.std.specs.Option.{option_to_list};
 ghost use Rattle.cv_seq.specs.Cause.{CausedBy};
 ghost use Rattle.cv_desk.specs.Loaded.{loaded_file};
 ghost use Rattle.cv_desk.specs.Stored.{item_in};
+ghost use Rattle.cv_overlay.specs.Fault.{list_fault};
 ghost use Rattle.cv_facts.specs.Cause.{is_desk_fault};
+ghost use Rattle.cv_facts.specs.Order.{AreAscending};
 ghost use Rattle.cv_facts.specs.code.Listing.{listed_at, listed_file, listed_files};
 ghost use Rattle.cv_base.specs.Place.{place_of};
 ghost use Rattle.cv_packages.specs.Files.{file_of};
@@ -24,7 +26,9 @@ pub fn read_files<D: Desk>(
     layer: &Digest,
     entries: &[ListEntry],
 ) -> Result<Vec<FileFound>, IndexError>
+    requires good { list_fault entries.now ≡ None }
     ensures files { IfSome (D.tree layer.now) (λ t. IfOk result (λ files. files.items ≡ listed_files t entries.now)) }
+    ensures ordered { IfOk result (λ files. AreAscending files.items) }
     ensures cause { CausedBy (D.faults desk.old) (D.faults desk.new) (is_desk_fault result) }
     ensures same { D.listings desk.new ≡ D.listings desk.old }
 {
@@ -54,6 +58,7 @@ fn read_entry<D: Desk>(
     entry: &ListEntry,
 ) -> Result<Option<FileFound>, IndexError>
     ensures file { IfSome (D.tree layer.now) (λ t. IfOk result (λ file. file ≡ listed_file t entry.now)) }
+    ensures path { IfOk result (λ file. IfSome file (λ f. f.path ≡ entry.now.path)) }
     ensures cause { CausedBy (D.faults desk.old) (D.faults desk.new) (is_desk_fault result) }
     ensures same { D.listings desk.new ≡ D.listings desk.old }
 {
@@ -71,6 +76,7 @@ fn read_listed<D: Desk>(
     path: &RelPath,
 ) -> Result<Option<FileFound>, IndexError>
     ensures file { IfSome (D.tree layer.now) (λ t. IfOk result (λ file. file ≡ listed_at t path.now)) }
+    ensures path { IfOk result (λ file. IfSome file (λ f. f.path ≡ path.now)) }
     ensures cause { CausedBy (D.faults desk.old) (D.faults desk.new) (is_desk_fault result) }
     ensures same { D.listings desk.new ≡ D.listings desk.old }
 {
@@ -94,6 +100,7 @@ fn read_placed<D: Desk>(
 ) -> Result<Option<FileFound>, IndexError>
     requires { place_of path.now ≡ Some place }
     ensures file { IfSome (D.tree layer.now) (λ t. IfOk result (λ file. file ≡ file_of path.now (Some place) (loaded_file path.now (item_in t path.now)))) }
+    ensures path { IfOk result (λ file. IfSome file (λ f. f.path ≡ path.now)) }
     ensures cause { CausedBy (D.faults desk.old) (D.faults desk.new) (is_desk_fault result) }
     ensures same { D.listings desk.new ≡ D.listings desk.old }
 {

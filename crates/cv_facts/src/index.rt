@@ -1,6 +1,8 @@
-ghost use Rattle.std.specs.Prelude.{◌≡◌, ◌+◌, ◌^◌, ◌<◌, IfOk, IfSome};
+ghost use Rattle.std.specs.Prelude.{◌≡◌, ◌+◌, ◌^◌, ◌<◌, IfOk, IfSome, None};
 ghost use Rattle.cv_seq.specs.Cause.{CausedBy};
+ghost use Rattle.cv_overlay.specs.Fault.{list_fault};
 ghost use Rattle.cv_facts.specs.Cause.{is_desk_fault};
+ghost use Rattle.cv_facts.specs.Order.{HasOrderedLists, IsOrdered};
 ghost use Rattle.cv_facts.specs.Reduction.{shape_of};
 ghost use Rattle.cv_facts.specs.code.Listing.{found_shape, listed_reduction, listed_shape};
 
@@ -35,6 +37,7 @@ pub fn index_layer<D: Desk>(
 fn read_shape<D: Desk>(alloc: Global, desk: &mut D, layer: &Digest) -> Result<Shape, IndexError>
     requires room { D.listings desk.old < 2 ^ 63 + 2 ^ 62 }
     ensures shape { IfSome (D.tree layer.now) (λ t. IfOk result (λ shape. shape ≡ shape_of t)) }
+    ensures ordered { IfOk result (λ shape. IsOrdered shape) }
     ensures cause { CausedBy (D.faults desk.old) (D.faults desk.new) (is_desk_fault result) }
     ensures counted { D.listings desk.new ≡ D.listings desk.old + 1 }
 {
@@ -50,6 +53,7 @@ fn found_shape<D: Desk>(
     listed: Option<Seq<ListEntry>>,
 ) -> Result<Shape, IndexError>
     ensures shape { IfSome (D.tree layer.now) (λ t. IfOk result (λ shape. shape ≡ found_shape t listed)) }
+    ensures ordered { IfOk result (λ shape. IsOrdered shape) }
     ensures cause { CausedBy (D.faults desk.old) (D.faults desk.new) (is_desk_fault result) }
     ensures same { D.listings desk.new ≡ D.listings desk.old }
 {
@@ -67,6 +71,7 @@ fn listed_shape<D: Desk>(
     entries: &[ListEntry],
 ) -> Result<Shape, IndexError>
     ensures shape { IfSome (D.tree layer.now) (λ t. IfOk result (λ shape. shape ≡ listed_shape t entries.now)) }
+    ensures ordered { IfOk result (λ shape. IsOrdered shape) }
     ensures cause { CausedBy (D.faults desk.old) (D.faults desk.new) (is_desk_fault result) }
     ensures same { D.listings desk.new ≡ D.listings desk.old }
 {
@@ -83,7 +88,9 @@ fn reduce<D: Desk>(
     layer: &Digest,
     entries: &[ListEntry],
 ) -> Result<Reduction, IndexError>
+    requires good { list_fault entries.now ≡ None }
     ensures reduction { IfSome (D.tree layer.now) (λ t. IfOk result (λ reduction. reduction ≡ listed_reduction t entries.now)) }
+    ensures ordered { IfOk result (λ reduction. HasOrderedLists reduction) }
     ensures cause { CausedBy (D.faults desk.old) (D.faults desk.new) (is_desk_fault result) }
     ensures same { D.listings desk.new ≡ D.listings desk.old }
 {

@@ -1,0 +1,7 @@
+mod Examples
+pub mod ImageLemmas
+pub mod KnownLemmas
+pub mod LayerLemmas
+pub mod OneLayer
+pub mod ReadLemmas
+pub mod SearchLemmas

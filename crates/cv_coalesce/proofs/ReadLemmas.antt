@@ -1,0 +1,120 @@
+-- Files as they are read: what is gathered of the files that were read is what is gathered as entries and then read.
+use Rattle.std.specs.Prelude.{◌≡◌, Bool, true, false, ◌&&◌, ◌||◌, not, if◌then◌else◌, filter, List, [], ◌∷◌, map, Option, Some, None, refl}
+use Rattle.std.specs.List.{cons_option, list_any}
+use Rattle.std.specs.Option.{is_some}
+use Rattle.std.specs.declared.cmp.Ordering.{Ordering}
+use Rattle.std.specs.declared.cmp.Ordering.TheVariants.{Less, Equal, Greater}
+use Rattle.std.proofs.Common.{ap, sym, ◌∙◌}
+use Rattle.cv_base.specs.InOrder.{in_order}
+use Rattle.cv_base.specs.Path.{Path, is_above, path_cmp}
+use Rattle.cv_base.specs.Place.{place_of}
+use Rattle.cv_base.specs.declared.places.Place.{Place}
+use Rattle.cv_base.specs.declared.tree.Node.{Node}
+use Rattle.cv_base.specs.declared.tree.Node.TheVariants as node
+use Rattle.cv_base.specs.declared.tree.TreeEntry.{TreeEntry}
+use Rattle.cv_base.proofs.InOrder.{any_order}
+use Rattle.cv_base.proofs.Same.{tied_path}
+use Rattle.cv_facts.specs.Cover.{covers, opaque_dirs, place_dirs, targets}
+use Rattle.cv_facts.specs.Files.{own_files}
+use Rattle.cv_facts.specs.Reduction.{reduction_of}
+use Rattle.cv_overlay.specs.Lay.{is_plain}
+use Rattle.cv_overlay.specs.Mark.{at_or_above, mark, outline}
+use Rattle.cv_overlay.specs.code.Merge.{first_of_two as first_entry, merged as merged_entries}
+use Rattle.cv_packages.specs.Files.{file_of, files_found}
+use Rattle.cv_packages.specs.Found.{found_in}
+use Rattle.cv_packages.specs.declared.found.FileFound.{FileFound}
+use Rattle.cv_packages.specs.declared.found.Found.{Found}
+use Rattle.cv_packages.specs.declared.found.Found.TheVariants as found
+use Rattle.cv_scan.specs.Root.{root_entries}
+use Rattle.cv_coalesce.specs.Gathered.{first_of_two, gathered, merged}
+use Rattle.cv_coalesce.specs.Hides.{hides, hides_at, is_hidden}
+use Rattle.cv_coalesce.specs.code.Trees.{AllAscend, gathered_entries, hidden_by, is_file, layer_files, root_files, tree_hides, visible_entries}
+use Rattle.cv_coalesce.proofs.LayerLemmas.{gathered_root}
+
+-- Reading a file at a place. (What is read of other entries is not used.)
+
+abbrev found_at_place : Option Place → Node → Found
+found_at_place None node = found.TooLarge
+found_at_place (Some place) node.Dir = found.TooLarge
+found_at_place (Some place) (node.File content) = found_in place content
+found_at_place (Some place) node.Other = found.TooLarge
+
+abbrev read : TreeEntry → FileFound
+read e = record { path = e.path; found = found_at_place (place_of e.path) e.node }
+
+one_read : (q : Path) (place : Option Place) (n : Node) (rest : List FileFound) (es : List TreeEntry) → place_of q ≡ place → rest ≡ map read es
+    → cons_option (file_of q place n) rest ≡ map read (if is_some place && is_file n then record { path = q; node = n } ∷ es else es)
+one_read q None n rest es e h = h
+one_read q (Some place) node.Dir rest es e h = h
+one_read q (Some place) (node.File content) rest es e h = λ i. record { path = q; found = found_at_place (sym e i) (node.File content) } ∷ h i
+one_read q (Some place) node.Other rest es e h = h
+
+files_read : (es : List TreeEntry) → files_found es ≡ map read (root_files es)
+files_read [] = refl
+files_read (e ∷ es) = one_read e.path (place_of e.path) e.node (files_found es) (root_files es) refl (files_read es)
+
+own_read : (es : List TreeEntry) → own_files es ≡ map read (layer_files es)
+own_read [] = refl
+own_read (e ∷ es) = by_mark (is_plain (mark e)) (own_read es) where
+  by_mark : (m : Bool) → own_files es ≡ map read (layer_files es)
+      → cons_option (if m then file_of e.path (place_of e.path) e.node else None) (own_files es)
+      ≡ map read (if m && (is_some (place_of e.path) && is_file e.node) then e ∷ layer_files es else layer_files es)
+  by_mark true rest = one_read e.path (place_of e.path) e.node (own_files es) (layer_files es) refl rest
+  by_mark false rest = rest
+
+-- Merging and leaving out by paths.
+
+merged_read : (xs ys : List TreeEntry) → merged (map read xs) (map read ys) ≡ map read (merged_entries xs ys)
+merged_read [] ys = refl
+merged_read (x ∷ xs) [] = refl
+merged_read (x ∷ xs) (y ∷ ys) = by_order (path_cmp x.path y.path) (merged_read xs (y ∷ ys)) (merged_read (x ∷ xs) ys) where
+  by_order : (o : Ordering)
+      → merged (map read xs) (map read (y ∷ ys)) ≡ map read (merged_entries xs (y ∷ ys))
+      → merged (map read (x ∷ xs)) (map read ys) ≡ map read (merged_entries (x ∷ xs) ys)
+      → first_of_two o (read x) (read y) (merged (map read xs) (map read (y ∷ ys))) (merged (map read (x ∷ xs)) (map read ys))
+      ≡ map read (first_entry o x y (merged_entries xs (y ∷ ys)) (merged_entries xs (y ∷ ys)) (merged_entries (x ∷ xs) ys))
+  by_order Less low high = λ i. read x ∷ low i
+  by_order Equal low high = low
+  by_order Greater low high = λ i. read y ∷ high i
+
+kept_read : (hidden : Path → Bool) (xs : List TreeEntry)
+    → filter (λ (f : FileFound). not (hidden f.path)) (map read xs) ≡ map read (filter (λ (e : TreeEntry). not (hidden e.path)) xs)
+kept_read hidden [] = refl
+kept_read hidden (x ∷ xs) = by_test (hidden x.path) (kept_read hidden xs) where
+  by_test : (b : Bool) → filter (λ (f : FileFound). not (hidden f.path)) (map read xs) ≡ map read (filter (λ (e : TreeEntry). not (hidden e.path)) xs)
+      → (if not b then read x ∷ filter (λ (f : FileFound). not (hidden f.path)) (map read xs) else filter (λ (f : FileFound). not (hidden f.path)) (map read xs))
+      ≡ map read (if not b then x ∷ filter (λ (e : TreeEntry). not (hidden e.path)) xs else filter (λ (e : TreeEntry). not (hidden e.path)) xs)
+  by_test true rest = rest
+  by_test false rest = λ i. read x ∷ rest i
+
+-- What a reduction hides is what its tree does: the order of its lists does not matter.
+
+hides_read : (tree : List TreeEntry) (p : Path) → hides (reduction_of tree) p ≡ tree_hides tree p
+hides_read tree p =
+    let t = any_order (λ q. at_or_above q p) (λ q r h. ap (λ (x : Path). at_or_above x p) (tied_path q r h)) (targets (map outline tree)) in
+    let o = any_order (λ q. is_above q p) (λ q r h. ap (λ (x : Path). is_above x p) (tied_path q r h)) (opaque_dirs (map outline tree)) in
+    let rest = hides_at [] [] (covers (map outline tree)) (place_dirs (map outline tree)) p in
+    λ i. t i || (o i || rest)
+
+hidden_read : (trees : List (List TreeEntry)) (p : Path) → is_hidden (map reduction_of trees) p ≡ hidden_by trees p
+hidden_read [] p = refl
+hidden_read (tree ∷ trees) p = λ i. hides_read tree p i || hidden_read trees p i
+
+-- All together.
+
+visible_read : (higher : List (List TreeEntry)) (tree : List TreeEntry)
+    → filter (λ (f : FileFound). not (is_hidden (map reduction_of higher) f.path)) (own_files tree) ≡ map read (visible_entries higher tree)
+visible_read higher tree =
+    ap (filter (λ (f : FileFound). not (is_hidden (map reduction_of higher) f.path))) (own_read tree)
+    ∙ kept_read (is_hidden (map reduction_of higher)) (layer_files tree)
+    ∙ (λ i. map read (filter (λ (e : TreeEntry). not (hidden_read higher e.path i)) (layer_files tree)))
+
+gathered_read : (trees : List (List TreeEntry)) → gathered (map reduction_of trees) ≡ map read (gathered_entries trees)
+gathered_read [] = refl
+gathered_read (tree ∷ trees) =
+    (λ i. merged (visible_read trees tree i) (gathered_read trees i))
+    ∙ merged_read (visible_entries trees tree) (gathered_entries trees)
+
+-- the files that are gathered from the reductions of trees are the package files of the root of the image
+pub files_are : (trees : List (List TreeEntry)) → AllAscend trees → gathered (map reduction_of trees) ≡ files_found (root_entries trees)
+files_are trees h = gathered_read trees ∙ ap (map read) (gathered_root trees h) ∙ sym (files_read (root_entries trees))

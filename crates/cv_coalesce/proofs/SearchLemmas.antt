@@ -1,0 +1,126 @@
+-- What binary searches for the fronts of a path find in a sorted list.
+use Rattle.std.specs.Prelude.{◌≡◌, ℕ, ◌+◌, ◌<◌, Bool, true, false, ◌&&◌, ◌||◌, List, [], ◌∷◌, length, take, Result, Ok, Err, IsSorted, refl}
+use Rattle.std.specs.Cmp.Lexicographic.{slice_cmp, lists_ties, texts_ties}
+use Rattle.std.specs.List.{list_any}
+use Rattle.std.specs.List.Sorted.{IsSearchInRange, IsBinarySearchResult}
+use Rattle.std.specs.Ordering.{nat_cmp}
+use Rattle.std.specs.Result.{is_ok}
+use Rattle.std.specs.declared.cmp.Ordering.TheVariants.{Less, Equal, Greater}
+use Rattle.std.proofs.Common.{zero, suc, ap, sym, ◌∙◌, inl, inr, get_or, arith, below_more}
+use Rattle.std.proofs.lemmas.Bool.{cases_lt}
+use Rattle.std.proofs.lemmas.List.Folds.{list_any_at, list_any_none}
+use Rattle.std.proofs.lemmas.List.Sorted.{searchable_from_sorted}
+use Rattle.cv_base.specs.Path.{Path, is_above, path_cmp, same_path}
+use Rattle.cv_base.specs.Texts.{same}
+use Rattle.cv_base.proofs.Bools.{and_left, and_right, or_swap_inner}
+use Rattle.cv_base.proofs.Same.{path_total, same_self}
+use Rattle.cv_overlay.specs.Mark.{at_or_above}
+
+-- A search for one path.
+
+tied : (p q : Path) → path_cmp p q ≡ Equal → same_path p q ≡ true
+tied p q h = lists_ties (slice_cmp nat_cmp) texts_ties p q ∙ rw h refl
+
+less_apart : (p q : Path) → path_cmp p q ≡ Less → same_path p q ≡ false
+less_apart p q h = lists_ties (slice_cmp nat_cmp) texts_ties p q ∙ rw h refl
+
+greater_apart : (p q : Path) → path_cmp p q ≡ Greater → same_path p q ≡ false
+greater_apart p q h = lists_ties (slice_cmp nat_cmp) texts_ties p q ∙ rw h refl
+
+first_path : (ps : List Path) (i : ℕ) → i < length ps → Path
+first_path [] i h = absurd (omega (arith, h))
+first_path (p ∷ ps) i h = p
+
+pub searched : (ps : List Path) (q : Path) (r : Result ℕ ℕ) → IsSorted path_cmp ps → IsSearchInRange r (length ps)
+    → IsBinarySearchResult (λ p. path_cmp p q) ps r → is_ok r ≡ list_any (λ p. same_path p q) ps
+searched ps q (Ok i) sorted bound found =
+    let d = first_path ps i bound in
+    sym (list_any_at (λ p. same_path p q) ps i d bound (tied (get_or ps i d) q (found d)))
+searched ps q (Err i) sorted bound found =
+    let point = found (searchable_from_sorted path_total (λ (p : Path). p) ps q sorted) in
+    sym (list_any_none (λ p. same_path p q) ps
+    (λ k d h. elim (cases_lt k i) [
+      | inl l ↦ less_apart (get_or ps k d) q (point.0 k d (omega arith) l)
+      | inr g ↦ greater_apart (get_or ps k d) q (point.1 k d g h)
+    ]))
+
+-- A path is above another one exactly where it is one of its proper fronts.
+
+front_above : (t p : Path) (k : ℕ) → k < length p → same_path t (take k p) ≡ true → is_above t p ≡ true
+front_above t [] k h e = absurd (omega (arith, h))
+front_above [] (c ∷ cs) zero h e = refl
+front_above (x ∷ xs) (c ∷ cs) zero h e = cc
+front_above [] (c ∷ cs) (suc k) h e = refl
+front_above (x ∷ xs) (c ∷ cs) (suc k) h e =
+    both (same x c) (is_above xs cs) (and_left (same x c) (same_path xs (take k cs)) e)
+    (front_above xs cs k (omega (arith, h)) (and_right (same x c) (same_path xs (take k cs)) e)) where
+      both : (a b : Bool) → a ≡ true → b ≡ true → (a && b) ≡ true
+      both a b f g = rw (f, g) refl
+
+-- the front of a path that is above it
+above_front : (t p : Path) → is_above t p ≡ true → (length t < length p) × (same_path t (take (length t) p) ≡ true)
+above_front [] [] h = cc
+above_front [] (c ∷ cs) h = (omega arith, refl)
+above_front (x ∷ xs) [] h = cc
+above_front (x ∷ xs) (c ∷ cs) h =
+    let rest = above_front xs cs (and_right (same x c) (is_above xs cs) h) in
+    let first : same x c ≡ true = and_left (same x c) (is_above xs cs) h in
+    (omega (arith, rest.0), both (same x c) (same_path xs (take (length xs) cs)) first rest.1) where
+      both : (a b : Bool) → a ≡ true → b ≡ true → (a && b) ≡ true
+      both a b f g = rw (f, g) refl
+
+-- Fronts in a list.
+
+weaker : (f g : Path → Bool) (ts : List Path) → ((t : Path) → f t ≡ true → g t ≡ true) → list_any f ts ≡ true → list_any g ts ≡ true
+weaker f g [] h e = e
+weaker f g (t ∷ ts) h e = by_test (f t) refl e (weaker f g ts h) where
+  by_test : (b : Bool) → f t ≡ b → (b || list_any f ts) ≡ true → (list_any f ts ≡ true → list_any g ts ≡ true) → (g t || list_any g ts) ≡ true
+  by_test true k e rest = ap (λ (c : Bool). c || list_any g ts) (h t k)
+  by_test false k e rest = ap (λ (c : Bool). g t || c) (rest e) ∙ or_true (g t) where
+    or_true : (c : Bool) → (c || true) ≡ true
+    or_true true = refl
+    or_true false = refl
+
+-- one front is in the list
+pub some_front : (ts : List Path) (p : Path) (k : ℕ) → k < length p → list_any (λ t. same_path t (take k p)) ts ≡ true → list_any (λ t. is_above t p) ts ≡ true
+some_front ts p k h e = weaker (λ t. same_path t (take k p)) (λ t. is_above t p) ts (λ t f. front_above t p k h f) e
+
+false_true : (b : Bool) → b ≡ true → b ≡ false → ⊥
+false_true true h k = cc
+false_true false h k = cc
+
+or_left : (a b : Bool) → (a || b) ≡ false → a ≡ false
+or_left true b h = cc
+or_left false b h = refl
+
+or_right : (a b : Bool) → (a || b) ≡ false → b ≡ false
+or_right true b h = cc
+or_right false b h = h
+
+-- no front is
+pub no_front : (ts : List Path) (p : Path) → ((k : ℕ) → k < length p → list_any (λ t. same_path t (take k p)) ts ≡ false) → list_any (λ t. is_above t p) ts ≡ false
+no_front [] p h = refl
+no_front (t ∷ ts) p h =
+    by_test (is_above t p) refl
+    (no_front ts p (λ k l. or_right (same_path t (take k p)) (list_any (λ t. same_path t (take k p)) ts) (h k l))) where
+      by_test : (b : Bool) → is_above t p ≡ b → list_any (λ t. is_above t p) ts ≡ false → (b || list_any (λ t. is_above t p) ts) ≡ false
+      by_test true e rest =
+          let front = above_front t p e in
+          absurd (false_true (same_path t (take (length t) p)) front.1
+          (or_left (same_path t (take (length t) p)) (list_any (λ u. same_path u (take (length t) p)) ts) (h (length t) front.0)))
+      by_test false e rest = rest
+
+either : (ts : List Path) (p : Path) → (list_any (λ t. same_path t p) ts || list_any (λ t. is_above t p) ts) ≡ list_any (λ t. at_or_above t p) ts
+either [] p = refl
+either (t ∷ ts) p =
+    or_swap_inner (same_path t p) (list_any (λ t. same_path t p) ts) (is_above t p) (list_any (λ t. is_above t p) ts)
+    ∙ ap (λ (b : Bool). at_or_above t p || b) (either ts p)
+
+-- the path is in the list
+pub has_path : (ts : List Path) (p : Path) (b : Bool) → b ≡ list_any (λ t. same_path t p) ts → b ≡ true → b ≡ list_any (λ t. at_or_above t p) ts
+has_path ts p b h k = k ∙ ap (λ (c : Bool). c || list_any (λ t. is_above t p) ts) (sym k ∙ h) ∙ either ts p
+
+-- it is not, and one above it is or is not
+pub has_upper : (ts : List Path) (p : Path) (b c : Bool) → b ≡ list_any (λ t. same_path t p) ts → b ≡ false → c ≡ list_any (λ t. is_above t p) ts
+    → c ≡ list_any (λ t. at_or_above t p) ts
+has_upper ts p b c h k e = e ∙ ap (λ (d : Bool). d || list_any (λ t. is_above t p) ts) (sym k ∙ h) ∙ either ts p

@@ -1,0 +1,6 @@
+pub mod Coalesced
+pub mod Gathered
+pub mod Hides
+pub mod Image
+pub mod code
+pub mod tests

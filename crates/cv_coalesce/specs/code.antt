@@ -1,0 +1,4 @@
+-- Definitions for the clauses of private functions.
+pub mod Fronts
+pub mod Known
+pub mod Trees
