@@ -1,1 +1,4 @@
+pub mod IndexLemmas
+pub mod NameLemmas
 pub mod Ordered
+pub mod Walked

@@ -139,9 +139,7 @@ impl Feeds {
         ensures before_sorted { IfOk result (λ touched. IsStrictlySortedBy id_cmp (records_of feed.now self.now.feeds)) }
     {
         let keys = touched_keys(alloc, self.records_of(feed), stock.records())?;
-        Ok(Touched {
-            keys: Seq::of(keys),
-        })
+        Ok(Touched { keys })
     }
 
     fn put(&mut self, feed: Text, stock: Stock) -> Result<(), NoMemory>
