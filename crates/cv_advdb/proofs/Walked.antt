@@ -15,7 +15,7 @@ use Rattle.cv_advdb.specs.code.Index.{names_in}
 use Rattle.cv_advdb.specs.code.Walk.{DiffersBy, IsBelow, IsLess, IsStep}
 use Rattle.cv_advdb.proofs.NameLemmas.{has_append, has_order, names_have, never_below, order_sorted}
 
-either_false : (a b : Bool) → (a || b) ≡ false → (a ≡ false) × (b ≡ false)
+pub either_false : (a b : Bool) → (a || b) ≡ false → (a ≡ false) × (b ≡ false)
 either_false true b h = cc
 either_false false b h = (refl, h)
 
