@@ -1,0 +1,3 @@
+pub mod Feeds
+pub mod Touched
+pub mod code

@@ -1,0 +1,161 @@
+ghost use Rattle.std.specs.Prelude.{◌≡◌, ◌↔◌, [], false, IfOk, IfErr, IfSome, IsErrOf, IsTrue, OnOk, OnErr};
+ghost use Rattle.std.specs.BTreeMap.{insert_entry};
+ghost use Rattle.std.specs.List.{slice_get};
+ghost use Rattle.std.specs.List.Sorted.{IsStrictlySortedBy};
+ghost use Rattle.std.specs.Map.{keys_of};
+ghost use Rattle.std.specs.Option.{option_map};
+ghost use Rattle.cv_base.specs.declared.package.Package.{Package};
+ghost use Rattle.cv_match.specs.Findings.{found_in, text_cmp};
+ghost use Rattle.cv_advdb.specs.Feeds.{by_id, id_cmp, is_full, listed_under, records_of, replaced};
+ghost use Rattle.cv_advdb.specs.Touched.{IsTouched, is_touched};
+
+use crate::difference::touched_keys;
+use crate::error::AdvError;
+use crate::record::StoredRecord;
+use crate::stock::Stock;
+use cv_base::{Advisory, NoMemory, PackageKind, PackageName, Seq, Text};
+use cv_match::ReadyAdvisory;
+use std::alloc::Global;
+use std::collections::BTreeMap;
+use std::marker::Model;
+
+/// The feeds by name, each with its records in the order of their ids. Contracts see them as a list, with the limit on their
+/// number.
+#[derive(Drop)]
+pub struct Feeds {
+    feeds: BTreeMap<Text, Stock>,
+    limit: u32,
+}
+
+impl Model for Feeds {
+    ghost use Rattle.cv_advdb.specs.Feeds.{FeedTable};
+
+    ghost Value = { FeedTable };
+
+    ghost view = { λ f. record { feeds = f.feeds.entries; limit = f.limit } };
+}
+
+/// The names, as advisories have them, of the packages that a replacement may concern, sorted by ecosystem and then by name, each
+/// once.
+#[derive(Debug, PartialEq, Eq, Drop)]
+pub struct Touched {
+    pub keys: Seq<PackageName>,
+}
+
+/// A record of a feed, and the same record as it is prepared for a kind of package.
+pub struct Listed<'a> {
+    pub feed: &'a Text,
+    pub advisory: &'a Advisory,
+    pub ready: &'a ReadyAdvisory,
+}
+
+impl Feeds {
+    /// No feeds. There may be as many as `limit` says.
+    pub fn new(alloc: Global, limit: u32) -> Result<Feeds, NoMemory>
+        ensures { IfOk result (λ feeds. feeds ≡ record { feeds = []; limit = limit }) }
+    {
+        Ok(Feeds {
+            feeds: BTreeMap::new(alloc),
+            limit,
+        })
+    }
+
+    /// Replaces all records of a feed, or adds the feed if it is new. It names the keys under which a record was added, removed or
+    /// changed. Of records that have one id the last one stays. `TooManyFeeds` is tested first. The time is n log n in the records of this feed; other feeds cost nothing.
+    pub fn replace(
+        &mut self,
+        alloc: Global,
+        feed: Text,
+        records: Seq<Advisory>,
+    ) -> Result<Touched, AdvError>
+        ensures value { IfOk result (λ _. self.new ≡ replaced self.old feed records) }
+        ensures touched { IfOk result (λ touched. IsTouched (records_of feed self.old.feeds) (by_id records) touched.keys) }
+        ensures full { IsErrOf result AdvError.TooManyFeeds ↔ IsTrue (is_full self.old feed) }
+        ensures err { IfErr result (λ _. self.new ≡ self.old) }
+        ensures untouched { IfOk result (λ touched. (p : Package) → is_touched touched.keys p ≡ false → found_in self.new.feeds p ≡ found_in self.old.feeds p) }
+    {
+        if self.is_full(&feed) {
+            return Err(AdvError::TooManyFeeds);
+        }
+        let stock = Stock::of(alloc, records.into_vec())?;
+        let touched = self.touched_by(alloc, &feed, &stock)?;
+        self.put(feed, stock)?;
+        Ok(touched)
+    }
+
+    /// Equal feeds, which share all records.
+    pub fn copy(&self) -> Result<Feeds, NoMemory>
+        ensures { IfOk result (λ feeds. feeds ≡ self.now) }
+    {
+        Ok(Feeds {
+            feeds: self.feeds.clone()?,
+            limit: self.limit,
+        })
+    }
+
+    /// The record with this index, from 0, among those that have an entry about the key, in the order of feed and id, and as it is
+    /// prepared for a kind of package. It takes no memory.
+    pub fn under(&self, key: &PackageName, kind: PackageKind, index: u64) -> Option<Listed<'_>>
+        ensures value { option_map (λ listed. (listed.feed.now, listed.advisory.now)) result ≡ slice_get (listed_under key.now self.now.feeds) index }
+        ensures ready { IfSome result (λ listed. listed.ready.now ≡ record { kind = kind; advisory = listed.advisory.now }) }
+    {
+        let mut skipped = index;
+        for (name, stock) in &self.feeds {
+            let found = stock.under(key);
+            let count = found.len() as u64;
+            if skipped < count {
+                let record = &found[skipped as usize];
+                return Some(Listed {
+                    feed: name,
+                    advisory: record.advisory(),
+                    ready: record.ready(kind),
+                });
+            }
+            skipped -= count;
+        }
+        None
+    }
+
+    fn is_full(&self, feed: &Text) -> bool
+        ensures { result ≡ is_full self.now feed.now }
+    {
+        !self.feeds.contains_key(feed) && self.feeds.len() as u64 >= u64::from(self.limit)
+    }
+
+    /// The records of a feed, in the order of their ids, and none if there is no such feed.
+    fn records_of(&self, feed: &Text) -> &[StoredRecord]
+        ensures value { result.now ≡ records_of feed.now self.now.feeds }
+        ensures sorted { IsStrictlySortedBy id_cmp result.now }
+    {
+        match self.feeds.get(feed) {
+            Some(stock) => stock.records(),
+            None => &[],
+        }
+    }
+
+    /// What is touched when this stock takes the place of the records of a feed.
+    fn touched_by(&self, alloc: Global, feed: &Text, stock: &Stock) -> Result<Touched, NoMemory>
+        ensures touched { IfOk result (λ touched. IsTouched (records_of feed.now self.now.feeds) stock.now touched.keys) }
+        ensures before_sorted { IfOk result (λ touched. IsStrictlySortedBy id_cmp (records_of feed.now self.now.feeds)) }
+    {
+        let keys = touched_keys(alloc, self.records_of(feed), stock.records())?;
+        Ok(Touched {
+            keys: Seq::of(keys),
+        })
+    }
+
+    fn put(&mut self, feed: Text, stock: Stock) -> Result<(), NoMemory>
+        ensures value { OnOk result (self.new ≡ record { feeds = insert_entry text_cmp self.old.feeds feed stock; limit = self.old.limit }) }
+        ensures err { OnErr result (self.new ≡ self.old) }
+    {
+        self.feeds.insert(feed, stock)?;
+        Ok(())
+    }
+
+    /// The feeds are in the order of their names, each once. It does nothing.
+    pub fn sorted(&self)
+        ensures { IsStrictlySortedBy text_cmp (keys_of self.now.feeds) }
+    {
+        let _count = self.feeds.len();
+    }
+}

@@ -1,0 +1,25 @@
+//! The feeds of advisories: the records of each feed, those under the name of a package, and which names are touched when the
+//! records of a feed are replaced.
+//!
+//! ```text
+//! let mut feeds = Feeds::new(alloc, 64)?;
+//! let touched = feeds.replace(alloc, Text::of(alloc, "debian")?, records)?;
+//! let first = feeds.under(&touched.keys.as_slice()[0], PackageKind::Deb, 0);
+//! ```
+#![tactic(auto)]
+
+mod difference;
+mod error;
+mod feeds;
+mod index;
+mod laws;
+mod names;
+mod record;
+mod same;
+mod stock;
+#[cfg(test)]
+mod tests;
+
+pub use error::AdvError;
+pub use feeds::{Feeds, Listed, Touched};
+pub use laws::touched_laws;

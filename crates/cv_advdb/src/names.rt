@@ -1,0 +1,39 @@
+ghost use Rattle.std.specs.Prelude.{◌≡◌, ◌++◌, IfOk, OnOk};
+ghost use Rattle.cv_base.specs.InOrder.{in_order};
+ghost use Rattle.cv_match.specs.Keys.{name_cmp};
+ghost use Rattle.cv_advdb.specs.code.Index.{names_in};
+
+use cv_base::{Advisory, NoMemory, PackageName};
+use std::alloc::Global;
+use std::collections::BTreeSet;
+
+/// Appends the names of the packages of a record's entries.
+pub fn push_names(names: &mut Vec<PackageName>, advisory: &Advisory) -> Result<(), NoMemory>
+    ensures { OnOk result (names.new.items ≡ names.old.items ++ names_in advisory.now) }
+{
+    for entry in advisory.affected.as_slice() {
+        if let Some(name) = &entry.package {
+            names.push(name.clone()?)?;
+        }
+    }
+    Ok(())
+}
+
+/// Names by ecosystem and then by name, each once. The time is n log n in the names.
+#[tactic(auto, using(crate::proofs::Ordered::put_last, crate::proofs::Ordered::put_none))]
+pub fn in_name_order(
+    alloc: Global,
+    mut names: Vec<PackageName>,
+) -> Result<Vec<PackageName>, NoMemory>
+    ensures { IfOk result (λ out. out.items ≡ in_order name_cmp names.items) }
+{
+    let mut sorted = BTreeSet::new(alloc);
+    while let Some(name) = names.pop() {
+        sorted.insert(name)?;
+    }
+    let mut out = Vec::new(alloc);
+    for name in sorted {
+        out.push(name)?;
+    }
+    Ok(out)
+}
