@@ -1,2 +1,3 @@
-pub mod RowLemmas
 pub mod Lookups
+pub mod PartLemmas
+pub mod RowLemmas

@@ -8,7 +8,7 @@ use Rattle.std.specs.Option.{option_or}
 use Rattle.std.specs.Ordering.{is_eq, match_ordering}
 use Rattle.std.specs.declared.cmp.Ordering.{Ordering}
 use Rattle.std.specs.declared.cmp.Ordering.TheVariants.{Less, Equal, Greater}
-use Rattle.std.proofs.Common.{ap, sym, ◌∙◌}
+use Rattle.std.proofs.Common.{ap, subst, sym, ◌∙◌}
 use Rattle.std.proofs.lemmas.Cmp.{alike_right, tied_back, tied_itself}
 use Rattle.cv_base.specs.InOrder.{in_order}
 use Rattle.cv_base.proofs.InOrder.{after_lower, order_rises, turned}
@@ -170,6 +170,31 @@ last_flat cmp f g q h (x ∷ xs) =
     last_append cmp (f x) (flat_map f xs) q
     ∙ (λ i. option_or (last_flat cmp f g q h xs i) (h x i))
     ∙ sym (last_append cmp (g x) (flat_map g xs) q)
+
+-- what is last at a key ties with it, and has what all items have
+pub last_has : {K : Type 0} (cmp : K → K → Ordering) (P : K → Type 0) (q : K) (xs : List K) (f : K) → AllByRecursion P xs → last_at cmp xs q ≡ Some f
+    → (cmp q f ≡ Equal) × P f
+last_has cmp P q [] f h e = none_some f ((cmp q f ≡ Equal) × P f) e
+last_has {K} cmp P q (x ∷ xs) f h e = by_rest (last_at cmp xs q) refl e (last_has cmp P q xs f h.1)
+  where
+    by_test : (t : Bool) → is_eq (cmp q x) ≡ t → cond t (Some x) None ≡ Some f → (cmp q f ≡ Equal) × P f
+    by_test true d g = let same : x ≡ f = cc in (ap (cmp q) (sym same) ∙ equal_of (cmp q x) d, subst P same h.0)
+    by_test false d g = none_some f ((cmp q f ≡ Equal) × P f) g
+
+    by_rest : (o : Option K) → last_at cmp xs q ≡ o → option_or o (item_at cmp x q) ≡ Some f → (last_at cmp xs q ≡ Some f → (cmp q f ≡ Equal) × P f)
+        → (cmp q f ≡ Equal) × P f
+    by_rest None d g more = by_test (is_eq (cmp q x)) refl g
+    by_rest (Some y) d g more = more (d ∙ g)
+
+-- nothing is there, where something cannot be
+pub nothing : {K : Type 0} (o : Option K) → ((f : K) → o ≡ Some f → ⊥) → o ≡ None
+nothing None h = refl
+nothing (Some f) h = absurd (h f refl)
+
+pub or_same : {K : Type 0} (t : Bool) (o : Option K) → option_or (cond t o None) o ≡ o
+or_same true None = refl
+or_same true (Some x) = refl
+or_same false o = refl
 
 -- a sorted list has one item at a key
 pub last_sorted : {K : Type 0} {cmp : K → K → Ordering} → IsTotalOrder cmp → (xs : List K) (q : K) → IsStrictlySortedBy cmp xs → last_at cmp xs q ≡ at cmp xs q

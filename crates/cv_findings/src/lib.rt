@@ -7,5 +7,7 @@
 #![tactic(auto)]
 
 mod changes;
+mod laws;
 
 pub use changes::rows;
+pub use laws::part_laws;
