@@ -8,6 +8,8 @@
 
 mod changes;
 mod laws;
+mod matching;
 
 pub use changes::rows;
 pub use laws::part_laws;
+pub use matching::match_all;
