@@ -1,0 +1,4 @@
+pub mod FoundLemmas
+pub mod Lookups
+pub mod PartLemmas
+pub mod RowLemmas
