@@ -18,13 +18,13 @@ use Rattle.cv_desk.specs.Counts.{count_after}
 use Rattle.cv_desk.specs.Loaded.{whole}
 use Rattle.cv_desk.specs.Stored.{Dir, File, Item, Other, Stored}
 use Rattle.cv_desk.specs.Stored.{listed as listed_entry}
-use Rattle.cv_overlay.specs.Fault.{fault, list_fault, tree_fault}
+use Rattle.cv_overlay.specs.Fault.{fault, tree_fault}
 use Rattle.cv_overlay.specs.Lay.{is_plain}
 use Rattle.cv_overlay.specs.Mark.{is_dir_kind, listed, mark_of}
 use Rattle.cv_overlay.specs.declared.fault.TreeFault.{TreeFault}
 use Rattle.cv_packages.specs.Files.{file_of}
 use Rattle.cv_packages.specs.declared.found.FileFound.{FileFound}
-use Rattle.cv_facts.specs.Cover.{cover_by, covers, is_place}
+use Rattle.cv_facts.specs.Cover.{covers, is_place}
 use Rattle.cv_facts.specs.Files.{own_file, own_files}
 use Rattle.cv_facts.specs.Reads.{HasReads, file_count, place_count}
 use Rattle.cv_facts.specs.Reduction.{shape_by, shape_of}
