@@ -27,7 +27,7 @@ use Rattle.cv_packages.specs.declared.found.FileFound.{FileFound}
 use Rattle.cv_packages.specs.declared.found.Found.TheVariants as found
 use Rattle.cv_facts.specs.Cover.{covers, opaque_dirs, place_dirs, targets}
 use Rattle.cv_facts.specs.Files.{own_file, own_files}
-use Rattle.cv_facts.specs.Reduction.{IsRight, shape_by, shape_of}
+use Rattle.cv_facts.specs.Reduction.{shape_by, shape_of}
 use Rattle.cv_facts.specs.code.Listing.{found_shape, listed_file, listed_files, listed_shape, listed_shape_by}
 use Rattle.cv_facts.proofs.PlacedLemmas.{kind_is}
 use Rattle.cv_facts.specs.declared.error.IndexError.{IndexError}
@@ -41,7 +41,7 @@ dir_is Dir = refl
 dir_is (File bytes) = refl
 dir_is Other = refl
 
-outlines_are : (es : List Stored) → map listed (map listed_entry es) ≡ map outline (map whole es)
+pub outlines_are : (es : List Stored) → map listed (map listed_entry es) ≡ map outline (map whole es)
 outlines_are [] = refl
 outlines_are (e ∷ es) = λ i. record { path = e.path; is_dir = dir_is e.item i } ∷ outlines_are es i
 
@@ -131,13 +131,3 @@ shape_found None d found r h k = tt
 shape_found (Some t) d found (Err e) h k = tt
 shape_found (Some None) d found (Ok s) h k = k ∙ ap (found_shape None) h
 shape_found (Some (Some es)) d found (Ok s) h k = k ∙ ap (found_shape (Some es)) h ∙ shape_is es d
-
--- facts of this shape are right
-pub right_is : (trees : List ℕ → Option (Option (List Stored))) (layer : List ℕ) (s : Shape)
-    → IfSome (trees layer) (λ t. s ≡ shape_of t) → IsRight trees (record { digest = layer; shape = s })
-right_is trees layer s h = λ stored e. by_tree (trees layer) e h where
-  by_tree : {stored : Option (List Stored)} (told : Option (Option (List Stored))) → told ≡ Some stored → IfSome told (λ t. s ≡ shape_of t) → s ≡ shape_of stored
-  by_tree None e h = cc
-  by_tree (Some t) e h = h ∙ ap shape_of (same_some e) where
-    same_some : {a b : Option (List Stored)} → Some a ≡ Some b → a ≡ b
-    same_some e = cc

@@ -1,10 +1,11 @@
 -- A file at a place of package files, as it is read.
-use Rattle.std.specs.Prelude.{◌≡◌, ℕ, Bool, true, false, List, Option, None, Some, Result, Ok, Err, IfOk, IfSome, is_none, if◌then◌else◌, refl}
+use Rattle.std.specs.Prelude.{◌≡◌, Bool, true, false, List, Option, None, Some, IfSome, is_none, option_map, if◌then◌else◌, refl}
 use Rattle.std.proofs.Common.{ap, sym, ◌∙◌}
 use Rattle.cv_base.specs.Path.{Path}
 use Rattle.cv_base.specs.Place.{place_of}
 use Rattle.cv_base.specs.declared.limits.TheConstants.{PACKAGE_FILE_LIMIT}
 use Rattle.cv_base.specs.declared.places.Place.{Place}
+use Rattle.cv_base.specs.declared.tree.Content.{Content}
 use Rattle.cv_base.specs.declared.tree.Content.TheVariants as content
 use Rattle.cv_base.specs.declared.tree.Kind.{Kind}
 use Rattle.cv_base.specs.declared.tree.Kind.TheVariants as kind
@@ -19,47 +20,37 @@ use Rattle.cv_packages.specs.Files.{file_of}
 use Rattle.cv_packages.specs.Found.{found_in}
 use Rattle.cv_packages.specs.declared.found.FileFound.{FileFound}
 use Rattle.cv_facts.specs.Files.{own_file}
-use Rattle.cv_facts.specs.code.Listing.{listed_kind}
-use Rattle.cv_facts.specs.declared.error.IndexError.{IndexError}
+use Rattle.cv_facts.specs.code.Listing.{content_of, listed_kind}
 
 loaded_by_place : (path : Path) (pl : Place) (item : Option Item) → place_of path ≡ Some pl → loaded_file path item ≡ answered (file_read item PACKAGE_FILE_LIMIT)
 loaded_by_place path pl item h = ap (λ (p : Option Place). if is_none p then node.File content.Unread else answered (file_read item PACKAGE_FILE_LIMIT)) h
 
-placed : (tree : Option (Option (List Stored))) (path : Path) (pl : Place) (found : FileRead) (r : Result (Option FileFound) IndexError)
-    → place_of path ≡ Some pl → IfSome tree (λ t. found ≡ file_read (item_in t path) PACKAGE_FILE_LIMIT)
-    → IfOk r (λ file. file ≡ file_of path (Some pl) (answered found))
-    → IfSome tree (λ t. IfOk r (λ file. file ≡ file_of path (Some pl) (loaded_file path (item_in t path))))
-placed None path pl found r h k f = tt
-placed (Some t) path pl found (Err e) h k f = tt
-placed (Some t) path pl found (Ok file) h k f =
-    f ∙ ap (λ (x : FileRead). file_of path (Some pl) (answered x)) k ∙ ap (file_of path (Some pl)) (sym (loaded_by_place path pl (item_in t path) h))
+-- what is kept of a file that was read
+kept : (path : Path) (pl : Place) (found : FileRead)
+    → option_map (λ (c : Content). record { path = path; found = found_in pl c }) (content_of found) ≡ file_of path (Some pl) (answered found)
+kept path pl (Bytes bytes) = refl
+kept path pl TooLarge = refl
+kept path pl NotFile = refl
 
-pub bytes_read : (tree : Option (Option (List Stored))) (path : Path) (pl : Place) (bytes : List ℕ) (r : Result (Option FileFound) IndexError)
-    → place_of path ≡ Some pl → IfSome tree (λ t. Bytes bytes ≡ file_read (item_in t path) PACKAGE_FILE_LIMIT)
-    → IfOk r (λ file. file ≡ Some (record { path = path; found = found_in pl (content.Bytes bytes) }))
-    → IfSome tree (λ t. IfOk r (λ file. file ≡ file_of path (Some pl) (loaded_file path (item_in t path))))
-bytes_read tree path pl bytes r h k f = placed tree path pl (Bytes bytes) r h k f
-
-pub too_large : (tree : Option (Option (List Stored))) (path : Path) (pl : Place) (r : Result (Option FileFound) IndexError)
-    → place_of path ≡ Some pl → IfSome tree (λ t. TooLarge ≡ file_read (item_in t path) PACKAGE_FILE_LIMIT)
-    → IfOk r (λ file. file ≡ Some (record { path = path; found = found_in pl content.TooLarge }))
-    → IfSome tree (λ t. IfOk r (λ file. file ≡ file_of path (Some pl) (loaded_file path (item_in t path))))
-too_large tree path pl r h k f = placed tree path pl TooLarge r h k f
-
-pub no_file : (tree : Option (Option (List Stored))) (path : Path) (pl : Place) (r : Result (Option FileFound) IndexError)
-    → place_of path ≡ Some pl → IfSome tree (λ t. NotFile ≡ file_read (item_in t path) PACKAGE_FILE_LIMIT)
-    → IfOk r (λ file. file ≡ None)
-    → IfSome tree (λ t. IfOk r (λ file. file ≡ file_of path (Some pl) (loaded_file path (item_in t path))))
-no_file tree path pl r h k f = placed tree path pl NotFile r h k f
+pub placed : (tree : Option (Option (List Stored))) (path : Path) (pl : Place) (found : FileRead) (c : Option Content) (file : Option FileFound)
+    → place_of path ≡ Some pl → IfSome tree (λ t. found ≡ file_read (item_in t path) PACKAGE_FILE_LIMIT) → c ≡ content_of found
+    → file ≡ option_map (λ (c : Content). record { path = path; found = found_in pl c }) c
+    → IfSome tree (λ t. file ≡ file_of path (Some pl) (loaded_file path (item_in t path)))
+placed None path pl found c file h k e f = tt
+placed (Some t) path pl found c file h k e f =
+    f ∙ ap (option_map (λ (c : Content). record { path = path; found = found_in pl c })) e
+    ∙ kept path pl found
+    ∙ ap (λ (x : FileRead). file_of path (Some pl) (answered x)) k
+    ∙ ap (file_of path (Some pl)) (sym (loaded_by_place path pl (item_in t path) h))
 
 -- A listed entry.
 
-by_mark : (plain : Bool) (path : Path) (place : Option Place) → (if plain then file_of path place node.Dir else None) ≡ None
+pub by_mark : (plain : Bool) (path : Path) (place : Option Place) → (if plain then file_of path place node.Dir else None) ≡ None
 by_mark true path None = refl
 by_mark true path (Some pl) = refl
 by_mark false path place = refl
 
-by_mark_other : (plain : Bool) (path : Path) (place : Option Place) → (if plain then file_of path place node.Other else None) ≡ None
+pub by_mark_other : (plain : Bool) (path : Path) (place : Option Place) → (if plain then file_of path place node.Other else None) ≡ None
 by_mark_other true path None = refl
 by_mark_other true path (Some pl) = refl
 by_mark_other false path place = refl

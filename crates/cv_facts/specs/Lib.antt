@@ -2,6 +2,7 @@ pub mod Cause
 pub mod Cover
 pub mod Files
 pub mod Order
+pub mod Reads
 pub mod Reduction
 pub mod code
 pub mod tests

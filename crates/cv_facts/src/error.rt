@@ -1,6 +1,5 @@
 use cv_desk::DeskFault;
 use cv_seq::NoMemory;
-use std::alloc::{AllocError, AllocFailed};
 use thiserror::Error;
 
 /// Why a layer was not indexed.
@@ -33,29 +32,6 @@ impl From<NoMemory> for IndexError {
     ghost from_gives = { λ _ e. e ≡ error.NoMemory };
 
     fn from(_error: NoMemory) -> IndexError {
-        IndexError::NoMemory
-    }
-}
-
-impl From<AllocError> for IndexError {
-    ghost use Rattle.std.specs.Prelude.{◌≡◌};
-    ghost use Rattle.cv_facts.specs.declared.error.IndexError.TheVariants as error;
-
-    ghost from_gives = { λ _ e. e ≡ error.NoMemory };
-
-    fn from(_error: AllocError) -> IndexError {
-        IndexError::NoMemory
-    }
-}
-
-/// The rejected value is dropped.
-impl<T: Drop> From<AllocFailed<T>> for IndexError {
-    ghost use Rattle.std.specs.Prelude.{◌≡◌};
-    ghost use Rattle.cv_facts.specs.declared.error.IndexError.TheVariants as error;
-
-    ghost from_gives = { λ _ e. e ≡ error.NoMemory };
-
-    fn from(_failed: AllocFailed<T>) -> IndexError {
         IndexError::NoMemory
     }
 }

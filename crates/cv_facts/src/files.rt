@@ -1,12 +1,14 @@
-ghost use Rattle.std.specs.Prelude.{◌≡◌, ◌++◌, None, Some, IfOk, IfSome, OnOk};
-ghost use Rattle.std.specs.Option.{option_to_list};
-ghost use Rattle.cv_seq.specs.Cause.{CausedBy};
+ghost use Rattle.std.specs.Prelude.{◌≡◌, ◌++◌, cond, None, Some, IfOk, IfSome, OnOk};
+ghost use Rattle.std.specs.List.{count_by};
+ghost use Rattle.std.specs.Option.{option_map, option_to_list};
+ghost use Rattle.cv_seq.specs.Cause.{CausedBy, next_count};
+ghost use Rattle.cv_desk.specs.Counts.{count_after};
 ghost use Rattle.cv_desk.specs.Loaded.{loaded_file};
 ghost use Rattle.cv_desk.specs.Stored.{item_in};
 ghost use Rattle.cv_overlay.specs.Fault.{list_fault};
 ghost use Rattle.cv_facts.specs.Cause.{is_desk_fault};
 ghost use Rattle.cv_facts.specs.Order.{AreAscending};
-ghost use Rattle.cv_facts.specs.code.Listing.{listed_at, listed_file, listed_files};
+ghost use Rattle.cv_facts.specs.code.Listing.{content_of, is_read, is_read_at, listed_at, listed_file, listed_files};
 ghost use Rattle.cv_base.specs.Place.{place_of};
 ghost use Rattle.cv_packages.specs.Files.{file_of};
 ghost use Rattle.cv_packages.specs.Found.{found_in};
@@ -31,6 +33,7 @@ pub fn read_files<D: Desk>(
     ensures ordered { IfOk result (λ files. AreAscending files.items) }
     ensures cause { CausedBy (D.faults desk.old) (D.faults desk.new) (is_desk_fault result) }
     ensures same { D.listings desk.new ≡ D.listings desk.old }
+    ensures reads { OnOk result (D.reads desk.new ≡ count_after (D.reads desk.old) (count_by is_read entries.now)) }
 {
     let mut files = Vec::new(alloc);
     for entry in entries {
@@ -61,6 +64,7 @@ fn read_entry<D: Desk>(
     ensures path { IfOk result (λ file. IfSome file (λ f. f.path ≡ entry.now.path)) }
     ensures cause { CausedBy (D.faults desk.old) (D.faults desk.new) (is_desk_fault result) }
     ensures same { D.listings desk.new ≡ D.listings desk.old }
+    ensures reads { OnOk result (D.reads desk.new ≡ count_after (D.reads desk.old) (cond (is_read entry.now) 1 0)) }
 {
     match entry.kind {
         Kind::Dir | Kind::Other => Ok(None),
@@ -79,6 +83,7 @@ fn read_listed<D: Desk>(
     ensures path { IfOk result (λ file. IfSome file (λ f. f.path ≡ path.now)) }
     ensures cause { CausedBy (D.faults desk.old) (D.faults desk.new) (is_desk_fault result) }
     ensures same { D.listings desk.new ≡ D.listings desk.old }
+    ensures reads { OnOk result (D.reads desk.new ≡ count_after (D.reads desk.old) (cond (is_read_at path.now) 1 0)) }
 {
     let Some(place) = place(path) else {
         return Ok(None);
@@ -90,7 +95,6 @@ fn read_listed<D: Desk>(
 }
 
 /// The file at a place of package files, if one stands there.
-#[tactic(auto, using(crate::proofs::PlacedLemmas::bytes_read, crate::proofs::PlacedLemmas::too_large, crate::proofs::PlacedLemmas::no_file))]
 fn read_placed<D: Desk>(
     alloc: Global,
     desk: &mut D,
@@ -103,25 +107,37 @@ fn read_placed<D: Desk>(
     ensures path { IfOk result (λ file. IfSome file (λ f. f.path ≡ path.now)) }
     ensures cause { CausedBy (D.faults desk.old) (D.faults desk.new) (is_desk_fault result) }
     ensures same { D.listings desk.new ≡ D.listings desk.old }
+    ensures reads { OnOk result (D.reads desk.new ≡ next_count (D.reads desk.old)) }
 {
-    match desk.read(alloc, layer, path, PACKAGE_FILE_LIMIT)? {
-        FileRead::Bytes(bytes) => Ok(file_found(alloc, path, place, &Content::Bytes(bytes))?),
-        FileRead::TooLarge => Ok(file_found(alloc, path, place, &Content::TooLarge)?),
-        FileRead::NotFile => Ok(None),
+    let read = desk.read(alloc, layer, path, PACKAGE_FILE_LIMIT)?;
+    Ok(file_found(alloc, path, place, content_of(read))?)
+}
+
+/// What was read, unless the file is no file any more.
+fn content_of(read: FileRead) -> Option<Content>
+    ensures { result ≡ content_of read }
+{
+    match read {
+        FileRead::Bytes(bytes) => Some(Content::Bytes(bytes)),
+        FileRead::TooLarge => Some(Content::TooLarge),
+        FileRead::NotFile => None,
     }
 }
 
-/// The file at a path, with what it has.
+/// The file at a path with this content, with what it has.
 fn file_found(
     alloc: Global,
     path: &RelPath,
     place: Place,
-    content: &Content,
+    content: Option<Content>,
 ) -> Result<Option<FileFound>, NoMemory>
-    ensures { IfOk result (λ file. file ≡ Some (record { path = path.now; found = found_in place content.now })) }
+    ensures { IfOk result (λ file. file ≡ option_map (λ c. record { path = path.now; found = found_in place c }) content) }
 {
-    Ok(Some(FileFound {
-        found: read_file(alloc, place, content)?,
-        path: path.clone()?,
-    }))
+    match content {
+        None => Ok(None),
+        Some(content) => Ok(Some(FileFound {
+            found: read_file(alloc, place, &content)?,
+            path: path.clone()?,
+        })),
+    }
 }

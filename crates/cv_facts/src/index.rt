@@ -1,10 +1,14 @@
-ghost use Rattle.std.specs.Prelude.{◌≡◌, ◌+◌, ◌^◌, ◌<◌, IfOk, IfSome, None};
+ghost use Rattle.std.specs.Prelude.{◌≡◌, ◌+◌, ◌^◌, ◌<◌, ◌≤◌, IfOk, IfSome, OnOk, None};
+ghost use Rattle.std.specs.List.{count_by};
 ghost use Rattle.cv_seq.specs.Cause.{CausedBy};
+ghost use Rattle.cv_desk.specs.Counts.{count_after};
 ghost use Rattle.cv_overlay.specs.Fault.{list_fault};
 ghost use Rattle.cv_facts.specs.Cause.{is_desk_fault};
+ghost use Rattle.cv_facts.specs.Cover.{is_place};
 ghost use Rattle.cv_facts.specs.Order.{HasOrderedLists, IsOrdered};
+ghost use Rattle.cv_facts.specs.Reads.{HasReads, file_count, place_count};
 ghost use Rattle.cv_facts.specs.Reduction.{shape_of};
-ghost use Rattle.cv_facts.specs.code.Listing.{found_shape, listed_reduction, listed_shape};
+ghost use Rattle.cv_facts.specs.code.Listing.{found_reads, found_shape, is_read, listed_reduction, listed_shape, reads_by};
 
 use crate::error::IndexError;
 use crate::facts::LayerFacts;
@@ -28,6 +32,8 @@ pub fn index_layer<D: Desk>(
     ensures digest { IfOk result (λ facts. facts.digest ≡ layer) }
     ensures cause { CausedBy (D.faults desk.old) (D.faults desk.new) (is_desk_fault result) }
     ensures counted { D.listings desk.new ≡ D.listings desk.old + 1 }
+    ensures reads { IfSome (D.tree layer) (λ _. IfOk result (λ facts. D.reads desk.new ≡ count_after (D.reads desk.old) (file_count facts.shape))) }
+    ensures at_most { IfOk result (λ facts. HasReads facts.shape (D.reads desk.old) (D.reads desk.new)) }
 {
     let shape = read_shape(alloc, desk, &layer)?;
     Ok(LayerFacts::of(alloc, layer, shape)?)
@@ -40,6 +46,8 @@ fn read_shape<D: Desk>(alloc: Global, desk: &mut D, layer: &Digest) -> Result<Sh
     ensures ordered { IfOk result (λ shape. IsOrdered shape) }
     ensures cause { CausedBy (D.faults desk.old) (D.faults desk.new) (is_desk_fault result) }
     ensures counted { D.listings desk.new ≡ D.listings desk.old + 1 }
+    ensures reads { IfSome (D.tree layer.now) (λ _. IfOk result (λ shape. D.reads desk.new ≡ count_after (D.reads desk.old) (file_count shape))) }
+    ensures at_most { IfOk result (λ shape. HasReads shape (D.reads desk.old) (D.reads desk.new)) }
 {
     let listed = desk.list(alloc, layer)?;
     found_shape(alloc, desk, layer, listed)
@@ -56,6 +64,8 @@ fn found_shape<D: Desk>(
     ensures ordered { IfOk result (λ shape. IsOrdered shape) }
     ensures cause { CausedBy (D.faults desk.old) (D.faults desk.new) (is_desk_fault result) }
     ensures same { D.listings desk.new ≡ D.listings desk.old }
+    ensures reads { OnOk result (D.reads desk.new ≡ count_after (D.reads desk.old) (found_reads listed)) }
+    ensures at_most { IfOk result (λ shape. found_reads listed ≤ place_count shape) }
 {
     match listed {
         None => Ok(Shape::NoLayer),
@@ -74,6 +84,8 @@ fn listed_shape<D: Desk>(
     ensures ordered { IfOk result (λ shape. IsOrdered shape) }
     ensures cause { CausedBy (D.faults desk.old) (D.faults desk.new) (is_desk_fault result) }
     ensures same { D.listings desk.new ≡ D.listings desk.old }
+    ensures reads { OnOk result (D.reads desk.new ≡ count_after (D.reads desk.old) (reads_by (list_fault entries.now) entries.now)) }
+    ensures at_most { IfOk result (λ shape. reads_by (list_fault entries.now) entries.now ≤ place_count shape) }
 {
     match check_tree(entries) {
         Err(fault) => Ok(Shape::BadTree(fault)),
@@ -93,6 +105,8 @@ fn reduce<D: Desk>(
     ensures ordered { IfOk result (λ reduction. HasOrderedLists reduction) }
     ensures cause { CausedBy (D.faults desk.old) (D.faults desk.new) (is_desk_fault result) }
     ensures same { D.listings desk.new ≡ D.listings desk.old }
+    ensures reads { OnOk result (D.reads desk.new ≡ count_after (D.reads desk.old) (count_by is_read entries.now)) }
+    ensures at_most { IfOk result (λ reduction. count_by is_read entries.now ≤ count_by is_place reduction.covers) }
 {
     let files = read_files(alloc, desk, layer, entries)?;
     let hides = hides_of(alloc, entries)?;

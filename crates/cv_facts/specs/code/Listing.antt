@@ -1,24 +1,29 @@
 -- A layer as it is indexed from its listing and its reads. It is shown in `proofs/` that this is the shape of the layer as it
 -- is stored.
-use Rattle.std.specs.Prelude.{false, if◌then◌else◌, List, map, Option, Some, None}
-use Rattle.std.specs.List.{filter_map}
+use Rattle.std.specs.Prelude.{ℕ, Bool, false, ◌&&◌, if◌then◌else◌, List, map, Option, Some, None}
+use Rattle.std.specs.List.{count_by, filter_map}
 use Rattle.cv_base.specs.InOrder.{in_order}
 use Rattle.cv_base.specs.Path.{Path, path_cmp}
 use Rattle.cv_base.specs.Place.{place_of}
+use Rattle.cv_base.specs.declared.tree.Content.{Content}
+use Rattle.cv_base.specs.declared.tree.Content.TheVariants as content
 use Rattle.cv_base.specs.declared.tree.Kind.{Kind}
 use Rattle.cv_base.specs.declared.tree.Kind.TheVariants as kind
 use Rattle.cv_base.specs.declared.tree.ListEntry.{ListEntry}
 use Rattle.cv_desk.specs.Loaded.{loaded_file}
 use Rattle.cv_desk.specs.Stored.{Stored, item_in}
+use Rattle.cv_desk.specs.code.Listed.{is_file_kind}
 use Rattle.cv_desk.specs.declared.desk.DeskFault.{DeskFault}
 use Rattle.cv_desk.specs.declared.desk.DeskFault.TheVariants as desk
+use Rattle.cv_desk.specs.declared.desk.FileRead.{FileRead}
+use Rattle.cv_desk.specs.declared.desk.FileRead.TheVariants as read
 use Rattle.cv_overlay.specs.Fault.{list_fault}
 use Rattle.cv_overlay.specs.Lay.{is_plain}
 use Rattle.cv_overlay.specs.Mark.{listed, mark_of}
 use Rattle.cv_overlay.specs.declared.fault.TreeFault.{TreeFault}
 use Rattle.cv_packages.specs.Files.{file_of}
 use Rattle.cv_packages.specs.declared.found.FileFound.{FileFound}
-use Rattle.cv_facts.specs.Cover.{covers, opaque_dirs, place_dirs, targets}
+use Rattle.cv_facts.specs.Cover.{covers, is_place, opaque_dirs, place_dirs, targets}
 use Rattle.cv_facts.specs.declared.error.IndexError.{IndexError}
 use Rattle.cv_facts.specs.declared.error.IndexError.TheVariants as error
 use Rattle.cv_facts.specs.declared.reduction.Reduction.{Reduction}
@@ -69,3 +74,27 @@ found_shape tree (Some entries) = listed_shape tree entries
 abbrev pub index_error : DeskFault → IndexError
 index_error desk.Failed = error.DeskFault
 index_error desk.NoMemory = error.NoMemory
+
+-- what was read of a file, unless it is no file any more
+abbrev pub content_of : FileRead → Option Content
+content_of (read.Bytes bytes) = Some (content.Bytes bytes)
+content_of read.TooLarge = Some content.TooLarge
+content_of read.NotFile = None
+
+-- a file that is listed at a path is read: it is plain, and at a place of package files
+abbrev pub is_read_at : Path → Bool
+is_read_at path = is_place path && is_plain (mark_of path false)
+
+-- the entry is listed as such a file
+abbrev pub is_read : ListEntry → Bool
+is_read entry = is_file_kind entry.kind && is_read_at entry.path
+
+-- how many files of a listing with this fault are read
+abbrev pub reads_by : Option TreeFault → List ListEntry → ℕ
+reads_by (Some fault) entries = 0
+reads_by None entries = count_by is_read entries
+
+-- how many files of a layer that was listed so are read
+abbrev pub found_reads : Option (List ListEntry) → ℕ
+found_reads None = 0
+found_reads (Some entries) = reads_by (list_fault entries) entries
