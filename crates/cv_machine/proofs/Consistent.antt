@@ -17,13 +17,14 @@ use Rattle.cv_base.specs.declared.manifest.Manifest.{Manifest}
 use Rattle.cv_match.specs.Findings.{text_cmp}
 use Rattle.cv_records.specs.declared.reply.Reply.{Reply}
 use Rattle.cv_records.specs.declared.reply.Reply.TheVariants as reply
+use Rattle.cv_advdb.specs.Feeds.{by_id}
 use Rattle.cv_machine.specs.History.{state_after}
 use Rattle.cv_machine.specs.Laws.{IsConsistent, is_claimed}
 use Rattle.cv_machine.specs.Layers.{is_claimed_as, is_claimed_by, is_named}
 use Rattle.cv_machine.specs.Rows.{rows_of}
 use Rattle.cv_machine.specs.Scans.{Trees}
 use Rattle.cv_machine.specs.State.{Feeds, Images, Layers, Notifications, State, notification_at, opening, value_at, with_value, without_value}
-use Rattle.cv_machine.specs.Step.{ack_at, by_id, claim_at, drop_at, entered, finish, is_full, notified, register_at, remaining, step, update, updated}
+use Rattle.cv_machine.specs.Step.{ack_at, claim_at, drop_at, entered, finish, is_full, notified, register_at, remaining, step, update, updated}
 use Rattle.cv_machine.specs.declared.act.WholeAct.{WholeAct}
 use Rattle.cv_machine.specs.declared.act.WholeAct.TheVariants as act
 use Rattle.cv_machine.specs.declared.limits.Limits.{Limits}

@@ -17,10 +17,10 @@ use Rattle.cv_records.specs.declared.read.ReportOutcome.TheVariants as report
 use Rattle.cv_records.specs.declared.reply.Reply.TheVariants as reply
 use Rattle.cv_scan.specs.Root.{root_entries}
 use Rattle.cv_scan.specs.Scan.{scan}
+use Rattle.cv_findings.specs.Rows.{rows_of}
 use Rattle.cv_machine.specs.Answer.{heads, page_of, report_of}
 use Rattle.cv_machine.specs.History.{replies, state_after}
 use Rattle.cv_machine.specs.Layers.{queued}
-use Rattle.cv_machine.specs.Rows.{image_rows}
 use Rattle.cv_machine.specs.Scans.{Trees}
 use Rattle.cv_machine.specs.State.{State, opening}
 use Rattle.cv_machine.specs.declared.act.WholeAct.TheVariants.{Ack, Claim, DropImage, Fault, Indexed, Memory, Register, Update}
@@ -142,14 +142,14 @@ zlib id fix = record {
 
 -- what is there on one side alone is removed or added, and of what is there on both sides there is a row only if the fixed
 -- versions differ; rows stand in finding order
-rows : image_rows (1 ∷ [])
+rows : rows_of (1 ∷ [])
     (zlib (codes "X-1") None ∷ zlib (codes "X-2") None ∷ zlib (codes "X-4") None ∷ [])
     (zlib (codes "X-1") None ∷ zlib (codes "X-2") (Some (codes "2")) ∷ zlib (codes "X-3") None ∷ [])
     ≡ record { image = 1 ∷ []; reason = Changed; finding = zlib (codes "X-2") (Some (codes "2")) }
     ∷ record { image = 1 ∷ []; reason = Added; finding = zlib (codes "X-3") None }
     ∷ record { image = 1 ∷ []; reason = Removed; finding = zlib (codes "X-4") None }
     ∷ []
-unfolding image_rows
+unfolding rows_of
 rows = refl
 
 -- a layer that has zlib 1
@@ -171,7 +171,7 @@ notified : ((state_after trees indexed (Update (codes "p") (listed (codes "X-1")
     ≡ (1, record { image = 2 ∷ []; reason = Added; finding = zlib (codes "X-1") None } ∷ [])
     ∷ (3, record { image = 2 ∷ []; reason = Removed; finding = zlib (codes "X-1") None } ∷ []) ∷ [])
     × ((state_after trees indexed (Update (codes "p") (listed (codes "X-1") ∷ []) ∷ Ack 1 ∷ [])).notifications ≡ [])
-unfolding image_rows scan root_entries packages findings affects fixed
+unfolding rows_of scan root_entries packages findings affects fixed
 notified = (refl, refl)
 
 -- Answers.
@@ -181,7 +181,7 @@ reports : (report_of trees indexed (3 ∷ []) ≡ report.NotRegistered)
     × (report_of trees indexed (2 ∷ []) ≡ report.Good 0 [])
     × (report_of no_trees indexed (2 ∷ []) ≡ report.BadImage (NoLayer 0))
     × (report_of trees (state_after trees indexed (Update (codes "p") (listed (codes "X-1") ∷ []) ∷ [])) (2 ∷ []) ≡ report.Good 1 (zlib (codes "X-1") None ∷ []))
-unfolding image_rows scan root_entries packages findings affects fixed
+unfolding rows_of scan root_entries packages findings affects fixed
 reports = (refl, refl, refl, refl, refl)
 
 abbrev row : ℕ → Row

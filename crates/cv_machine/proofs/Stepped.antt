@@ -11,12 +11,13 @@ use Rattle.cv_desk.specs.Stored.{Stored}
 use Rattle.cv_records.specs.declared.reply.Reply.{Reply}
 use Rattle.cv_records.specs.declared.reply.Reply.TheVariants as reply
 use Rattle.cv_scan.specs.Layers.{stored_layers, with_stored}
+use Rattle.cv_advdb.specs.Feeds.{by_id}
 use Rattle.cv_machine.specs.Laws.{IsGenerationAfter, changes_nothing}
 use Rattle.cv_machine.specs.Layers.{is_claimed_by, is_named}
 use Rattle.cv_machine.specs.Rows.{rows_of}
 use Rattle.cv_machine.specs.Scans.{IsKnown, Trees, trees_of}
 use Rattle.cv_machine.specs.State.{State, notification_at, value_at, with_value, without_value}
-use Rattle.cv_machine.specs.Step.{ack_at, by_id, claim_at, drop_at, entered, finish, is_full, register_at, step, update, updated}
+use Rattle.cv_machine.specs.Step.{ack_at, claim_at, drop_at, entered, finish, is_full, register_at, step, update, updated}
 use Rattle.cv_machine.specs.declared.act.WholeAct.{WholeAct}
 use Rattle.cv_machine.specs.declared.act.WholeAct.TheVariants as act
 use Rattle.cv_machine.specs.declared.status.Status.{Status}

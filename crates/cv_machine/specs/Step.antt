@@ -3,13 +3,11 @@
 use Rattle.std.specs.Prelude.{ℕ, ◌+◌, Bool, ◌&&◌, ◌||◌, not, nat_le, nat_lt, if◌then◌else◌, List, [], ◌∷◌, length, filter, Option, Some, None}
 use Rattle.std.specs.Cmp.Lexicographic.{pointwise}
 use Rattle.std.specs.Option.{is_some}
-use Rattle.std.specs.Ordering.{on}
-use Rattle.cv_base.specs.InOrder.{in_order}
 use Rattle.cv_base.specs.Texts.{has_text, same}
 use Rattle.cv_base.specs.declared.advisory.Advisory.{Advisory}
 use Rattle.cv_base.specs.declared.finding.Row.{Row}
 use Rattle.cv_base.specs.declared.manifest.Manifest.{Manifest}
-use Rattle.cv_match.specs.Findings.{text_cmp}
+use Rattle.cv_advdb.specs.Feeds.{by_id}
 use Rattle.cv_records.specs.declared.reply.Reply.{Reply}
 use Rattle.cv_records.specs.declared.reply.Reply.TheVariants as reply
 use Rattle.cv_machine.specs.Layers.{is_claimed_as, is_claimed_by, is_named}
@@ -79,10 +77,6 @@ finish state layer worker next answer =
     then (record state { layers = with_value state.layers layer next }, answer)
     else (record state { layers = without_value state.layers layer }, reply.Discarded))
     else (state, reply.NotClaimed)
-
--- records in ascending order of their ids
-abbrev pub by_id : List Advisory → List Advisory
-by_id records = in_order (on (λ (advisory : Advisory). advisory.id) text_cmp) records
 
 -- notifications with one of this number, exactly if it has rows
 abbrev pub notified : Notifications → ℕ → List Row → Notifications
