@@ -1,10 +1,10 @@
 -- One step of the walk over two lists of records, and the walk as a whole.
-use Rattle.std.specs.Prelude.{◌≡◌, ◌+◌, ◌<◌, Bool, true, false, cond, ◌||◌, List, [], ◌∷◌, ◌++◌, filter, length, refl}
+use Rattle.std.specs.Prelude.{◌≡◌, ◌<◌, Bool, true, false, cond, ◌||◌, List, [], ◌∷◌, ◌++◌, length, refl}
 use Rattle.std.specs.List.Sorted.{IsStrictlySortedBy}
 use Rattle.std.specs.Ordering.{ordering_reverse}
-use Rattle.std.specs.declared.cmp.Ordering.TheVariants.{Less, Equal, Greater}
+use Rattle.std.specs.declared.cmp.Ordering.TheVariants.{Less, Equal}
 use Rattle.std.proofs.Common.{ap, arith, sym, subst, ◌∙◌}
-use Rattle.cv_base.proofs.InOrder.{after_lower, turned}
+use Rattle.cv_base.proofs.InOrder.{after_lower}
 use Rattle.cv_base.specs.InOrder.{in_order}
 use Rattle.cv_base.specs.declared.advisory.Advisory.{Advisory}
 use Rattle.cv_base.specs.declared.«package».PackageName.{PackageName}

@@ -28,6 +28,7 @@ pub fn touched_keys(
     Ok(Seq::of(keys))
 }
 
+/// The names under which the lists differ, in the order in which the lists have them.
 fn differing_names(
     alloc: Global,
     before: &[StoredRecord],

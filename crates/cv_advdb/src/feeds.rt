@@ -61,8 +61,9 @@ impl Feeds {
         })
     }
 
-    /// Replaces all records of a feed, or adds the feed if it is new. It names the keys under which a record was added, removed or
-    /// changed. Of records that have one id the last one stays. `TooManyFeeds` is tested first. The time is n log n in the records of this feed; other feeds cost nothing.
+    /// Replaces all records of a feed, or adds the feed if it is new, and returns the keys under which a record was added, removed
+    /// or changed. Of records that have one id the last one stays. `TooManyFeeds` is tested first. The time is n log n in the old
+    /// and new records of this feed and their names; other feeds cost nothing.
     pub fn replace(
         &mut self,
         alloc: Global,
@@ -117,6 +118,7 @@ impl Feeds {
         None
     }
 
+    /// Whether this feed is new, and there are as many as there may be.
     fn is_full(&self, feed: &Text) -> bool
         ensures value { result ≡ is_full self.now feed.now }
         ensures sorted { IsStrictlySortedBy text_cmp (keys_of self.now.feeds) }
@@ -145,6 +147,7 @@ impl Feeds {
         Ok(Touched { keys })
     }
 
+    /// Replaces the records of a feed, or adds the feed.
     fn put(&mut self, feed: Text, stock: Stock) -> Result<(), NoMemory>
         ensures value { OnOk result (self.new ≡ record { feeds = insert_entry text_cmp self.old.feeds feed stock; limit = self.old.limit }) }
         ensures err { OnErr result (self.new ≡ self.old) }

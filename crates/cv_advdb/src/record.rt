@@ -82,6 +82,7 @@ impl StoredRecord {
     }
 }
 
+/// A record beside what is prepared of it.
 fn prepare(alloc: Global, advisory: Advisory) -> Result<PreparedRecord, NoMemory>
     ensures { IfOk result (λ prepared. prepared ≡ advisory) }
 {

@@ -47,8 +47,16 @@ fn touched(alloc: Global, touched: &Touched) -> Result<String, Fail> {
 #[test]
 fn added_removed_and_changed_records_touch_their_keys(rt: HostRuntime) -> Result<(), Fail> {
     let alloc = rt.alloc();
-    let before = [("X-3", "1", "zlib"), ("X-1", "1", "curl"), ("X-2", "1", "bash")];
-    let after = [("X-4", "1", "jq"), ("X-1", "1", "curl"), ("X-2", "2", "bash")];
+    let before = [
+        ("X-3", "1", "zlib"),
+        ("X-1", "1", "curl"),
+        ("X-2", "1", "bash"),
+    ];
+    let after = [
+        ("X-4", "1", "jq"),
+        ("X-1", "1", "curl"),
+        ("X-2", "2", "bash"),
+    ];
     let mut feeds = Feeds::new(alloc, 64)?;
     feeds.replace(alloc, Text::of(alloc, "deb")?, records(alloc, &before)?)?;
     let keys = feeds.replace(alloc, Text::of(alloc, "deb")?, records(alloc, &after)?)?;
@@ -72,14 +80,24 @@ fn a_feed_that_stands_is_replaced_at_the_limit(rt: HostRuntime) -> Result<(), Fa
 #[test]
 fn records_under_a_key_come_by_feed_and_id(rt: HostRuntime) -> Result<(), Fail> {
     let alloc = rt.alloc();
-    let second = [("X-2", "1", "curl"), ("X-1", "1", "bash"), ("X-10", "1", "curl")];
+    let second = [
+        ("X-2", "1", "curl"),
+        ("X-1", "1", "bash"),
+        ("X-10", "1", "curl"),
+    ];
     let mut feeds = Feeds::new(alloc, 64)?;
     feeds.replace(alloc, Text::of(alloc, "b")?, records(alloc, &second)?)?;
-    feeds.replace(alloc, Text::of(alloc, "a")?, records(alloc, &[("X-9", "1", "curl")])?)?;
+    feeds.replace(
+        alloc,
+        Text::of(alloc, "a")?,
+        records(alloc, &[("X-9", "1", "curl")])?,
+    )?;
     let copy = feeds.copy()?;
     let curl = name(alloc, "curl")?;
     for (index, feed, id) in [(0, "a", "X-9"), (1, "b", "X-10"), (2, "b", "X-2")] {
-        let listed = copy.under(&curl, PackageKind::Deb, index).ok_or("no record")?;
+        let listed = copy
+            .under(&curl, PackageKind::Deb, index)
+            .ok_or("no record")?;
         assert_eq!(rt; listed.feed.as_str(), feed);
         assert_eq!(rt; listed.advisory.id.as_str(), id);
     }

@@ -1,5 +1,5 @@
 -- Words for the clauses of private functions: the records under each key, as a map from keys holds them.
-use Rattle.std.specs.Prelude.{ℕ, ◌≡◌, List, [], filter, option_to_list, unwrap_or}
+use Rattle.std.specs.Prelude.{◌≡◌, List, [], filter, option_to_list, unwrap_or}
 use Rattle.std.specs.BTreeMap.{is_at}
 use Rattle.std.specs.List.{flat_map}
 use Rattle.std.specs.List.Sorted.{IsStrictlySortedBy}

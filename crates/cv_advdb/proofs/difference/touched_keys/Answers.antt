@@ -1,5 +1,3 @@
-use Rattle.std.proofs.Common.{subst, sym}
-use Rattle.cv_advdb.specs.Touched.{IsTouched}
 use Rattle.cv_advdb.proofs.Walked.{walk_ends}
 use Rattle.cv_advdb.proofs.difference.touched_keys.Goals as goal
 

@@ -1,8 +1,6 @@
 use Rattle.std.proofs.Common.{◌∙◌, ap}
 use Rattle.std.specs.Prelude.{◌++◌, List}
-use Rattle.std.specs.List.Sorted.{IsStrictlySortedBy}
 use Rattle.cv_base.specs.declared.advisory.Advisory.{Advisory}
-use Rattle.cv_match.specs.Keys.{name_cmp}
 use Rattle.cv_advdb.specs.code.Index.{found_under}
 use Rattle.cv_advdb.proofs.IndexLemmas.{named_once}
 use Rattle.cv_advdb.proofs.NameLemmas.{order_sorted}

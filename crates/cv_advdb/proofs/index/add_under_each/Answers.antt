@@ -1,4 +1,4 @@
-use Rattle.cv_advdb.proofs.IndexLemmas.{no_more_keys, one_more_key, rest_sorted}
+use Rattle.cv_advdb.proofs.IndexLemmas.{one_more_key, rest_sorted}
 use Rattle.cv_advdb.proofs.index.add_under_each.Goals as goal
 
 pub loop-name-preserved : goal.loop-name-preserved
