@@ -1,1 +1,6 @@
+pub mod IndexLemmas
+pub mod NameLemmas
 pub mod Ordered
+pub mod SortedLists
+pub mod TouchedLemmas
+pub mod Walked

@@ -34,9 +34,9 @@ has_feed name feeds = is_some (lookup (is_at (text_cmp name)) feeds)
 abbrev pub records_of : List ℕ → List (List ℕ × List Advisory) → List Advisory
 records_of name feeds = unwrap_or (lookup (is_at (text_cmp name)) feeds) []
 
--- the name is new, and there are as many feeds as there may be
+-- there are as many feeds as there may be, and the name is new
 abbrev pub is_full : FeedTable → List ℕ → Bool
-is_full table name = not (has_feed name table.feeds) && nat_le table.limit (length table.feeds)
+is_full table name = nat_le table.limit (length table.feeds) && not (has_feed name table.feeds)
 
 -- the feeds, of which the one of this name has these records, in the order of their ids
 abbrev pub replaced : FeedTable → List ℕ → List Advisory → FeedTable

@@ -11,7 +11,10 @@ pub enum AdvError {
 }
 
 impl From<NoMemory> for AdvError {
-    ghost from_gives = { λ e r. r ≡ AdvError.NoMemory };
+    ghost use Rattle.std.specs.Prelude.{◌≡◌};
+    ghost use Rattle.cv_advdb.specs.declared.error.AdvError.TheVariants as error;
+
+    ghost from_gives = { λ e r. r ≡ error.NoMemory };
 
     fn from(_error: NoMemory) -> AdvError {
         AdvError::NoMemory

@@ -76,7 +76,8 @@ fn add_record(
     let mut names = Vec::new(alloc);
     push_names(&mut names, stored.advisory())?;
     let distinct = in_name_order(alloc, names)?;
-    add_under_each(alloc, index, &distinct, stored)
+    add_under_each(alloc, index, &distinct, stored)?;
+    Ok(())
 }
 
 /// Appends a record under each of these names.
@@ -90,7 +91,7 @@ fn add_under_each(
     ensures { OnOk result ((key : PackageName) → found_under key index.new.entries ≡ found_under key index.old.entries ++ (if has_name key names.now then stored.now ∷ [] else [])) }
 {
     let mut remaining = names;
-    while let [name, rest @ ..] = remaining {
+    while let Some((name, rest)) = remaining.split_first() {
         add_under(alloc, index, name, stored)?;
         remaining = rest;
     }
@@ -107,7 +108,8 @@ fn add_under(
     ensures { OnOk result ((key : PackageName) → found_under key index.new.entries ≡ found_under key index.old.entries ++ (if is_key key (Some name.now) then stored.now ∷ [] else [])) }
 {
     if let Some(list) = index.get_mut(name) {
-        return list.push(stored.clone()?);
+        list.push(stored.clone()?)?;
+        return Ok(());
     }
     let mut list = RecordList::new(alloc);
     list.push(stored.clone()?)?;

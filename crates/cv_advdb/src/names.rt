@@ -1,9 +1,9 @@
-ghost use Rattle.std.specs.Prelude.{◌≡◌, ◌++◌, IfOk, OnOk};
+ghost use Rattle.std.specs.Prelude.{◌≡◌, ◌++◌, IfOk, OnOk, option_to_list};
 ghost use Rattle.cv_base.specs.InOrder.{in_order};
 ghost use Rattle.cv_match.specs.Keys.{name_cmp};
 ghost use Rattle.cv_advdb.specs.code.Index.{names_in};
 
-use cv_base::{Advisory, NoMemory, PackageName};
+use cv_base::{Advisory, Affected, NoMemory, PackageName};
 use std::alloc::Global;
 use std::collections::BTreeSet;
 
@@ -11,10 +11,18 @@ use std::collections::BTreeSet;
 pub fn push_names(names: &mut Vec<PackageName>, advisory: &Advisory) -> Result<(), NoMemory>
     ensures { OnOk result (names.new.items ≡ names.old.items ++ names_in advisory.now) }
 {
-    for entry in advisory.affected.as_slice() {
-        if let Some(name) = &entry.package {
-            names.push(name.clone()?)?;
-        }
+    let entries = advisory.affected.as_slice();
+    for entry in entries {
+        push_name(names, entry)?;
+    }
+    Ok(())
+}
+
+fn push_name(names: &mut Vec<PackageName>, entry: &Affected) -> Result<(), NoMemory>
+    ensures { OnOk result (names.new.items ≡ names.old.items ++ option_to_list entry.now.package) }
+{
+    if let Some(name) = &entry.package {
+        names.push(name.clone()?)?;
     }
     Ok(())
 }

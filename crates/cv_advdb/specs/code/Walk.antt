@@ -1,11 +1,17 @@
 -- Words for the clauses of private functions: a walk over two lists of records, both in the order of their ids, that gathers the
 -- names under which they differ.
 use Rattle.std.specs.Prelude.{ℕ, ◌≡◌, ◌+◌, ◌<◌, false, List, length}
+use Rattle.std.specs.List.{AllByRecursion}
 use Rattle.std.specs.List.Sorted.{IsStrictlySortedBy}
+use Rattle.std.specs.declared.cmp.Ordering.TheVariants.{Less}
 use Rattle.cv_base.specs.declared.advisory.Advisory.{Advisory}
 use Rattle.cv_base.specs.declared.«package».PackageName.{PackageName}
 use Rattle.cv_advdb.specs.Feeds.{id_cmp}
 use Rattle.cv_advdb.specs.Touched.{has_name, records_under}
+
+-- a record comes before all of these
+abbrev pub IsBelow : Advisory → List Advisory → Type 0
+IsBelow a others = AllByRecursion (λ other. id_cmp a other ≡ Less) others
 
 -- two lists differ under a name that was gathered, or where their remaining parts differ, and nowhere else
 pub record DiffersBy (before after left right : List Advisory) (names : List PackageName) : Type 0 where
