@@ -9,6 +9,8 @@
 mod changes;
 mod laws;
 mod matching;
+#[cfg(test)]
+mod tests;
 
 pub use changes::rows;
 pub use laws::part_laws;

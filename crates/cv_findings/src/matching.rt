@@ -1,10 +1,11 @@
-ghost use Rattle.std.specs.Prelude.{◌≡◌, ◌+◌, ◌++◌, IfOk, OnOk, option_and_then};
+ghost use Rattle.std.specs.Prelude.{◌≡◌, ◌+◌, ◌++◌, ◌≤◌, IfOk, OnOk, option_and_then};
 ghost use Rattle.std.specs.List.{flat_map};
 ghost use Rattle.std.specs.Option.{option_copied, option_map, option_to_list};
 ghost use Rattle.cv_match.specs.Answer.{text_at};
 ghost use Rattle.cv_match.specs.Findings.{findings, found};
 ghost use Rattle.cv_match.specs.Keys.{is_key, is_named};
-ghost use Rattle.cv_findings.specs.code.Lookup.{found_by, found_once, found_under, is_tried, looked_up};
+ghost use Rattle.cv_findings.specs.Pairs.{about_count, pair_count};
+ghost use Rattle.cv_findings.specs.code.Lookup.{found_by, found_once, found_under, is_tried, looked_up, tries_by, tries_once, tries_under};
 
 use cv_advdb::{Feeds, Listed};
 use cv_base::{Advisory, Finding, NoMemory, Package, PackageName, Seq, Steps, Text};
@@ -23,8 +24,10 @@ pub fn match_all<L: Ledger>(
     feeds: &Feeds,
     steps: &mut Steps<L>,
 ) -> Result<Seq<Finding>, NoMemory>
-    ensures { IfOk result (λ out. out ≡ findings packages.now feeds.now.feeds) }
+    ensures found { IfOk result (λ out. out ≡ findings packages.now feeds.now.feeds) }
+    ensures counted { steps.new ≤ steps.old + pair_count packages.now feeds.now.feeds }
 {
+    feeds.sorted();
     let found = match_each(alloc, packages, feeds, steps)?;
     in_order(alloc, found)
 }
@@ -36,7 +39,8 @@ fn match_each<L: Ledger>(
     feeds: &Feeds,
     steps: &mut Steps<L>,
 ) -> Result<Vec<Finding>, NoMemory>
-    ensures { IfOk result (λ out. out.items ≡ flat_map (looked_up feeds.now.feeds) packages.now) }
+    ensures found { IfOk result (λ out. out.items ≡ flat_map (looked_up feeds.now.feeds) packages.now) }
+    ensures counted { steps.new ≤ steps.old + pair_count packages.now feeds.now.feeds }
 {
     let mut out = Vec::new(alloc);
     for package in packages {
@@ -53,7 +57,8 @@ fn match_package<L: Ledger>(
     feeds: &Feeds,
     steps: &mut Steps<L>,
 ) -> Result<(), NoMemory>
-    ensures { OnOk result (out.new.items ≡ out.old.items ++ looked_up feeds.now.feeds «package».now) }
+    ensures found { OnOk result (out.new.items ≡ out.old.items ++ looked_up feeds.now.feeds «package».now) }
+    ensures counted { steps.new ≤ steps.old + about_count feeds.now.feeds «package».now }
 {
     let prepared = prepare_package(alloc, package)?;
     let keys = package_keys(alloc, package)?;
@@ -79,7 +84,8 @@ fn match_keys<L: Ledger>(
     steps: &mut Steps<L>,
 ) -> Result<(), NoMemory>
     requires { prepared.now ≡ «package».now }
-    ensures { OnOk result (out.new.items ≡ out.old.items ++ found_by feeds.now.feeds «package».now keys.now) }
+    ensures found { OnOk result (out.new.items ≡ out.old.items ++ found_by feeds.now.feeds «package».now keys.now) }
+    ensures counted { steps.new ≤ steps.old + tries_by feeds.now.feeds keys.now }
 {
     let [whole, others @ ..] = keys else {
         return Ok(());
@@ -112,7 +118,8 @@ fn match_key<L: Ledger>(
     steps: &mut Steps<L>,
 ) -> Result<(), NoMemory>
     requires { prepared.now ≡ «package».now }
-    ensures { OnOk result (out.new.items ≡ out.old.items ++ found_under feeds.now.feeds «package».now (option_copied earlier.entry) key.now) }
+    ensures found { OnOk result (out.new.items ≡ out.old.items ++ found_under feeds.now.feeds «package».now (option_copied earlier.entry) key.now) }
+    ensures counted { steps.new ≤ steps.old + tries_under feeds.now.feeds (option_copied earlier.entry) key.now }
 {
     let mut index: u64 = 0;
     while let Some(listed) = feeds.under(key, package.kind, index) {
@@ -141,7 +148,8 @@ fn match_listed<L: Ledger>(
 ) -> Result<(), NoMemory>
     requires prepared { prepared.now ≡ «package».now }
     requires ready { listed.now.ready.now ≡ record { kind = «package».now.kind; advisory = listed.now.advisory.now } }
-    ensures { OnOk result (out.new.items ≡ out.old.items ++ found_once (option_copied earlier.entry) «package».now (listed.now.feed.now, listed.now.advisory.now)) }
+    ensures found { OnOk result (out.new.items ≡ out.old.items ++ found_once (option_copied earlier.entry) «package».now (listed.now.feed.now, listed.now.advisory.now)) }
+    ensures counted { steps.new ≤ steps.old + tries_once (option_copied earlier.entry) (listed.now.feed.now, listed.now.advisory.now) }
 {
     if is_tried(earlier, listed.advisory) {
         return Ok(());
@@ -192,7 +200,8 @@ fn find_one<L: Ledger>(
 ) -> Result<Option<Finding>, NoMemory>
     requires prepared { prepared.now ≡ «package».now }
     requires ready { listed.now.ready.now ≡ record { kind = «package».now.kind; advisory = listed.now.advisory.now } }
-    ensures { IfOk result (λ finding. option_to_list finding ≡ found «package».now listed.now.feed.now listed.now.advisory.now) }
+    ensures found { IfOk result (λ finding. option_to_list finding ≡ found «package».now listed.now.feed.now listed.now.advisory.now) }
+    ensures counted { steps.new ≡ steps.old + 1 }
 {
     match affects(listed.ready, prepared, steps) {
         Hit::No => Ok(None),
