@@ -1,5 +1,5 @@
 -- Worked examples of what is gathered from the layers of an image.
-use Rattle.std.specs.Prelude.{◌≡◌, false, true, List, [], ◌∷◌, codes, refl}
+use Rattle.std.specs.Prelude.{◌≡◌, false, List, [], ◌∷◌, codes, refl}
 use Rattle.cv_base.specs.Path.{Path, components}
 use Rattle.cv_facts.specs.declared.reduction.Reduction.{Reduction}
 use Rattle.cv_packages.specs.declared.found.FileFound.{FileFound}

@@ -1,12 +1,9 @@
 -- The facts of an image's layers, at their places among all facts.
-use Rattle.std.specs.Prelude.{◌≡◌, ℕ, ◌+◌, ◌<◌, List, [], ◌∷◌, ◌++◌, All, drop, length, map, slice_index_or, Option, Some, None, IfSome, refl}
+use Rattle.std.specs.Prelude.{◌≡◌, ℕ, ◌<◌, List, [], ◌∷◌, length, map, slice_index_or, Option, Some, None, IfSome, refl}
 use Rattle.std.specs.List.{AllByRecursion}
-use Rattle.std.proofs.Common.{zero, suc, ap, arith, get_or, subst, sym, ◌∙◌}
-use Rattle.std.proofs.lemmas.List.{drop_more}
+use Rattle.std.proofs.Common.{zero, suc, ap, arith, sym, ◌∙◌}
 use Rattle.cv_desk.specs.Stored.{Stored}
 use Rattle.cv_facts.specs.Reduction.{IsRight, Known, shape_of}
-use Rattle.cv_facts.specs.declared.reduction.Shape.{Shape}
-use Rattle.cv_facts.specs.declared.reduction.Shape.TheVariants.{NoLayer}
 use Rattle.cv_scan.specs.Layers.{stored_layers, with_stored}
 use Rattle.cv_coalesce.specs.Coalesced.{at_places, chosen}
 use Rattle.cv_coalesce.specs.code.Known.{known_at, nowhere}

@@ -1,6 +1,6 @@
 -- The package files of the root of an image, gathered from its layers: each layer's own files that no layer above it hides.
-use Rattle.std.specs.Prelude.{◌≡◌, Bool, true, false, ◌&&◌, ◌||◌, not, if◌then◌else◌, filter, List, [], ◌∷◌, Option, Some, None, refl}
-use Rattle.std.specs.List.{AllByRecursion, list_any}
+use Rattle.std.specs.Prelude.{◌≡◌, Bool, true, false, ◌&&◌, ◌||◌, not, if◌then◌else◌, List, [], ◌∷◌, Option, Some, None, refl}
+use Rattle.std.specs.List.{AllByRecursion}
 use Rattle.std.specs.Option.{option_or}
 use Rattle.std.proofs.Common.{ap, sym, ◌∙◌, subst}
 use Rattle.cv_base.specs.Path.{Path, same_path}
@@ -12,12 +12,11 @@ use Rattle.cv_facts.specs.Cover.{is_place}
 use Rattle.cv_overlay.specs.Ascending.{AreAscending}
 use Rattle.cv_overlay.specs.Lay.{is_plain, lay, node_at, root_from, root_of}
 use Rattle.cv_overlay.specs.Mark.{mark}
-use Rattle.cv_overlay.specs.code.Merge.{merged}
 use Rattle.cv_overlay.proofs.MergeLemmas.{ComesAfter, ascending_kept, ascending_merged, node_kept, node_merged, nothing_before}
 use Rattle.cv_scan.specs.Root.{root_entries}
 use Rattle.cv_scan.proofs.Laid.{node_root, root_ascends, same_entries}
 use Rattle.cv_coalesce.specs.code.Trees.{AllAscend, gathered_entries, hidden_by, is_file, is_placed_file, layer_files, root_files, tree_hides, visible_entries}
-use Rattle.cv_coalesce.proofs.OneLayer.{file_node, layer_away, layer_file, one_layer}
+use Rattle.cv_coalesce.proofs.OneLayer.{file_node, layer_away, one_layer}
 
 visible_ascend : (higher : List (List TreeEntry)) (tree : List TreeEntry) → AreAscending tree → AreAscending (visible_entries higher tree)
 visible_ascend higher tree h =

@@ -1,6 +1,6 @@
 -- What a layer makes of the package file at a place: its own file there, or nothing where it hides the place, or else what
 -- stood there before.
-use Rattle.std.specs.Prelude.{◌≡◌, Bool, true, false, ◌&&◌, ◌||◌, not, if◌then◌else◌, filter, List, [], ◌∷◌, map, Option, Some, None, refl}
+use Rattle.std.specs.Prelude.{◌≡◌, Bool, true, false, ◌&&◌, ◌||◌, not, if◌then◌else◌, List, [], ◌∷◌, map, Option, Some, None, refl}
 use Rattle.std.specs.List.{AllByRecursion, cons_option, list_any}
 use Rattle.std.specs.Option.{is_some, option_or}
 use Rattle.std.specs.declared.cmp.Ordering.TheVariants.{Less, Equal}

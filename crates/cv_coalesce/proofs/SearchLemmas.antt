@@ -1,20 +1,23 @@
 -- What binary searches for the fronts of a path find in a sorted list.
-use Rattle.std.specs.Prelude.{◌≡◌, ℕ, ◌+◌, ◌<◌, Bool, true, false, ◌&&◌, ◌||◌, List, [], ◌∷◌, length, take, Result, Ok, Err, IsSorted, refl}
-use Rattle.std.specs.Cmp.Lexicographic.{slice_cmp, lists_ties, texts_ties}
+use Rattle.std.specs.Prelude.{◌≡◌, ℕ, ◌<◌, ◌≤◌, Bool, true, false, ◌&&◌, ◌||◌, List, [], ◌∷◌, length, slice_get, take, Option, Some, Result, Ok, Err, IsSorted, refl}
+use Rattle.std.specs.Cmp.Lexicographic.{slice_cmp, lists_ties, nat_list_cmp_total, texts_ties}
 use Rattle.std.specs.List.{list_any}
 use Rattle.std.specs.List.Sorted.{IsSearchInRange, IsBinarySearchResult}
-use Rattle.std.specs.Ordering.{nat_cmp}
+use Rattle.std.specs.Ordering.{is_lt, nat_cmp, ordering_index, ordering_then}
 use Rattle.std.specs.Result.{is_ok}
+use Rattle.std.specs.declared.cmp.Ordering.{Ordering}
 use Rattle.std.specs.declared.cmp.Ordering.TheVariants.{Less, Equal, Greater}
-use Rattle.std.proofs.Common.{zero, suc, ap, sym, ◌∙◌, inl, inr, get_or, arith, below_more}
+use Rattle.std.proofs.Common.{zero, suc, ap, sym, ◌∙◌, inl, inr, get_or, arith, subst}
 use Rattle.std.proofs.lemmas.Bool.{cases_lt}
+use Rattle.std.proofs.lemmas.Cmp.{tied_itself}
 use Rattle.std.proofs.lemmas.List.Folds.{list_any_at, list_any_none}
 use Rattle.std.proofs.lemmas.List.Sorted.{searchable_from_sorted}
 use Rattle.cv_base.specs.Path.{Path, is_above, path_cmp, same_path}
 use Rattle.cv_base.specs.Texts.{same}
 use Rattle.cv_base.proofs.Bools.{and_left, and_right, or_swap_inner}
-use Rattle.cv_base.proofs.Same.{path_total, same_self}
+use Rattle.cv_base.proofs.Same.{path_is, path_total}
 use Rattle.cv_overlay.specs.Mark.{at_or_above}
+use Rattle.cv_coalesce.specs.code.Search.{has_front, is_lower}
 
 -- A search for one path.
 
@@ -68,6 +71,71 @@ above_front (x ∷ xs) (c ∷ cs) h =
     (omega (arith, rest.0), both (same x c) (same_path xs (take (length xs) cs)) first rest.1) where
       both : (a b : Bool) → a ≡ true → b ≡ true → (a && b) ≡ true
       both a b f g = rw (f, g) refl
+
+-- A front of a path comes before the path, and before no shorter front of it.
+
+same_first : (c : List ℕ) (o : Ordering) → ordering_then (slice_cmp nat_cmp c c) o ≡ o
+same_first c o = ap (λ (first : Ordering). ordering_then first o) (tied_itself nat_list_cmp_total c)
+
+front_less : (p : Path) (k : ℕ) → k < length p → path_cmp (take k p) p ≡ Less
+front_less [] k h = absurd (omega (arith, h))
+front_less (c ∷ cs) zero h = refl
+front_less (c ∷ cs) (suc k) h = same_first c (path_cmp (take k cs) cs) ∙ front_less cs k (omega (arith, h))
+
+front_above_front : (p : Path) (depth k : ℕ) → depth ≤ k → path_cmp (take k p) (take depth p) ≡ Less → ⊥
+front_above_front [] zero zero h e = cc
+front_above_front [] zero (suc k) h e = cc
+front_above_front [] (suc depth) zero h e = cc
+front_above_front [] (suc depth) (suc k) h e = cc
+front_above_front (c ∷ cs) zero zero h e = cc
+front_above_front (c ∷ cs) zero (suc k) h e = cc
+front_above_front (c ∷ cs) (suc depth) zero h e = omega (arith, h)
+front_above_front (c ∷ cs) (suc depth) (suc k) h e =
+    front_above_front cs depth k (omega (arith, h)) (sym (same_first c (path_cmp (take k cs) (take depth cs))) ∙ e)
+
+-- Where no entry stands between a front that is missing and the path, all longer fronts are missing too.
+
+apart_from : (t q r : Path) → path_cmp t r ≡ Less → (path_cmp q r ≡ Less → ⊥) → same_path t q ≡ false
+apart_from t q r h not_less = by_test (same_path t q) refl where
+  by_test : (b : Bool) → same_path t q ≡ b → b ≡ false
+  by_test true e = absurd (not_less (ap (λ (x : Path). path_cmp x r) (sym (path_is t q e)) ∙ h))
+  by_test false e = refl
+
+got : (ts : List Path) (i : ℕ) (d : Path) → i < length ts → slice_get ts i ≡ Some (get_or ts i d)
+got [] i d h = absurd (omega (arith, h))
+got (t ∷ ts) zero d h = refl
+got (t ∷ ts) (suc i) d h = got ts i d (omega (arith, h))
+
+least : (o : Ordering) → ordering_index o ≤ 0 → is_lt o ≡ true
+least Less h = refl
+least Equal h = absurd (omega (arith, h))
+least Greater h = absurd (omega (arith, h))
+
+no_lower : (b : Bool) → b ≡ false → b ≡ true → ⊥
+no_lower true h k = cc
+no_lower false h k = cc
+
+-- an entry from the next one on is no front of the path
+later_apart : (ts : List Path) (p : Path) (i m k : ℕ) (d : Path) → IsSorted path_cmp ts → is_lower (slice_get ts i) p ≡ false → i ≤ m → m < length ts → k < length p
+    → same_path (get_or ts m d) (take k p) ≡ false
+later_apart ts p i m k d sorted last g l h = by_test (same_path (get_or ts m d) (take k p)) refl where
+  by_test : (b : Bool) → same_path (get_or ts m d) (take k p) ≡ b → b ≡ false
+  by_test false e = refl
+  by_test true e =
+      let less : path_cmp (get_or ts m d) p ≡ Less = ap (λ (x : Path). path_cmp x p) (path_is (get_or ts m d) (take k p) e) ∙ front_less p k h in
+      let ranks : ordering_index (path_cmp (get_or ts i d) p) ≤ ordering_index (path_cmp (get_or ts m d) p) = searchable_from_sorted path_total (λ (t : Path). t) ts p sorted i m d g l in
+      let rank : ordering_index (path_cmp (get_or ts i d) p) ≤ 0 = subst (λ (o : Ordering). ordering_index (path_cmp (get_or ts i d) p) ≤ ordering_index o) less ranks in
+      absurd (no_lower (is_lower (slice_get ts i) p) last (ap (λ (t : Option Path). is_lower t p) (got ts i d (omega (arith, g, l))) ∙ least (path_cmp (get_or ts i d) p) rank))
+
+pub last_front : (ts : List Path) (p : Path) (depth i : ℕ) → IsSorted path_cmp ts → IsBinarySearchResult (λ t. path_cmp t (take depth p)) ts (Err i)
+    → is_lower (slice_get ts i) p ≡ false → (k : ℕ) → depth ≤ k → k < length p → has_front ts p k ≡ false
+last_front ts p depth i sorted found last k below h =
+    let point = found (searchable_from_sorted path_total (λ (t : Path). t) ts (take depth p) sorted) in
+    list_any_none (λ t. same_path t (take k p)) ts
+    (λ m d l. elim (cases_lt m i) [
+      | inl before ↦ apart_from (get_or ts m d) (take k p) (take depth p) (point.0 m d (omega arith) before) (front_above_front p depth k below)
+      | inr from ↦ later_apart ts p i m k d sorted last from l h
+    ])
 
 -- Fronts in a list.
 

@@ -1,6 +1,6 @@
 -- The packages of an image from scratch (defined by this project): the first layer that is missing, or else the first whose tree
 -- is not good, or else the packages of its root, or the first package file that is refused.
-use Rattle.std.specs.Prelude.{ℕ, List, map, Option, Some, None, Result, Ok, Err}
+use Rattle.std.specs.Prelude.{ℕ, List, Option, Some, None, Result, Ok, Err}
 use Rattle.cv_base.specs.declared.advisory.Advisory.{Advisory}
 use Rattle.cv_base.specs.declared.finding.Finding.{Finding}
 use Rattle.cv_base.specs.declared.package.Package.{Package}

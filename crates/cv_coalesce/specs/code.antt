@@ -1,4 +1,5 @@
 -- Definitions for the clauses of private functions.
 pub mod Fronts
 pub mod Known
+pub mod Search
 pub mod Trees
