@@ -1,11 +1,14 @@
 //! Does one piece of cvwatch's work over a large input, or many times over, so that a script of bench/ can time it.
 //!
 //! ```text
+//! bench feeds [RECORDS [EVERY [TIMES]]]    makes the records of a feed and replaces them TIMES times; one of EVERY differs
+//! bench findings [RECORDS [PACKAGES [TIMES]]]  matches packages with the records of a feed TIMES times
 //! bench lines                              counts the lines of standard input
 //! bench match deb|apk|npm [PAIRS [TIMES]]  prepares a record TIMES times, asks PAIRS times whether it affects a package
 //! bench orders deb|apk [PAIRS [LENGTH]]    compares PAIRS pairs of versions: usual ones, or such of LENGTH bytes
 //! bench osv                                counts the OSV records of the JSON list on standard input
 //! bench overlay [ENTRIES [WHITEOUTS]]      lays ten layers on each other, of ENTRIES entries each
+//! bench records [RECORDS [TIMES]]          makes the records of a feed TIMES times
 //! bench status                             counts the packages of the dpkg status file on standard input
 //! ```
 //!
@@ -13,6 +16,7 @@
 #![tactic(auto)]
 
 mod documents;
+mod feeds;
 mod flaw;
 mod lines;
 mod matching;
@@ -24,7 +28,9 @@ use crate::orders::Order;
 use cv_base::NoMemory;
 use std::{env, io};
 
-const WORKS: [&str; 6] = ["lines", "match", "orders", "osv", "overlay", "status"];
+const WORKS: [&str; 9] = [
+    "feeds", "findings", "lines", "match", "orders", "osv", "overlay", "records", "status",
+];
 
 fn main(rt: HostRuntime) -> io::Result<()> {
     let mut arguments = Vec::new(rt.alloc());
@@ -56,6 +62,14 @@ fn run(rt: &HostRuntime, work: &str, arguments: &[String]) -> Result<u64, NoMemo
     let alloc = rt.alloc();
     let kind = arguments.first().map_or("deb", String::as_str);
     match work {
+        "feeds" => {
+            let (every, times) = (number(arguments, 1, 10), number(arguments, 2, 1));
+            feeds::touched(alloc, number(arguments, 0, 100), every, times)
+        }
+        "findings" => {
+            let (packages, times) = (number(arguments, 1, 10), number(arguments, 2, 1));
+            feeds::found(alloc, number(arguments, 0, 100), packages, times)
+        }
         "lines" => lines::count(alloc, rt.reader()),
         "match" => {
             let (pairs, times) = (number(arguments, 1, 100), number(arguments, 2, 1));
@@ -67,6 +81,7 @@ fn run(rt: &HostRuntime, work: &str, arguments: &[String]) -> Result<u64, NoMemo
         }
         "osv" => documents::records(alloc, rt.reader()),
         "overlay" => overlay::entries(alloc, number(arguments, 0, 200), number(arguments, 1, 0)),
+        "records" => feeds::made(alloc, number(arguments, 0, 100), number(arguments, 1, 1)),
         "status" => documents::packages(alloc, rt.reader()),
         _ => Ok(0),
     }

@@ -1,3 +1,4 @@
+mod Crossing
 pub mod IndexLemmas
 pub mod NameLemmas
 pub mod Ordered
