@@ -26,7 +26,7 @@ pub fn coalesce<D: Desk>(
     layers: &[u32],
 ) -> Result<ImagePackages, NoMemory>
     requires at_most_128_layers { length layers.now ≤ MAX_LAYERS }
-    requires known { All (λ k. k < length facts.now) layers.now }
+    requires places { All (λ k. k < length facts.now) layers.now }
     ensures shapes { IfOk result (λ found. found ≡ coalesced (chosen (map (λ f. f.shape) facts.now) layers.now)) }
     ensures answer { IfSome (stored_layers D.tree (at_places [] (map (λ f. f.digest) facts.now) layers.now)) (λ stored. IfOk result (λ found. found ≡ answer_of (image_packages (whole_layers stored)))) }
 {

@@ -7,6 +7,7 @@ ghost use Rattle.cv_overlay.specs.Mark.{at_or_above};
 use cv_base::RelPath;
 
 /// What a search for the first components of a path finds in a sorted list.
+#[derive(Clone, Copy)]
 pub enum Front {
     Found,
     Missing,
