@@ -1,0 +1,61 @@
+ghost use Rattle.std.specs.Prelude.{◌≡◌, ◌+◌, ◌≤◌, ◌∷◌, ◌++◌, unwrap_or, IfOk, OnOk};
+ghost use Rattle.cv_tree.specs.Entries.{costs_of, remade_entries, rows_of};
+ghost use Rattle.cv_tree.specs.code.Nodes.{between};
+
+use crate::branch::{Branch, Fork};
+use crate::remake::Remake;
+use crate::share::Share;
+use cv_seq::NoMemory;
+use std::alloc::Global;
+
+impl<K: Copy, V: Share + Drop> Branch<K, V> {
+    /// The same with the values that a maker gives, or None if each stays as it is. A branch of which nothing changes
+    /// is shared.
+    pub fn remake<M: Remake<K, V>>(
+        &self,
+        alloc: Global,
+        maker: &M,
+        rows: &mut Vec<M::Row>,
+        tally: &mut M::Tally,
+    ) -> Result<Option<Branch<K, V>>, NoMemory>
+        ensures value { IfOk result (λ new. unwrap_or new self.now ≡ remade_entries (M.made maker.now) self.now) }
+        ensures rows { OnOk result (rows.new.items ≡ rows.old.items ++ rows_of (M.added maker.now) self.now) }
+        ensures counted { M.costs tally.new ≤ M.costs tally.old + costs_of (M.cost maker.now) self.now }
+    {
+        let Some(fork) = self.fork() else {
+            return Ok(None);
+        };
+        let left = fork.left.remake(alloc, maker, rows, tally)?;
+        let value = maker.remake(alloc, fork.key, &fork.value, rows, tally)?;
+        let right = fork.right.remake(alloc, maker, rows, tally)?;
+        rebuilt(alloc, fork, left, value, right)
+    }
+}
+
+/// A node with new parts, where there are some, or None if there are none.
+fn rebuilt<K: Copy, V: Share + Drop>(
+    alloc: Global,
+    fork: &Fork<K, V>,
+    left: Option<Branch<K, V>>,
+    value: Option<V>,
+    right: Option<Branch<K, V>>,
+) -> Result<Option<Branch<K, V>>, NoMemory>
+    ensures { IfOk result (λ new. unwrap_or new (between fork.now) ≡ unwrap_or left fork.now.left ++ (fork.now.key, unwrap_or value fork.now.value) ∷ unwrap_or right fork.now.right) }
+{
+    if left.is_none() && value.is_none() && right.is_none() {
+        return Ok(None);
+    }
+    let left = new_or_shared(left, &fork.left)?;
+    let value = new_or_shared(value, &fork.value)?;
+    let right = new_or_shared(right, &fork.right)?;
+    Ok(Some(Branch::of(alloc, left, fork.key, value, right)?))
+}
+
+fn new_or_shared<T: Share>(new: Option<T>, old: &T) -> Result<T, NoMemory>
+    ensures { IfOk result (λ part. part ≡ unwrap_or new old.now) }
+{
+    match new {
+        Some(new) => Ok(new),
+        None => old.share(),
+    }
+}
