@@ -1,4 +1,4 @@
--- The package files of a layer of its own: its plain files at the places of package files, with what they have.
+-- The package files of a layer of its own: its plain files at the places of package files, with what they have (defined by this project).
 use Rattle.std.specs.Prelude.{if◌then◌else◌, List, Option, None}
 use Rattle.std.specs.List.{filter_map}
 use Rattle.cv_base.specs.declared.tree.TreeEntry.{TreeEntry}

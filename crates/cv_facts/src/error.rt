@@ -13,7 +13,7 @@ pub enum IndexError {
 
 impl From<DeskFault> for IndexError {
     ghost use Rattle.std.specs.Prelude.{◌≡◌};
-    ghost use Rattle.cv_facts.specs.code.Listing.{index_error};
+    ghost use Rattle.cv_facts.specs.Cause.{index_error};
 
     ghost from_gives = { λ fault e. e ≡ index_error fault };
 

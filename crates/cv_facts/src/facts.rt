@@ -10,8 +10,8 @@ use std::alloc::Global;
 use std::marker::{Model, PhantomData};
 use std::sync::Arc;
 
-/// What is known of the layer of a digest on the desks of a type: if the type says what the layer is, the shape is that
-/// layer's. The lists of the shape are in order, whatever the type says. Copies share the shape.
+/// The digest and the shape of a layer. If the type of the desk states the layer's tree, the shape is that tree's. The lists of the
+/// shape are in order in any case. Copies share the shape.
 #[derive(Drop)]
 pub struct LayerFacts<D: Desk> {
     digest: Digest,
@@ -70,14 +70,14 @@ impl<D: Desk> LayerFacts<D> {
         })
     }
 
-    /// The facts are right. It does nothing.
+    /// The facts are right. For proofs: it has no effect at run time.
     pub fn known(&self)
         ensures { IsRight D.tree self.now }
     {
         let _digest = &self.digest;
     }
 
-    /// The lists of the shape are in order. It does nothing.
+    /// The lists of the shape are in order. For proofs: it has no effect at run time.
     pub fn ordered(&self)
         ensures { IsOrdered self.now.shape }
     {

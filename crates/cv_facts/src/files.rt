@@ -113,7 +113,7 @@ fn read_placed<D: Desk>(
     Ok(file_found(alloc, path, place, content_of(read))?)
 }
 
-/// What was read, unless the file is no file any more.
+/// What was read, unless the file is no longer there.
 fn content_of(read: FileRead) -> Option<Content>
     ensures { result ≡ content_of read }
 {

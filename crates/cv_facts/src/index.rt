@@ -21,8 +21,8 @@ use cv_desk::Desk;
 use cv_overlay::check_tree;
 use std::alloc::Global;
 
-/// Indexes a layer: lists it once, checks the listing, and reads its package files. A layer whose listing is no good tree is
-/// not read.
+/// Indexes a layer: lists it once, checks the listing, and reads its package files. The files of a layer whose listing is not a
+/// good tree are not read.
 pub fn index_layer<D: Desk>(
     alloc: Global,
     desk: &mut D,
@@ -30,6 +30,7 @@ pub fn index_layer<D: Desk>(
 ) -> Result<LayerFacts<D>, IndexError>
     requires room { D.listings desk.old < 2 ^ 63 + 2 ^ 62 }
     ensures digest { IfOk result (λ facts. facts.digest ≡ layer) }
+    ensures shape { IfSome (D.tree layer) (λ t. IfOk result (λ facts. facts.shape ≡ shape_of t)) }
     ensures cause { CausedBy (D.faults desk.old) (D.faults desk.new) (is_desk_fault result) }
     ensures counted { D.listings desk.new ≡ D.listings desk.old + 1 }
     ensures reads { IfSome (D.tree layer) (λ _. IfOk result (λ facts. D.reads desk.new ≡ count_after (D.reads desk.old) (file_count facts.shape))) }

@@ -13,8 +13,6 @@ use Rattle.cv_base.specs.declared.tree.ListEntry.{ListEntry}
 use Rattle.cv_desk.specs.Loaded.{loaded_file}
 use Rattle.cv_desk.specs.Stored.{Stored, item_in}
 use Rattle.cv_desk.specs.code.Listed.{is_file_kind}
-use Rattle.cv_desk.specs.declared.desk.DeskFault.{DeskFault}
-use Rattle.cv_desk.specs.declared.desk.DeskFault.TheVariants as desk
 use Rattle.cv_desk.specs.declared.desk.FileRead.{FileRead}
 use Rattle.cv_desk.specs.declared.desk.FileRead.TheVariants as read
 use Rattle.cv_overlay.specs.Fault.{list_fault}
@@ -24,8 +22,6 @@ use Rattle.cv_overlay.specs.declared.fault.TreeFault.{TreeFault}
 use Rattle.cv_packages.specs.Files.{file_of}
 use Rattle.cv_packages.specs.declared.found.FileFound.{FileFound}
 use Rattle.cv_facts.specs.Cover.{covers, is_place, opaque_dirs, place_dirs, targets}
-use Rattle.cv_facts.specs.declared.error.IndexError.{IndexError}
-use Rattle.cv_facts.specs.declared.error.IndexError.TheVariants as error
 use Rattle.cv_facts.specs.declared.reduction.Reduction.{Reduction}
 use Rattle.cv_facts.specs.declared.reduction.Shape.{Shape}
 use Rattle.cv_facts.specs.declared.reduction.Shape.TheVariants as shape
@@ -70,12 +66,7 @@ abbrev pub found_shape : Option (List Stored) → Option (List ListEntry) → Sh
 found_shape tree None = shape.NoLayer
 found_shape tree (Some entries) = listed_shape tree entries
 
--- the answer to a desk's fault
-abbrev pub index_error : DeskFault → IndexError
-index_error desk.Failed = error.DeskFault
-index_error desk.NoMemory = error.NoMemory
-
--- what was read of a file, unless it is no file any more
+-- what was read of a file, unless it is no longer a file
 abbrev pub content_of : FileRead → Option Content
 content_of (read.Bytes bytes) = Some (content.Bytes bytes)
 content_of read.TooLarge = Some content.TooLarge
