@@ -4,3 +4,4 @@ pub mod Ordered
 pub mod SortedLists
 pub mod TouchedLemmas
 pub mod Walked
+mod Examples
