@@ -5,3 +5,4 @@ pub mod Ordered
 pub mod SortedLists
 pub mod TouchedLemmas
 pub mod Walked
+mod Examples
