@@ -1,4 +1,4 @@
--- The definitions, computed on small states: each row of the table of events, a report, pages and rows.
+-- The definitions, computed on small states: each event with each of its replies, a report, pages and rows.
 use Rattle.std.specs.Prelude.{◌≡◌, ℕ, false, List, [], ◌∷◌, codes, Option, Some, None, refl}
 use Rattle.cv_base.specs.Path.{components}
 use Rattle.cv_base.specs.declared.advisory.Advisory.{Advisory}

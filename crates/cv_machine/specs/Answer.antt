@@ -1,4 +1,4 @@
--- What a read is answered in a state (defined by this project).
+-- The answer to a read in a state (defined by this project).
 use Rattle.std.specs.Prelude.{ℕ, ◌-◌, ◌*◌, nat_lt, if◌then◌else◌, List, length, map, take, drop, Option, Some, None, Ok, Err}
 use Rattle.std.specs.Int.{div_ceil}
 use Rattle.cv_base.specs.declared.finding.Row.{Row}

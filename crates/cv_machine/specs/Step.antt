@@ -1,13 +1,13 @@
 -- The events of the machine (defined by this project): what the state is after an event, and what is replied. A reply that
 -- is given with the state as it was changes nothing.
-use Rattle.std.specs.Prelude.{ℕ, ◌+◌, Bool, ◌&&◌, ◌||◌, not, nat_le, nat_lt, if◌then◌else◌, List, [], ◌∷◌, length, filter, Option, Some, None}
+use Rattle.std.specs.Prelude.{ℕ, ◌+◌, Bool, ◌||◌, not, nat_lt, if◌then◌else◌, List, [], ◌∷◌, length, filter, Option, Some, None}
 use Rattle.std.specs.Cmp.Lexicographic.{pointwise}
 use Rattle.std.specs.Option.{is_some}
 use Rattle.cv_base.specs.Texts.{has_text, same}
 use Rattle.cv_base.specs.declared.advisory.Advisory.{Advisory}
 use Rattle.cv_base.specs.declared.finding.Row.{Row}
 use Rattle.cv_base.specs.declared.manifest.Manifest.{Manifest}
-use Rattle.cv_advdb.specs.Feeds.{by_id}
+use Rattle.cv_advdb.specs.Feeds.{by_id, is_full as is_full_table}
 use Rattle.cv_records.specs.declared.reply.Reply.{Reply}
 use Rattle.cv_records.specs.declared.reply.Reply.TheVariants as reply
 use Rattle.cv_machine.specs.Layers.{is_claimed_as, is_claimed_by, is_named}
@@ -96,7 +96,7 @@ updated state feeds rows = (
 
 -- a feed of this name is new, and there are as many feeds as may be
 abbrev pub is_full : State → List ℕ → Bool
-is_full state feed = not (is_some (value_at state.feeds feed)) && nat_le state.limits.feeds (length state.feeds)
+is_full state feed = is_full_table (record { feeds = state.feeds; limit = state.limits.feeds }) feed
 
 -- Update of a feed: TooManyFeeds if it is new and there are as many feeds as may be, or else Updated: the feed has these
 -- records in place of those before

@@ -1,7 +1,7 @@
 use cv_base::{Advisory, Digest, Manifest, Seq, Text};
 
-/// An event with all that the machine needs of it: a whole manifest, a feed with its records, a layer with the worker. No
-/// value of it is made: contracts and histories name events by it.
+/// An event with all that the machine needs of it: a whole manifest, a feed with its records, a layer with the worker. It is
+/// used in contracts only.
 #[derive(Debug, PartialEq, Eq, Drop)]
 pub enum WholeAct {
     Register(Manifest),

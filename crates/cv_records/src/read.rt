@@ -33,7 +33,7 @@ pub enum PageOutcome {
     NoPage { pages: u64 },
 }
 
-/// What a read asks for, and what it is answered.
+/// What a read asks for, and its answer.
 #[derive(Debug, PartialEq, Eq, Drop)]
 pub enum Answer {
     Report {

@@ -18,7 +18,7 @@ pub enum Reply {
     NotRegistered,
     /// The layer is the worker's now.
     Claimed,
-    /// The layer is another worker's, or indexed.
+    /// The layer is claimed already, or indexed.
     Taken,
     /// No registered image has the layer.
     Unwanted,
