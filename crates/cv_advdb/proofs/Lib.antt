@@ -1,3 +1,4 @@
+pub mod FeedLemmas
 pub mod IndexLemmas
 pub mod NameLemmas
 pub mod Ordered
