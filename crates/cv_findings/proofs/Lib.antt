@@ -1,0 +1,7 @@
+mod Examples
+pub mod FoundLemmas
+pub mod LookupLemmas
+pub mod Lookups
+pub mod PartLemmas
+pub mod ReadLemmas
+pub mod RowLemmas
