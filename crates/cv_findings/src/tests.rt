@@ -1,4 +1,6 @@
-ghost use Rattle.std.specs.Prelude.{◌≡◌, ◌<◌};
+ghost use Rattle.std.specs.Prelude.{◌≡◌, ◌<◌, IfOk};
+ghost use Rattle.std.specs.List.Sorted.{IsStrictlySortedBy};
+ghost use Rattle.cv_match.specs.Findings.{finding_cmp};
 
 use super::*;
 use cv_advdb::Feeds;
@@ -26,18 +28,26 @@ fn package(alloc: Global, name: &str) -> Result<Package, Fail> {
     })
 }
 
-/// The finding of a package, a feed, an advisory and a fixed version.
-fn finding(alloc: Global, row: &(&str, &str, &str, &str)) -> Result<Finding, Fail> {
-    let (name, feed, advisory, fixed) = *row;
+fn packages(alloc: Global, names: &[&str]) -> Result<Vec<Package>, Fail> {
+    let mut all = Vec::new(alloc);
+    for name in names {
+        all.push(package(alloc, name)?)?;
+    }
+    Ok(all)
+}
+
+/// The finding of a package, an advisory and a fixed version.
+fn finding(alloc: Global, row: &(&str, &str, &str)) -> Result<Finding, Fail> {
+    let (name, advisory, fixed) = *row;
     Ok(Finding {
         package: package(alloc, name)?,
-        feed: Text::of(alloc, feed)?,
+        feed: Text::of(alloc, "deb")?,
         advisory: Text::of(alloc, advisory)?,
         fixed: Some(Text::of(alloc, fixed)?),
     })
 }
 
-fn findings(alloc: Global, rows: &[(&str, &str, &str, &str)]) -> Result<Vec<Finding>, Fail> {
+fn findings(alloc: Global, rows: &[(&str, &str, &str)]) -> Result<Vec<Finding>, Fail> {
     let mut all = Vec::new(alloc);
     for row in rows {
         all.push(finding(alloc, row)?)?;
@@ -45,28 +55,22 @@ fn findings(alloc: Global, rows: &[(&str, &str, &str, &str)]) -> Result<Vec<Find
     Ok(all)
 }
 
-fn changes(
-    alloc: Global,
-    image: Digest,
-    before: Vec<Finding>,
-    after: Vec<Finding>,
-) -> Result<Seq<Row>, NoMemory> {
-    let before = in_order(alloc, before)?;
-    let after = in_order(alloc, after)?;
-    rows(alloc, image, before.as_slice(), after.as_slice())
+fn sorted(alloc: Global, rows: &[(&str, &str, &str)]) -> Result<Seq<Finding>, Fail>
+    ensures { IfOk result (λ out. IsStrictlySortedBy finding_cmp out) }
+{
+    let all = findings(alloc, rows)?;
+    let out = in_order(alloc, all)?;
+    Ok(out)
 }
 
-fn row(
-    alloc: Global,
-    image: Digest,
-    reason: Reason,
-    finding_row: &(&str, &str, &str, &str),
-) -> Result<Row, Fail> {
-    Ok(Row {
-        image,
-        reason,
-        finding: finding(alloc, finding_row)?,
-    })
+/// One row, with the name of its reason.
+fn shown(alloc: Global, row: &Row) -> Result<String, Fail> {
+    let fixed = match &row.finding.fixed {
+        Some(text) => text.as_str(),
+        None => "none",
+    };
+    let advisory = row.finding.advisory.as_str();
+    Ok(format!(in alloc; "{:?} {advisory} {fixed}", row.reason)?)
 }
 
 #[test]
@@ -75,68 +79,78 @@ fn rows_name_removed_changed_and_added_findings(rt: HostRuntime) -> Result<(), F
     let text = b"sha256:e3b0c44298fc1c149afbf4c8996fb92427ae41e4649b934ca495991b7852b855";
     let image = Digest::read(text)?;
     let before = [
-        ("curl", "deb", "X-1", "2"),
-        ("curl", "deb", "X-2", "2"),
-        ("zlib", "deb", "X-3", "2"),
+        ("curl", "X-1", "2"),
+        ("curl", "X-2", "2"),
+        ("zlib", "X-3", "2"),
     ];
     let after = [
-        ("curl", "deb", "X-2", "3"),
-        ("zlib", "deb", "X-3", "2"),
-        ("zlib", "deb", "X-4", "2"),
+        ("curl", "X-2", "3"),
+        ("zlib", "X-3", "2"),
+        ("zlib", "X-4", "2"),
     ];
-    let told = changes(
-        alloc,
-        image,
-        findings(alloc, &before)?,
-        findings(alloc, &after)?,
-    )?;
-    let want = vec![in alloc;
-        row(alloc, image, Reason::Removed, &before[0])?,
-        row(alloc, image, Reason::Changed, &after[0])?,
-        row(alloc, image, Reason::Added, &after[2])?,
-    ]?;
-    assert_eq!(rt; told.as_slice(), want.as_slice());
+    let old = sorted(alloc, &before)?;
+    let new = sorted(alloc, &after)?;
+    let found = rows(alloc, image, old.as_slice(), new.as_slice())?;
+    let want = ["Removed X-1 2", "Changed X-2 3", "Added X-4 2"];
+    assert_eq!(rt; found.as_slice().len(), want.len());
+    for (row, text) in found.as_slice().iter().zip(want) {
+        assert_eq!(rt; shown(alloc, row)?.as_str(), text);
+    }
     Ok(())
 }
 
-/// An entry about a package that is fixed in version 2.
-fn entry(alloc: Global, ecosystem: &str, name: &str) -> Result<Affected, NoMemory> {
-    let turns = vec![in alloc;
-        Turn::Introduced(Text::of(alloc, "0")?),
-        Turn::Fixed(Text::of(alloc, "2")?),
-    ]?;
-    let range = Range {
+/// A range that is fixed in version 2.
+fn range(alloc: Global) -> Result<Range, NoMemory> {
+    let mut turns = Vec::new(alloc);
+    turns.push(Turn::Introduced(Text::of(alloc, "0")?))?;
+    turns.push(Turn::Fixed(Text::of(alloc, "2")?))?;
+    Ok(Range {
         kind: RangeKind::Ecosystem,
         turns: Seq::of(turns),
-    };
+    })
+}
+
+fn entry(alloc: Global, ecosystem: &str, name: &str) -> Result<Affected, NoMemory> {
+    let ranges = Seq::of(vec![in alloc; range(alloc)?]?);
     Ok(Affected {
         package: Some(PackageName {
             ecosystem: Text::of(alloc, ecosystem)?,
             name: Text::of(alloc, name)?,
         }),
-        ranges: Seq::of(vec![in alloc; range]?),
+        ranges,
         versions: Seq::of(Vec::new(alloc)),
     })
 }
 
-/// The records of a feed that has one, about one package under these ecosystems.
-fn record(
-    alloc: Global,
-    id: &str,
-    name: &str,
-    ecosystems: &[&str],
-) -> Result<Seq<Advisory>, NoMemory> {
+/// A record about one package under these ecosystems.
+fn record(alloc: Global, id: &str, name: &str, ecosystems: &[&str]) -> Result<Advisory, NoMemory> {
     let mut affected = Vec::new(alloc);
     for ecosystem in ecosystems {
         affected.push(entry(alloc, ecosystem, name)?)?;
     }
-    let advisory = Advisory {
+    Ok(Advisory {
         id: Text::of(alloc, id)?,
         modified: Text::of(alloc, "2024-01-01T00:00:00Z")?,
         withdrawn: false,
         affected: Seq::of(affected),
-    };
-    Ok(Seq::of(vec![in alloc; advisory]?))
+    })
+}
+
+fn add_feed(alloc: Global, feeds: &mut Feeds, feed: &str, record: Advisory) -> Result<(), Fail> {
+    let records = Seq::of(vec![in alloc; record]?);
+    let name = Text::of(alloc, feed)?;
+    let _touched = feeds.replace(alloc, name, records)?;
+    Ok(())
+}
+
+/// A feed with a record under both keys of curl, and one with a record under the short key of zlib.
+fn two_feeds(alloc: Global) -> Result<Feeds, Fail> {
+    let mut feeds = Feeds::new(alloc, 2)?;
+    let both = record(alloc, "X-1", "curl", &["Debian:12", "Debian"])?;
+    add_feed(alloc, &mut feeds, "b", both)?;
+    let short = record(alloc, "X-2", "zlib", &["Debian", "Debian:11"])?;
+    add_feed(alloc, &mut feeds, "a", short)?;
+    Ok(feeds)
 }
 
 fn match_counted<L: Ledger>(
@@ -158,18 +172,17 @@ fn matched(alloc: Global, packages: &[Package], feeds: &Feeds) -> Result<Seq<Fin
 }
 
 #[test]
-fn packages_are_matched_with_all_feeds_by_whole_and_short_ecosystem(
-    rt: HostRuntime,
-) -> Result<(), Fail> {
+fn packages_are_matched_under_whole_and_short_ecosystems(rt: HostRuntime) -> Result<(), Fail> {
     let alloc = rt.alloc();
-    let mut feeds = Feeds::new(alloc, 2)?;
-    let both = record(alloc, "X-1", "curl", &["Debian:12", "Debian"])?;
-    feeds.replace(alloc, Text::of(alloc, "b")?, both)?;
-    let short = record(alloc, "X-2", "zlib", &["Debian", "Debian:11"])?;
-    feeds.replace(alloc, Text::of(alloc, "a")?, short)?;
-    let packages = vec![in alloc; package(alloc, "zlib")?, package(alloc, "curl")?]?;
-    let found = matched(alloc, &packages, &feeds)?;
-    let want = [("curl", "b", "X-1", "2"), ("zlib", "a", "X-2", "2")];
-    assert_eq!(rt; found.as_slice(), findings(alloc, &want)?.as_slice());
+    let feeds = two_feeds(alloc)?;
+    let installed = packages(alloc, &["zlib", "curl"])?;
+    let found = matched(alloc, &installed, &feeds)?;
+    let want = [("curl", "b", "X-1"), ("zlib", "a", "X-2")];
+    assert_eq!(rt; found.as_slice().len(), want.len());
+    for (finding, (name, feed, advisory)) in found.as_slice().iter().zip(want) {
+        assert_eq!(rt; finding.package.name.as_str(), name);
+        assert_eq!(rt; finding.feed.as_str(), feed);
+        assert_eq!(rt; finding.advisory.as_str(), advisory);
+    }
     Ok(())
 }
