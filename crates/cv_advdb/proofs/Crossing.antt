@@ -56,15 +56,21 @@ entry_sync V s = search (placed_sync, sendable, crosses, declared_sync, variants
 
 entries_send : IsSend entries.the_row
 entries_send = variants_send entries.«enum» (
-      (search (entry_send, deb_send, sendable, crosses, declared_send) depth 30 fits 4000, tt),
-      ((search (entry_send, apk_send, sendable, crosses, declared_send) depth 30 fits 4000, tt),
-      ((search (entry_send, semantic_send, sendable, crosses, declared_send) depth 30 fits 4000, tt), tt)))
+  (search (entry_send, deb_send, sendable, crosses, declared_send) depth 30 fits 4000, tt),
+  (
+    (search (entry_send, apk_send, sendable, crosses, declared_send) depth 30 fits 4000, tt),
+    ((search (entry_send, semantic_send, sendable, crosses, declared_send) depth 30 fits 4000, tt), tt),
+  ),
+)
 
 entries_sync : IsSync entries.the_row
 entries_sync = variants_sync entries.«enum» (
-      (search (entry_sync, deb_sync, sendable, crosses, declared_sync) depth 30 fits 4000, tt),
-      ((search (entry_sync, apk_sync, sendable, crosses, declared_sync) depth 30 fits 4000, tt),
-      ((search (entry_sync, semantic_sync, sendable, crosses, declared_sync) depth 30 fits 4000, tt), tt)))
+  (search (entry_sync, deb_sync, sendable, crosses, declared_sync) depth 30 fits 4000, tt),
+  (
+    (search (entry_sync, apk_sync, sendable, crosses, declared_sync) depth 30 fits 4000, tt),
+    ((search (entry_sync, semantic_sync, sendable, crosses, declared_sync) depth 30 fits 4000, tt), tt),
+  ),
+)
 
 prepared_send : IsSend prepared.the_row
 prepared_send = search (entries_send, sendable, crosses, declared_send) depth 30 fits 5000
