@@ -43,7 +43,7 @@ seen_filter layer other (d ∷ ds) h k = by_tests (same layer d) (same d other) 
   by_tests false true e f l rest = ap (λ c. c || has_text (filter (λ d. not (same layer d)) ds) other) f
   by_tests false false e f l rest = ap (λ c. c || has_text (filter (λ d. not (same layer d)) ds) other) f ∙ rest l
 
-abbrev AreSeen : List (List ℕ) → List (List ℕ) → Type 0
+abbrev pub AreSeen : List (List ℕ) → List (List ℕ) → Type 0
 AreSeen ds layers = AllByRecursion (λ layer. has_text ds layer ≡ true) layers
 
 seen_behind : (layer : List ℕ) (ds : List (List ℕ)) (layers : List (List ℕ)) → AreSeen ds layers → AreSeen (layer ∷ filter (λ d. not (same layer d)) ds) layers
@@ -53,7 +53,7 @@ seen_behind layer ds (other ∷ others) h = (by_test (same layer other) refl, se
   by_test true e = ap (λ c. c || has_text (filter (λ d. not (same layer d)) ds) other) e
   by_test false e = ap (λ c. c || has_text (filter (λ d. not (same layer d)) ds) other) e ∙ seen_filter layer other ds e h.0
 
-all_seen : (layers : List (List ℕ)) → AreSeen (distinct layers) layers
+pub all_seen : (layers : List (List ℕ)) → AreSeen (distinct layers) layers
 all_seen [] = tt
 all_seen (layer ∷ layers) = (
   ap (λ c. c || has_text (filter (λ d. not (same layer d)) (distinct layers)) layer) (same_self layer),

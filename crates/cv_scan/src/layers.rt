@@ -39,7 +39,7 @@ pub fn load_layers<D: Desk>(
 
 /// The layers of an image, each once, at the first place where it stands. They are at most 128.
 #[tactic(auto, using(crate::proofs::Distinct::followed_all, crate::proofs::Distinct::followed_none))]
-fn distinct_layers(alloc: Global, layers: &[Digest]) -> Result<Vec<Digest>, NoMemory>
+pub fn distinct_layers(alloc: Global, layers: &[Digest]) -> Result<Vec<Digest>, NoMemory>
     ensures layers { IfOk result (λ out. out.items ≡ distinct layers.now) }
     ensures fewer { IfOk result (λ out. length out.items ≤ length layers.now) }
 {

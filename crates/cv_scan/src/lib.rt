@@ -16,4 +16,5 @@ mod slots;
 pub use error::{ImageError, ScanError};
 pub use find::find_all;
 pub use laws::root_laws;
+pub use layers::distinct_layers;
 pub use scan::{scan_image, scan_root};

@@ -1,0 +1,2 @@
+-- Definitions for the clauses of private functions.
+pub mod Packages
