@@ -3,6 +3,7 @@
 //! ```text
 //! bench feeds [RECORDS [EVERY [TIMES]]]    makes the records of a feed and replaces them TIMES times; one of EVERY differs
 //! bench findings [RECORDS [PACKAGES [TIMES]]]  matches packages with the records of a feed TIMES times
+//! bench image root|layers DIGEST..         scans an image whose layers lie in the working directory, by its root or by its layers
 //! bench lines                              counts the lines of standard input
 //! bench match deb|apk|npm [PAIRS [TIMES]]  prepares a record TIMES times, asks PAIRS times whether it affects a package
 //! bench orders deb|apk [PAIRS [LENGTH]]    compares PAIRS pairs of versions: usual ones, or such of LENGTH bytes
@@ -18,6 +19,7 @@
 mod documents;
 mod feeds;
 mod flaw;
+mod image;
 mod lines;
 mod matching;
 mod orders;
@@ -28,8 +30,8 @@ use crate::orders::Order;
 use cv_base::NoMemory;
 use std::{env, io};
 
-const WORKS: [&str; 9] = [
-    "feeds", "findings", "lines", "match", "orders", "osv", "overlay", "records", "status",
+const WORKS: [&str; 10] = [
+    "feeds", "findings", "image", "lines", "match", "orders", "osv", "overlay", "records", "status",
 ];
 
 fn main(rt: HostRuntime) -> io::Result<()> {
@@ -70,6 +72,7 @@ fn run(rt: &HostRuntime, work: &str, arguments: &[String]) -> Result<u64, NoMemo
             let (packages, times) = (number(arguments, 1, 10), number(arguments, 2, 1));
             feeds::found(alloc, number(arguments, 0, 100), packages, times)
         }
+        "image" => image::scanned(rt, arguments),
         "lines" => lines::count(alloc, rt.reader()),
         "match" => {
             let (pairs, times) = (number(arguments, 1, 100), number(arguments, 2, 1));
