@@ -9,7 +9,7 @@ ghost use Rattle.cvwatch.specs.code.Printing.{SaysError, printed_of};
 use crate::status::Status;
 use cv_base::{Digest, MAX_LAYERS, NoMemory, Text};
 use cv_desk::Desk;
-use cv_scan::{ImageError, scan_image};
+use cv_image::{ImageError, scan_layers};
 use cv_scan_input::ScanInput;
 use cv_transcript::{bad_image_line, desk_fault_line, good_line};
 use std::alloc::Global;
@@ -37,7 +37,7 @@ pub fn scan_answer<D: Desk>(
     let feed = Text::of(alloc, "scan")?;
     let hash = &request.manifest.hash;
     let layers = request.manifest.layers.as_slice();
-    match scan_image(alloc, desk, layers, &feed, request.records.as_slice()) {
+    match scan_layers(alloc, desk, layers, &feed, request.records.as_slice()) {
         Ok(found) => Ok(Answer {
             text: good_line(alloc, hash, found.as_slice())?,
             ended: Status::Done,

@@ -1,0 +1,89 @@
+use cv_base::{Advisory, Affected, NoMemory, PackageName, Range, RangeKind, Seq, Text, Turn};
+use std::alloc::Global;
+
+/// A record about a package, whose flaw is present from the start.
+struct Record {
+    id: &'static str,
+    ecosystem: &'static str,
+    name: &'static str,
+    kind: RangeKind,
+    /// The version with the fix, if there is one.
+    fixed: Option<&'static str>,
+}
+
+static RECORDS: [Record; 5] = [
+    Record {
+        id: "X-1",
+        ecosystem: "Debian:12",
+        name: "openssl",
+        kind: RangeKind::Ecosystem,
+        fixed: Some("3.0.11-1"),
+    },
+    Record {
+        id: "Z-1",
+        ecosystem: "Debian",
+        name: "zlib",
+        kind: RangeKind::Ecosystem,
+        fixed: Some("1:1.3"),
+    },
+    Record {
+        id: "A-1",
+        ecosystem: "Alpine:v3.18",
+        name: "openssl",
+        kind: RangeKind::Ecosystem,
+        fixed: Some("3.1.2-r0"),
+    },
+    Record {
+        id: "N-1",
+        ecosystem: "npm",
+        name: "x",
+        kind: RangeKind::Semver,
+        fixed: None,
+    },
+    Record {
+        id: "N-2",
+        ecosystem: "npm",
+        name: "y",
+        kind: RangeKind::Semver,
+        fixed: None,
+    },
+];
+
+/// The records that all images are scanned with.
+pub fn all(alloc: Global) -> Result<Vec<Advisory>, NoMemory> {
+    let mut out = Vec::new(alloc);
+    for record in RECORDS.iter() {
+        out.push(advisory(alloc, record)?)?;
+    }
+    Ok(out)
+}
+
+fn advisory(alloc: Global, record: &Record) -> Result<Advisory, NoMemory> {
+    let range = Range {
+        kind: record.kind,
+        turns: Seq::of(turns(alloc, record)?),
+    };
+    let affected = Affected {
+        package: Some(PackageName {
+            ecosystem: Text::of(alloc, record.ecosystem)?,
+            name: Text::of(alloc, record.name)?,
+        }),
+        ranges: Seq::of(vec![in alloc; range]?),
+        versions: Seq::of(Vec::new(alloc)),
+    };
+    Ok(Advisory {
+        id: Text::of(alloc, record.id)?,
+        modified: Text::of(alloc, "2024-01-01T00:00:00Z")?,
+        withdrawn: false,
+        affected: Seq::of(vec![in alloc; affected]?),
+    })
+}
+
+fn turns(alloc: Global, record: &Record) -> Result<Vec<Turn>, NoMemory> {
+    let mut turns = Vec::new(alloc);
+    turns.push(Turn::Introduced(Text::of(alloc, "0")?))?;
+    if let Some(fixed) = record.fixed {
+        turns.push(Turn::Fixed(Text::of(alloc, fixed)?))?;
+    }
+    Ok(turns)
+}
