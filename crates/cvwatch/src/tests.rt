@@ -119,7 +119,7 @@ fn run_over(
 #[test]
 fn findings_are_printed(rt: HostRuntime) -> Result<(), Fail> {
     let hash = digest(&rt, '1')?;
-    let table: [(&str, &[&str], &str); 13] = [
+    let table: [(&str, &[&str], &str); 15] = [
         ("a", &[], ""),
         ("a", &[OPENSSL], OPENSSL_FOUND),
         ("a", &["", MODULE_X, "", "", OPENSSL, ""], OPENSSL_FOUND),
@@ -131,6 +131,8 @@ fn findings_are_printed(rt: HostRuntime) -> Result<(), Fail> {
         ("ac", &[OPENSSL, ZLIB], ZLIB_FOUND),
         ("de", &[MODULE_X, MODULE_Y], MODULE_Y_FOUND),
         ("d0", &[MODULE_X, MODULE_Y], MODULE_Y_FOUND),
+        ("a4", &[OPENSSL], ""),
+        ("d6", &[MODULE_X, MODULE_Y], ""),
         ("aba", &[OPENSSL], OPENSSL_FOUND),
         ("fb", &[OPENSSL], ""),
     ];

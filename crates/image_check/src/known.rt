@@ -6,7 +6,7 @@ use cv_desk::TableEntry;
 use std::alloc::Global;
 
 /// The known images: each letter or digit is a layer, the base first.
-pub static IMAGES: [&str; 7] = ["a", "3", "ab", "ac", "de", "d0", "aba"];
+pub static IMAGES: [&str; 9] = ["a", "3", "ab", "ac", "a4", "de", "d0", "d6", "aba"];
 
 /// What both ways say of one of these images.
 pub fn compared(alloc: Global, image: &str, advisories: &[Advisory]) -> Result<Compared, NoMemory> {
@@ -35,6 +35,8 @@ fn desk(alloc: Global) -> Result<MadeDesk, NoMemory> {
         layer(b'e', opaque(alloc)?),
         layer(b'0', file_for_folder(alloc)?),
         layer(b'3', debian(alloc, FIXED)?),
+        layer(b'4', folder_for_file(alloc)?),
+        layer(b'6', vec![in alloc; mark(".wh..wh..opq")]?),
     ]?;
     Ok(MadeDesk::of(layers))
 }
@@ -133,4 +135,14 @@ fn opaque(alloc: Global) -> Result<Vec<TableEntry>, NoMemory> {
 /// Puts a file in the place of a folder.
 fn file_for_folder(alloc: Global) -> Result<Vec<TableEntry>, NoMemory> {
     Ok(vec![in alloc; file("app", b"")]?)
+}
+
+/// Puts a folder in the place of a file.
+fn folder_for_file(alloc: Global) -> Result<Vec<TableEntry>, NoMemory> {
+    Ok(vec![in alloc;
+        folder("var"),
+        folder("var/lib"),
+        folder("var/lib/dpkg"),
+        folder("var/lib/dpkg/status"),
+    ]?)
 }

@@ -84,9 +84,11 @@ rows_by byte =
     else (if byte == 0 then Some (file (codes "app") [] ∷ [])
     else (if byte == 34 then Some alpine
     else (if byte == 51 then Some (debian fixed_status)
+    else (if byte == 68 then Some (with_dpkg (dir (codes "var/lib/dpkg/status") ∷ []))
     else (if byte == 85 then Some (file (codes ".wh.") [] ∷ [])
+    else (if byte == 102 then Some (file (codes ".wh..wh..opq") [] ∷ [])
     else (if byte == 119 then Some (debian short_status)
-    else None))))))))))
+    else None))))))))))))
 
 -- the rows of a digest, by its first byte
 abbrev pub rows_of : List ℕ → Option (List Row)

@@ -242,6 +242,25 @@ static MARKED: [TableEntry; 1] = [TableEntry {
     bytes: b"",
 }];
 
+/// A folder in the place of the status file.
+static FOLDER: [TableEntry; 4] = [
+    VAR,
+    VAR_LIB,
+    DPKG,
+    TableEntry {
+        path: "var/lib/dpkg/status",
+        kind: Kind::Dir,
+        bytes: b"",
+    },
+];
+
+/// Takes all that the layers below have away.
+static EMPTIED: [TableEntry; 1] = [TableEntry {
+    path: ".wh..wh..opq",
+    kind: Kind::File,
+    bytes: b"",
+}];
+
 /// Layers by the first byte of their digests.
 pub struct Layers;
 
@@ -260,7 +279,9 @@ impl Table for Layers {
             0x00 => Some(&FILE),
             0x22 => Some(&ALPINE),
             0x33 => Some(&FIXED),
+            0x44 => Some(&FOLDER),
             0x55 => Some(&MARKED),
+            0x66 => Some(&EMPTIED),
             0x77 => Some(&SHORT),
             _ => None,
         }
