@@ -9,7 +9,7 @@ use Rattle.std.specs.Map.{keys_of as names_of}
 use Rattle.std.specs.Option.{option_or}
 use Rattle.std.specs.Ordering.{is_eq, on, ordering_then, then_cmp}
 use Rattle.std.specs.declared.cmp.Ordering.{Ordering}
-use Rattle.std.specs.declared.cmp.Ordering.TheVariants.{Less, Equal, Greater}
+use Rattle.std.specs.declared.cmp.Ordering.TheVariants.{Less, Equal}
 use Rattle.std.proofs.Common.{ap, arith, sym, ◌∙◌}
 use Rattle.std.proofs.lemmas.Bool.{true≢false}
 use Rattle.std.proofs.lemmas.Cmp.{tied_itself}
@@ -27,9 +27,9 @@ use Rattle.cv_match.specs.Affects.{affects, family, fixed}
 use Rattle.cv_match.specs.Findings.{finding_cmp, finding_total, findings, found, found_in, pair_findings, text_cmp}
 use Rattle.cv_match.specs.Keys.{family_key, is_about, is_named, keys_of, whole_key}
 use Rattle.cv_advdb.specs.Feeds.{AreSorted, id_cmp, listed_under}
-use Rattle.cv_findings.specs.Pairs.{FeedList, about_count, pair_count}
-use Rattle.cv_findings.specs.code.Lookup.{found_by, found_once, found_under, looked_up, tries_by, tries_once, tries_under}
-use Rattle.cv_findings.proofs.Lookups.{last_append, last_at, last_flat, last_has, nothing, or_assoc, or_none, same_order}
+use Rattle.cv_findings.specs.Pairs.{FeedList, about_count}
+use Rattle.cv_findings.specs.code.Lookup.{found_by, found_once, found_under, looked_up, tries_by, tries_once}
+use Rattle.cv_findings.proofs.Lookups.{last_append, last_at, last_flat, last_has, nothing, or_none, same_order}
 use Rattle.cv_findings.proofs.PartLemmas.{then_equal}
 
 -- a record with the name of its feed

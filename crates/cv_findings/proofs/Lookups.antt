@@ -9,7 +9,7 @@ use Rattle.std.specs.Ordering.{is_eq, match_ordering}
 use Rattle.std.specs.declared.cmp.Ordering.{Ordering}
 use Rattle.std.specs.declared.cmp.Ordering.TheVariants.{Less, Equal, Greater}
 use Rattle.std.proofs.Common.{ap, subst, sym, ◌∙◌}
-use Rattle.std.proofs.lemmas.Cmp.{alike_right, tied_back, tied_itself}
+use Rattle.std.proofs.lemmas.Cmp.{alike_right, tied_itself}
 use Rattle.cv_base.specs.InOrder.{in_order}
 use Rattle.cv_base.proofs.InOrder.{after_lower, order_rises, turned}
 

@@ -1,12 +1,12 @@
 -- The walk over two sorted lists of findings gives the rows of the definition.
 use Rattle.std.specs.Prelude.{◌≡◌, ℕ, Bool, true, false, cond, not, ◌&&◌, ◌||◌, List, [], ◌∷◌, ◌++◌, map, filter, Option, Some, None, refl}
-use Rattle.std.specs.List.{AllByRecursion, list_any}
+use Rattle.std.specs.List.{AllByRecursion}
 use Rattle.std.specs.List.Sorted.{IsStrictlySortedBy}
 use Rattle.std.specs.Option.{is_some, option_map, option_or}
 use Rattle.std.specs.Ordering.{is_eq, match_ordering, ordering_reverse}
 use Rattle.std.specs.declared.cmp.Ordering.{Ordering}
 use Rattle.std.specs.declared.cmp.Ordering.TheVariants.{Less, Equal, Greater}
-use Rattle.std.proofs.Common.{ap, subst, sym, ◌∙◌}
+use Rattle.std.proofs.Common.{ap, sym, ◌∙◌}
 use Rattle.std.proofs.lemmas.Cmp.{alike_right, tied_back}
 use Rattle.std.proofs.lemmas.List.Kept.{IsStrictlySortedBy-filter}
 use Rattle.cv_base.proofs.InOrder.{after_lower, order_rises, turned}
@@ -14,10 +14,10 @@ use Rattle.cv_base.specs.declared.finding.Finding.{Finding}
 use Rattle.cv_base.specs.declared.finding.Reason.{Reason}
 use Rattle.cv_base.specs.declared.finding.Reason.TheVariants.{Added, Removed, Changed}
 use Rattle.cv_base.specs.declared.finding.Row.{Row}
-use Rattle.cv_match.specs.Findings.{finding_cmp, finding_total, is_of_pair}
+use Rattle.cv_match.specs.Findings.{finding_cmp, finding_total}
 use Rattle.cv_findings.specs.Rows.{added, changed, is_among, is_refixed, removed, row_about, row_cmp, row_total, rows_of, same_fix}
 use Rattle.cv_findings.specs.code.Walk.{change_between, walked}
-use Rattle.cv_findings.proofs.Lookups.{above_tied, at, at_filter, at_head, at_next, at_order, at_ties, at_tied, equal_of, kept, last_append, last_at, last_sorted, none_above, none_tied, same_lists}
+use Rattle.cv_findings.proofs.Lookups.{above_tied, at, at_filter, at_head, at_next, at_order, at_ties, at_tied, equal_of, kept, last_append, last_at, last_sorted, none_tied, same_lists}
 
 -- the finding that ties with another one
 abbrev finding_at : List Finding → Finding → Option Finding

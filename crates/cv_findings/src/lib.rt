@@ -2,7 +2,9 @@
 //!
 //! ```text
 //! let before = match_all(alloc, packages, &feeds, &mut steps)?;
-//! let rows = rows(alloc, image, before.as_slice(), after.as_slice())?;
+//! feeds.replace(alloc, name, records)?;
+//! let after = match_all(alloc, packages, &feeds, &mut steps)?;
+//! let changes = rows(alloc, image, before.as_slice(), after.as_slice())?;
 //! ```
 #![tactic(auto)]
 

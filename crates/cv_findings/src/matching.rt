@@ -16,8 +16,8 @@ use std::alloc::Global;
 use std::sync::ledger::Ledger;
 
 /// The findings of packages with the records of all feeds: each package with each record that affects it, sorted by package,
-/// feed and id of the advisory, each once. Only the records that name a package are tried against it, each once, and each try
-/// is a step.
+/// feed and id of the advisory, each once. Only the records that name a package are tried against it, each once. A try is a step,
+/// and it looks up one key in all feeds.
 pub fn match_all<L: Ledger>(
     alloc: Global,
     packages: &[Package],
@@ -129,7 +129,7 @@ fn match_key<L: Ledger>(
     Ok(())
 }
 
-/// The next index. There is none after the highest one, and no memory for as many records.
+/// The next index. Out of memory at the highest one, which no list in memory reaches.
 fn next_index(index: u64) -> Result<u64, NoMemory>
     ensures { IfOk result (λ next. next ≡ index + 1) }
 {

@@ -1,4 +1,4 @@
-use Rattle.std.proofs.Common.{sym, ◌∙◌}
+use Rattle.std.proofs.Common.{◌∙◌}
 use Rattle.cv_findings.proofs.RowLemmas.{walked_is}
 use Rattle.cv_findings.proofs.changes.rows.Goals as goal
 

@@ -1,4 +1,5 @@
-use Rattle.std.proofs.Common.{◌≡◌, ◌+◌, ◌<◌, length, arith, drop, sym, ◌∙◌}
+use Rattle.std.proofs.Common.{◌++◌, arith, sym}
+use Rattle.std.specs.List.{flat_map}
 use Rattle.std.specs.Option.{option_copied}
 use Rattle.std.proofs.lemmas.Option.{slice_get_within}
 use Rattle.cv_advdb.specs.Feeds.{listed_under}
@@ -29,14 +30,14 @@ loop-listed-preserved g c =
     let records = listed_under c.args.key.now c.args.feeds.now.feeds in
     let earlier = option_copied c.args.earlier in
     let read = sum_read (tries_once earlier) records c.loop-listed.index (c.in-Some.listed.feed.now, c.in-Some.listed.advisory.now) (sym c.in-Some.ensures.value) in (
-      rw (c.in_ok-index.ensures, c.in_ok-match_listed.ensures.found)
-          (flat_read (found_once earlier c.args.package.now) c.loop-listed.out.items records c.loop-listed.index (c.in-Some.listed.feed.now, c.in-Some.listed.advisory.now) (sym c.in-Some.ensures.value)
-          ∙ c.loop-listed.invariant.0),
+      flat_read (found_once earlier c.args.package.now) (c.args.out.now.items ++ flat_map (found_once earlier c.args.package.now) records) c.loop-listed.out.items c.match_listed.new.out.items
+          records c.loop-listed.index c.in_ok-index.index (c.in-Some.listed.feed.now, c.in-Some.listed.advisory.now)
+          (sym c.in-Some.ensures.value) c.in_ok-index.ensures c.in_ok-match_listed.ensures.found c.loop-listed.invariant.0,
       rw c.in_ok-index.ensures (omega (arith, read, c.match_listed.ensures.counted, c.loop-listed.invariant.1)),
     )
 
 pub returns-clause-found : goal.returns-clause-found
 returns-clause-found g c =
     let records = listed_under c.args.key.now c.args.feeds.now.feeds in
-    flat_none (found_once (option_copied c.args.earlier) c.args.package.now) c.loop-listed.out.items records c.loop-listed.index (sym c.in_default.ensures.value)
-    ∙ c.loop-listed.invariant.0
+    let makes = found_once (option_copied c.args.earlier) c.args.package.now in
+    flat_none makes (c.args.out.now.items ++ flat_map makes records) c.loop-listed.out.items records c.loop-listed.index (sym c.in_default.ensures.value) c.loop-listed.invariant.0

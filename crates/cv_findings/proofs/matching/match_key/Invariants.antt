@@ -2,7 +2,7 @@ use Rattle.std.proofs.Common.{◌≡◌, ◌+◌, ◌-◌, ◌≤◌, ◌++◌, 
 use Rattle.std.specs.List.{flat_map, sum_by}
 use Rattle.std.specs.Option.{option_copied}
 use Rattle.cv_advdb.specs.Feeds.{listed_under}
-use Rattle.cv_findings.specs.code.Lookup.{found_once, found_under, tries_once, tries_under}
+use Rattle.cv_findings.specs.code.Lookup.{found_once, tries_once}
 use Rattle.cv_findings.proofs.matching.match_key.Given as goal
 
 -- the findings so far, with those of the remaining records, are all, and so the tries
