@@ -1,4 +1,5 @@
 mod Crossing
+pub mod FeedLemmas
 pub mod IndexLemmas
 pub mod NameLemmas
 pub mod Ordered

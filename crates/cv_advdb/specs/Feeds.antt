@@ -3,7 +3,8 @@ use Rattle.std.specs.Prelude.{ℕ, Bool, ◌&&◌, not, List, [], filter, map, u
 use Rattle.std.specs.BTreeMap.{insert_entry, is_at}
 use Rattle.std.specs.Cmp.{IsTotalOrder, on_total}
 use Rattle.std.specs.Cmp.Lexicographic.{nat_list_cmp_total}
-use Rattle.std.specs.List.{flat_map}
+use Rattle.std.specs.List.{AllByRecursion, flat_map}
+use Rattle.std.specs.List.Sorted.{IsStrictlySortedBy}
 use Rattle.std.specs.Map.{lookup}
 use Rattle.std.specs.Ordering.{on}
 use Rattle.std.specs.declared.cmp.Ordering.{Ordering}
@@ -25,6 +26,10 @@ id_cmp = on (λ a. a.id) text_cmp
 -- the records in the order of their ids; of those that have one id the last one stays
 abbrev pub by_id : List Advisory → List Advisory
 by_id records = in_order id_cmp records
+
+-- the records of each feed are in the order of their ids, each id once
+abbrev pub AreSorted : List (List ℕ × List Advisory) → Type 0
+AreSorted feeds = AllByRecursion (λ (feed : List ℕ × List Advisory). IsStrictlySortedBy id_cmp feed.1) feeds
 
 -- there is a feed of this name
 abbrev pub has_feed : List ℕ → List (List ℕ × List Advisory) → Bool

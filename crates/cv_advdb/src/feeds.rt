@@ -6,7 +6,7 @@ ghost use Rattle.std.specs.Map.{keys_of};
 ghost use Rattle.std.specs.Option.{option_map};
 ghost use Rattle.cv_base.specs.declared.package.Package.{Package};
 ghost use Rattle.cv_match.specs.Findings.{found_in, text_cmp};
-ghost use Rattle.cv_advdb.specs.Feeds.{by_id, id_cmp, is_full, listed_under, records_of, replaced};
+ghost use Rattle.cv_advdb.specs.Feeds.{AreSorted, by_id, id_cmp, is_full, listed_under, records_of, replaced};
 ghost use Rattle.cv_advdb.specs.Touched.{IsTouched, is_touched};
 
 use crate::difference::touched_keys;
@@ -28,11 +28,13 @@ pub struct Feeds {
 }
 
 impl Model for Feeds {
-    ghost use Rattle.cv_advdb.specs.Feeds.{FeedTable};
+    ghost use Rattle.cv_advdb.specs.Feeds.{AreSorted, FeedTable};
 
     ghost Value = { FeedTable };
 
     ghost view = { λ f. record { feeds = f.feeds.entries; limit = f.limit } };
+
+    ghost invariant = { λ f. AreSorted f.feeds.entries };
 }
 
 /// The names, as advisories have them, of the packages that a replacement may concern, sorted by ecosystem and then by name, each
@@ -148,7 +150,9 @@ impl Feeds {
     }
 
     /// Replaces the records of a feed, or adds the feed.
+    #[tactic(auto, using(crate::proofs::FeedLemmas::put_sorted))]
     fn put(&mut self, feed: Text, stock: Stock) -> Result<(), NoMemory>
+        requires { IsStrictlySortedBy id_cmp stock }
         ensures value { OnOk result (self.new ≡ record { feeds = insert_entry text_cmp self.old.feeds feed stock; limit = self.old.limit }) }
         ensures err { OnErr result (self.new ≡ self.old) }
     {
@@ -156,9 +160,11 @@ impl Feeds {
         Ok(())
     }
 
-    /// The feeds are in the order of their names, each once. It does nothing.
+    /// The feeds are in the order of their names, each once, and the records of each feed are in the order of their ids, each
+    /// id once. It does nothing.
     pub fn sorted(&self)
-        ensures { IsStrictlySortedBy text_cmp (keys_of self.now.feeds) }
+        ensures names { IsStrictlySortedBy text_cmp (keys_of self.now.feeds) }
+        ensures records { AreSorted self.now.feeds }
     {
         let _count = self.feeds.len();
     }

@@ -8,3 +8,6 @@ returns-clause-untouched c = λ p h.
     rw (c.in_ok-put.ensures.value)
     (findings_same p c.args.self.now.feeds c.args.feed c.in_ok-stock.stock c.in_ok-touched.touched.keys c.is_full.ensures.sorted
     c.in_ok-touched.ensures.before_sorted (rw (c.in_ok-stock.ensures) (order_rises id_total c.into_vec.result.items)) c.in_ok-touched.ensures.touched h)
+
+pub put-requires : goal.put-requires
+put-requires c = rw (c.in_ok-stock.ensures) (order_rises id_total c.into_vec.result.items)
