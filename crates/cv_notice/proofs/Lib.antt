@@ -1,2 +1,4 @@
+mod Examples
+pub mod PageLemmas
 pub mod SearchLemmas
 pub mod StandingLemmas

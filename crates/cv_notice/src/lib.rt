@@ -14,7 +14,7 @@ mod pages;
 
 pub use error::{NoNotification, PageError};
 pub use notices::{NoticeHead, Notices};
-pub use pages::Page;
+pub use pages::{Page, page_laws};
 
 #[cfg(test)]
 mod tests;

@@ -1,6 +1,7 @@
-ghost use Rattle.std.specs.Prelude.{◌≡◌, ◌<◌, ◌≤◌};
-ghost use Rattle.std.specs.Result.{result_map_both};
-ghost use Rattle.cv_notice.specs.Pages.{page_in, shown};
+ghost use Rattle.std.specs.Prelude.{◌≡◌, ◌<◌, ◌≤◌, ℕ, List, length};
+ghost use Rattle.std.specs.List.{flat_map, range_with_len};
+ghost use Rattle.cv_base.specs.declared.finding.Row.{Row};
+ghost use Rattle.cv_notice.specs.Pages.{page_count, page_in, page_rows, shown};
 
 use crate::error::PageError;
 use cv_base::Row;
@@ -30,3 +31,11 @@ pub fn page_of(rows: &[Row], size: u64, page: u64) -> Result<Page<'_>, PageError
         rows: &rows[start as usize..end as usize],
     })
 }
+
+/// The pages of rows, one after the other, are all rows. Each but the last has as many rows as the size says, and the
+/// last has at least one.
+pub fn page_laws()
+    ensures whole { (rows : List Row) (size : ℕ) → 1 ≤ size → flat_map (λ page. page_rows size page rows) (range_with_len 1 (page_count size rows)) ≡ rows }
+    ensures full { (rows : List Row) (size page : ℕ) → 1 ≤ size → 1 ≤ page → page < page_count size rows → length (page_rows size page rows) ≡ size }
+    ensures not_empty { (rows : List Row) (size page : ℕ) → 1 ≤ size → 1 ≤ page → page ≤ page_count size rows → 0 < length (page_rows size page rows) }
+{}

@@ -1,6 +1,7 @@
 pub mod ChangeLemmas
 pub mod CountLemmas
 pub mod EntryLemmas
+mod Examples
 pub mod ForkLemmas
 pub mod RemadeLemmas
 pub mod TreeLemmas
