@@ -203,14 +203,16 @@ notified_numbers ns n [] h = all_later n (keys_of ns) h
 notified_numbers ns n (row ∷ rows) h = all_last (λ number. number ≤ n + 1) ns (n + 1) (row ∷ rows) (all_later n (keys_of ns) h) (omega arith)
 
 pub few_after : (s : State) (feed : List ℕ) (records : List Advisory) → IsConsistent s → is_full s feed ≡ false → length (with_value s.feeds feed records) ≤ s.limits.feeds
-few_after s feed records h room = by_found (is_some (value_at s.feeds feed)) refl room where
-  by_found : (b : Bool) → is_some (value_at s.feeds feed) ≡ b → (not b && nat_le s.limits.feeds (length s.feeds)) ≡ false → length (with_value s.feeds feed records) ≤ s.limits.feeds
-  by_found true found some =
+few_after s feed records h room = by_found (is_some (value_at s.feeds feed)) (nat_le s.limits.feeds (length s.feeds)) refl refl room where
+  by_found : (b full : Bool) → is_some (value_at s.feeds feed) ≡ b → nat_le s.limits.feeds (length s.feeds) ≡ full → (full && not b) ≡ false
+      → length (with_value s.feeds feed records) ≤ s.limits.feeds
+  by_found true full found is some =
       let same_length : length (with_value s.feeds feed records) ≡ length s.feeds = length_found nat_list_cmp_total s.feeds feed records h.feeds found in
       omega (arith, same_length, h.few_feeds)
-  by_found false found few =
+  by_found false true found is few = absurd (cc few)
+  by_found false false found is few =
       let grown : length (with_value s.feeds feed records) ≤ length s.feeds + 1 = length_put text_cmp s.feeds feed records in
-      let below : length s.feeds < s.limits.feeds = leb-false _ _ few in
+      let below : length s.feeds < s.limits.feeds = leb-false _ _ is in
       omega (arith, grown, below)
 
 pub updated_consistent : (s : State) (feeds : Feeds) (rows : List Row) → IsConsistent s → IsStrictlySortedBy text_cmp (keys_of feeds) → length feeds ≤ s.limits.feeds

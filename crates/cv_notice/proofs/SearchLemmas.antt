@@ -15,19 +15,19 @@ use Rattle.std.proofs.lemmas.Map.Entries.{lookup_at_gap}
 use Rattle.cv_base.specs.declared.finding.Row.{Row}
 use Rattle.cv_tree.specs.Entries.{IsAscending, at}
 use Rattle.cv_tree.proofs.EntryLemmas.{returned, turned}
-use Rattle.cv_notice.specs.Notices.{Standing}
+use Rattle.cv_notice.specs.Notices.{Notifications}
 use Rattle.cv_notice.specs.code.Places.{HasNumber}
 
 -- the number at an index
-abbrev number_at : Standing → ℕ → ℕ
+abbrev number_at : Notifications → ℕ → ℕ
 number_at es i = (get_or es i (0, [])).0
 
-later_above : (es : Standing) (k : ℕ) → AllByRecursion (λ y. nat_cmp k y ≡ Less) (keys_of es) → (j : ℕ) → j < length es → k < number_at es j
+later_above : (es : Notifications) (k : ℕ) → AllByRecursion (λ y. nat_cmp k y ≡ Less) (keys_of es) → (j : ℕ) → j < length es → k < number_at es j
 later_above [] k h j l = absurd (omega arith)
 later_above (e ∷ es) k h zero l = ranked k e.0 Less (sym h.0)
 later_above (e ∷ es) k h (suc j) l = later_above es k h.1 j (omega arith)
 
-numbers_rise : (es : Standing) → IsAscending nat_cmp es → (i j : ℕ) → i ≤ j → j < length es → number_at es i ≤ number_at es j
+numbers_rise : (es : Notifications) → IsAscending nat_cmp es → (i j : ℕ) → i ≤ j → j < length es → number_at es i ≤ number_at es j
 unfolding IsStrictlySortedBy
 numbers_rise [] h i j a b = absurd (omega arith)
 numbers_rise (e ∷ es) h zero zero a b = omega arith
@@ -36,17 +36,17 @@ numbers_rise (e ∷ es) h (suc i) zero a b = absurd (omega arith)
 numbers_rise (e ∷ es) h (suc i) (suc j) a b = numbers_rise es h.1 i j (omega arith) (omega arith)
 
 -- what each number compares to another one rises too
-compared_rise : (es : Standing) (k : ℕ) → IsAscending nat_cmp es → IsNonDecreasingBy (λ notice. ordering_index (nat_cmp notice.0 k)) es
+compared_rise : (es : Notifications) (k : ℕ) → IsAscending nat_cmp es → IsNonDecreasingBy (λ notice. ordering_index (nat_cmp notice.0 k)) es
 compared_rise es k h =
     IsNonDecreasingBy-from_default (λ notice. ordering_index (nat_cmp notice.0 k)) es (0, [])
     (λ i j a b. let l : number_at es i ≤ number_at es j = numbers_rise es h i j a b in grind (arith, nat_tests))
 
-get_is : (es : Standing) (i : ℕ) (e : ℕ × List Row) → slice_get es i ≡ Some e → (i < length es) × (get_or es i e ≡ e)
+get_is : (es : Notifications) (i : ℕ) (e : ℕ × List Row) → slice_get es i ≡ Some e → (i < length es) × (get_or es i e ≡ e)
 get_is [] i e h = cc
 get_is (x ∷ xs) zero e h = (omega arith, cc)
 get_is (x ∷ xs) (suc i) e h = let rest = get_is xs i e h in (omega (arith, rest.0), rest.1)
 
-none_found : (es : Standing) (k i : ℕ) → IsAscending nat_cmp es
+none_found : (es : Notifications) (k i : ℕ) → IsAscending nat_cmp es
     → IsPartitionPoint (λ notice. nat_cmp notice.0 k ≡ Less) (λ notice. nat_cmp notice.0 k ≡ Greater) es i → at nat_cmp es k ≡ None
 none_found es k i h p =
     lookup_at_gap nat_cmp_total k es i h
@@ -57,7 +57,7 @@ none_found es k i h p =
     let found = get_is es i e g in
     turned nat_cmp_total e.0 k (subst (λ (x : ℕ × List Row). nat_cmp x.0 k ≡ Greater) found.1 (p.1 i e (omega arith) found.0)))
 
-pub searched : (es : Standing) (k : ℕ) (r : Result ℕ ℕ) → IsAscending nat_cmp es → IsSearchInRange r (length es)
+pub searched : (es : Notifications) (k : ℕ) (r : Result ℕ ℕ) → IsAscending nat_cmp es → IsSearchInRange r (length es)
     → IsBinarySearchResult (λ notice. nat_cmp notice.0 k) es r → MatchOption (result_ok r) (at nat_cmp es k ≡ None) (HasNumber es k)
 searched es k (Ok i) h b p = record {
   in_range = b;

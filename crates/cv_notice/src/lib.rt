@@ -12,8 +12,9 @@ mod error;
 mod notices;
 mod pages;
 
+pub use cv_records::NoticeHead;
 pub use error::{NoNotification, PageError};
-pub use notices::{NoticeHead, Notices};
+pub use notices::Notices;
 pub use pages::{Page, page_laws};
 
 #[cfg(test)]

@@ -10,6 +10,7 @@ ghost use Rattle.cv_notice.specs.code.Places.{HasNumber};
 use crate::error::{NoNotification, PageError};
 use crate::pages::{Page, page_of};
 use cv_base::Row;
+use cv_records::NoticeHead;
 use cv_seq::{NoMemory, Seq};
 use cv_tree::{Share, Shared};
 use std::alloc::Global;
@@ -33,13 +34,6 @@ impl Model for Notices {
     ghost view = { λ n. n.inner.items };
 
     ghost invariant = { λ n. IsAscending nat_cmp n.inner.items };
-}
-
-/// The number of a notification, and how many rows it has.
-#[derive(Clone, Copy, Debug, PartialEq, Eq)]
-pub struct NoticeHead {
-    pub number: u64,
-    pub rows: u64,
 }
 
 impl Notices {
