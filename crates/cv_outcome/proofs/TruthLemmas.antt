@@ -15,6 +15,7 @@ use Rattle.cv_coalesce.specs.declared.image.ImagePackages.{ImagePackages}
 use Rattle.cv_coalesce.specs.declared.image.ImagePackages.TheVariants as packages
 use Rattle.cv_coalesce.proofs.ImageLemmas.{scan_is, stored_image}
 use Rattle.cv_machine.specs.Answer.{pending_report, report_at}
+use Rattle.cv_machine.specs.Board.{board_of}
 use Rattle.cv_machine.specs.Layers.{first_pending, is_indexed, is_indexed_as}
 use Rattle.cv_machine.specs.Rows.{rows_of as machine_rows, scan_rows}
 use Rattle.cv_machine.specs.Scans.{IsKnown, Trees, image_scan, trees_of}
@@ -88,6 +89,17 @@ report_is tree state facts layers all are =
     ap (report_with state.generation) (outcome_is tree state.layers facts state.feeds layers all are)
     ∙ report_by (first_pending state.layers layers) state.generation state.feeds (tree_packages (trees_of tree) layers)
     ∙ ap (pending_report (first_pending state.layers layers) state.generation) (sym (scan_is (whole_layers (map (trees_of tree) layers)) state.feeds))
+
+all_reported : (tree : List ℕ → Option (Option (List Stored))) (state : State) (facts : FactTable) (images : Images) → IsKnown tree → AreFactsOf tree state.layers facts
+    → map_values (report_with state.generation) (map_values (outcome_at facts state.feeds) images)
+    ≡ map (λ (image : List ℕ × List (List ℕ)). (image.0, report_at (Some image.1) (trees_of tree) state)) images
+all_reported tree state facts [] all are = refl
+all_reported tree state facts (image ∷ images) all are = λ i. (image.0, report_is tree state facts image.1 all are i) ∷ all_reported tree state facts images all are i
+
+-- the reports of all images are those of a board
+pub board_is : (tree : List ℕ → Option (Option (List Stored))) (state : State) (facts : FactTable) → IsKnown tree → AreFactsOf tree state.layers facts
+    → map_values (report_with state.generation) (map_values (outcome_at facts state.feeds) state.images) ≡ (board_of (trees_of tree) state).reports
+board_is tree state facts all are = all_reported tree state facts state.images all are
 
 -- Updates.
 

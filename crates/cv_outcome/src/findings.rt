@@ -43,6 +43,13 @@ impl Findings {
         self.inner.value()
     }
 
+    /// The findings, as a slice.
+    pub fn as_slice(&self) -> &[Finding]
+        ensures { result.now ≡ self.now }
+    {
+        self.inner.value().as_slice()
+    }
+
     /// The findings are sorted. For proofs: it has no effect at run time.
     pub fn sorted(&self)
         ensures { IsStrictlySortedBy finding_cmp self.now }

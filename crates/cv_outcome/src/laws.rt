@@ -3,6 +3,7 @@ ghost use Rattle.cv_base.specs.Texts.{has_text};
 ghost use Rattle.cv_desk.specs.Stored.{Stored};
 ghost use Rattle.cv_facts.specs.Reduction.{Known};
 ghost use Rattle.cv_machine.specs.Answer.{report_at};
+ghost use Rattle.cv_machine.specs.Board.{board_of};
 ghost use Rattle.cv_machine.specs.Rows.{rows_of as machine_rows};
 ghost use Rattle.cv_machine.specs.Scans.{IsKnown, trees_of};
 ghost use Rattle.cv_machine.specs.State.{Feeds, Images, State, value_at, with_value};
@@ -13,10 +14,12 @@ ghost use Rattle.cv_outcome.specs.Update.{rematched, update_rows};
 ghost use Rattle.cv_tree.specs.Entries.{map_values, remade_entries, rows_of};
 
 /// Why reports are read from outcomes. If a desk's type is known, and the facts are those of the Indexed layers, the report by an
-/// image's outcome is that of the machine, `report`.
+/// image's outcome is that of the machine, `report`, and the reports of all images are those of the machine's board, `board`.
 pub fn image_laws()
     ensures report { (tree : List ℕ → Option (Option (List Stored))) (state : State) (facts : FactTable) (layers : List (List ℕ)) → IsKnown tree → AreFactsOf tree state.layers facts
         → report_with state.generation (outcome_at facts state.feeds layers) ≡ report_at (Some layers) (trees_of tree) state }
+    ensures board { (tree : List ℕ → Option (Option (List Stored))) (state : State) (facts : FactTable) → IsKnown tree → AreFactsOf tree state.layers facts
+        → map_values (report_with state.generation) (map_values (outcome_at facts state.feeds) state.images) ≡ (board_of (trees_of tree) state).reports }
 {}
 
 /// Where an outcome changes with the facts of layers. It depends on the facts of the image's layers alone, `agree`, so that those of

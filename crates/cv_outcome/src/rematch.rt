@@ -15,6 +15,7 @@ use std::sync::ledger::Ledger;
 /// Matches images with the feeds after an update. `Tree::remake` with it gives the outcomes of all images after the update, and
 /// adds the rows to notify of, in ascending order of the images' hashes. Only images that have packages are matched; the others
 /// stay as they are.
+#[derive(Drop)]
 pub struct Rematch<'a, L: Ledger> {
     pub feeds: &'a Feeds,
     of: PhantomData<L>,
@@ -81,12 +82,7 @@ fn add_rows(
 {
     before.sorted();
     after.sorted();
-    let new = rows(
-        alloc,
-        image,
-        before.seq().as_slice(),
-        after.seq().as_slice(),
-    )?;
+    let new = rows(alloc, image, before.as_slice(), after.as_slice())?;
     push_all(added, new)
 }
 

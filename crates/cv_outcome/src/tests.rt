@@ -190,7 +190,7 @@ fn outcome(
 
 fn findings_in(outcome: &Outcome) -> Option<&[Finding]> {
     match outcome {
-        Outcome::Good { findings, .. } => Some(findings.seq().as_slice()),
+        Outcome::Good { findings, .. } => Some(findings.as_slice()),
         _ => None,
     }
 }
