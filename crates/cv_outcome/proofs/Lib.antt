@@ -1,0 +1,4 @@
+mod Examples
+pub mod FactLemmas
+pub mod GatherLemmas
+pub mod TruthLemmas

@@ -1,0 +1,5 @@
+pub mod Facts
+pub mod Outcome
+pub mod Truth
+pub mod Update
+pub mod tests

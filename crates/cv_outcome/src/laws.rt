@@ -1,0 +1,46 @@
+ghost use Rattle.std.specs.Prelude.{◌≡◌, ℕ, true, false, List, Option, Some};
+ghost use Rattle.cv_base.specs.Texts.{has_text};
+ghost use Rattle.cv_desk.specs.Stored.{Stored};
+ghost use Rattle.cv_facts.specs.Reduction.{Known};
+ghost use Rattle.cv_machine.specs.Answer.{report_at};
+ghost use Rattle.cv_machine.specs.Board.{board_of};
+ghost use Rattle.cv_machine.specs.Rows.{rows_of as machine_rows};
+ghost use Rattle.cv_machine.specs.Scans.{IsKnown, trees_of};
+ghost use Rattle.cv_machine.specs.State.{Feeds, Images, State, value_at, with_value};
+ghost use Rattle.cv_outcome.specs.Facts.{waits_for};
+ghost use Rattle.cv_outcome.specs.Outcome.{FactTable, has_facts, outcome_at};
+ghost use Rattle.cv_outcome.specs.Truth.{AreFactsOf, report_with};
+ghost use Rattle.cv_outcome.specs.Update.{rematched, update_rows};
+ghost use Rattle.cv_tree.specs.Entries.{map_values, remade_entries, rows_of};
+
+/// Why reports are read from outcomes. If a desk's type is known, and the facts are those of the Indexed layers, the report by an
+/// image's outcome is that of the machine, `report`, and the reports of all images are those of the machine's board, `board`.
+pub fn image_laws()
+    ensures report { (tree : List ℕ → Option (Option (List Stored))) (state : State) (facts : FactTable) (layers : List (List ℕ)) → IsKnown tree → AreFactsOf tree state.layers facts
+        → report_with state.generation (outcome_at facts state.feeds layers) ≡ report_at (Some layers) (trees_of tree) state }
+    ensures board { (tree : List ℕ → Option (Option (List Stored))) (state : State) (facts : FactTable) → IsKnown tree → AreFactsOf tree state.layers facts
+        → map_values (report_with state.generation) (map_values (outcome_at facts state.feeds) state.images) ≡ (board_of (trees_of tree) state).reports }
+{}
+
+/// Where an outcome changes with the facts of layers. It depends on the facts of the image's layers alone, `agree`, so that those of
+/// a layer that the image does not name change nothing, `unnamed`. The first facts of a layer change nothing but for the images that
+/// wait for this layer, `fresh`.
+pub fn fact_laws()
+    ensures agree { (ones others : FactTable) (feeds : Feeds) (layers : List (List ℕ)) → ((layer : List ℕ) → has_text layers layer ≡ true → value_at ones layer ≡ value_at others layer)
+        → outcome_at ones feeds layers ≡ outcome_at others feeds layers }
+    ensures unnamed { (facts : FactTable) (layer : List ℕ) (known : Known) (feeds : Feeds) (layers : List (List ℕ)) → has_text layers layer ≡ false
+        → outcome_at (with_value facts layer known) feeds layers ≡ outcome_at facts feeds layers }
+    ensures fresh { (facts : FactTable) (layer : List ℕ) (known : Known) (feeds : Feeds) (layers : List (List ℕ)) → has_facts facts layer ≡ false
+        → waits_for layer (outcome_at facts feeds layers) ≡ false → outcome_at (with_value facts layer known) feeds layers ≡ outcome_at facts feeds layers }
+{}
+
+/// Why an update needs the outcomes alone. Those that it makes are the outcomes with the feeds after it, of one image, `image`, and
+/// of all, `images`. The rows that it adds are those of the machine, if a desk's type is known, and the facts are those of the
+/// Indexed layers, `rows`.
+pub fn update_laws()
+    ensures image { (facts : FactTable) (before after : Feeds) (layers : List (List ℕ)) → rematched after (outcome_at facts before layers) ≡ outcome_at facts after layers }
+    ensures images { (facts : FactTable) (before after : Feeds) (images : Images)
+        → remade_entries (λ _. rematched after) (map_values (outcome_at facts before) images) ≡ map_values (outcome_at facts after) images }
+    ensures rows { (tree : List ℕ → Option (Option (List Stored))) (state : State) (facts : FactTable) (after : Feeds) → IsKnown tree → AreFactsOf tree state.layers facts
+        → rows_of (update_rows after) (map_values (outcome_at facts state.feeds) state.images) ≡ machine_rows (trees_of tree) state after }
+{}
