@@ -1,6 +1,6 @@
 -- What each event leaves is what the machine has after it, and is kept.
-use Rattle.std.specs.Prelude.{◌≡◌, ℕ, Bool, true, false, ◌||◌, ◌&&◌, cond, nat_lt, List, [], length, Option, Some, None, unwrap_or, refl}
-use Rattle.std.specs.Cmp.Lexicographic.{nat_list_cmp_total, pointwise}
+use Rattle.std.specs.Prelude.{◌≡◌, ℕ, Bool, true, false, ◌||◌, ◌&&◌, cond, nat_lt, List, [], length, Some, None, unwrap_or, refl}
+use Rattle.std.specs.Cmp.Lexicographic.{nat_list_cmp_total}
 use Rattle.std.specs.BTreeMap.{is_at}
 use Rattle.std.specs.Map.{keys_of}
 use Rattle.std.specs.Option.{is_some}
@@ -9,12 +9,11 @@ use Rattle.std.specs.List.Sorted.{IsStrictlySortedBy}
 use Rattle.std.proofs.Common.{ap, subst, sym, ◌∙◌}
 use Rattle.cv_base.specs.Texts.{has_text, same}
 use Rattle.cv_base.specs.declared.manifest.Manifest.{Manifest}
-use Rattle.cv_records.specs.declared.reply.Reply.{Reply}
 use Rattle.cv_records.specs.declared.reply.Reply.TheVariants as reply
 use Rattle.cv_machine.specs.Laws.{IsConsistent}
-use Rattle.cv_machine.specs.Layers.{is_claimed_as, is_claimed_by, is_named}
-use Rattle.cv_machine.specs.State.{Images, Layers, State, opening, value_at, with_value, without_value}
-use Rattle.cv_machine.specs.Step.{claim, claim_at, drop_at, drop_image, entered, finish, register, register_at, remaining}
+use Rattle.cv_machine.specs.Layers.{is_claimed_as, is_named}
+use Rattle.cv_machine.specs.State.{Images, Layers, State, value_at, with_value, without_value}
+use Rattle.cv_machine.specs.Step.{drop_at, entered, remaining}
 use Rattle.cv_machine.specs.declared.status.Status.{Status}
 use Rattle.cv_machine.specs.declared.status.Status.TheVariants as status
 use Rattle.cv_machine.proofs.Consistent.{IsRight, claim_consistent, cut_right, drop_consistent, either, opening_consistent, put_right, register_consistent}
@@ -22,7 +21,7 @@ use Rattle.cv_machine.proofs.Entries.{sorted_cut, sorted_put}
 use Rattle.cv_machine.proofs.LayerTables.{same_key, value_put}
 use Rattle.cv_registry.specs.Registrations.{IsRegular, Leads, Registrations, alone, holding, users_of}
 use Rattle.cv_registry.specs.code.Tables.{left}
-use Rattle.cv_registry.specs.code.Users.{ArePut, AreTaken, ImageSet, IsKept, Users, is_used, names, uses}
+use Rattle.cv_registry.specs.code.Users.{ArePut, AreTaken, ImageSet, IsKept, Users, names, uses}
 use Rattle.cv_registry.proofs.TableLemmas.{left_remaining}
 use Rattle.cv_registry.proofs.UserLemmas.{keys_users, used_named, value_cut}
 

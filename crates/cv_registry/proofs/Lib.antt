@@ -1,3 +1,4 @@
+mod Examples
 pub mod EventLemmas
 pub mod ListLemmas
 pub mod ResultLemmas

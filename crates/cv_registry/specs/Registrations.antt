@@ -5,7 +5,6 @@ use Rattle.cv_base.specs.Texts.{has_text}
 use Rattle.cv_records.specs.declared.reply.Reply.{Reply}
 use Rattle.cv_machine.specs.Laws.{IsConsistent}
 use Rattle.cv_machine.specs.State.{Images, Layers, State, opening}
-use Rattle.cv_machine.specs.declared.limits.Limits.{Limits}
 
 -- the images with their layers, the layers with their status, and how many images there may be
 pub record Registrations : Type 0 where

@@ -1,15 +1,13 @@
 ghost use Rattle.std.specs.Prelude.{◌≡◌, Some, IfOk};
 ghost use Rattle.cv_machine.specs.Step.{claim};
-ghost use Rattle.cv_machine.specs.State.{value_at, with_value};
-ghost use Rattle.cv_registry.specs.Registrations.{IsRegular, Leads};
+ghost use Rattle.cv_machine.specs.State.{value_at};
+ghost use Rattle.cv_registry.specs.Registrations.{Leads};
 
 use crate::registry::Registry;
-use crate::standing::Standing;
 use cv_base::Digest;
 use cv_machine::Status;
 use cv_records::Reply;
 use cv_seq::NoMemory;
-use cv_tree::Share;
 use std::alloc::Global;
 
 impl Registry {
@@ -40,24 +38,8 @@ impl Registry {
         requires { value_at self.now.layers layer.now ≡ Some Status.Queued }
         ensures { IfOk result (Leads (λ state. claim state layer.now worker) self.now) }
     {
-        self.is_regular();
+        self.regular();
         let registry = self.with_status(alloc, layer, Status::Claimed(worker))?;
         Ok((registry, Reply::Claimed))
-    }
-
-    /// The registry with another status of a layer.
-    pub(crate) fn with_status(
-        &self,
-        alloc: Global,
-        layer: &Digest,
-        status: Status,
-    ) -> Result<Registry, NoMemory>
-        requires { IsRegular (record self.now { layers = with_value self.now.layers layer.now status }) }
-        ensures { IfOk result (λ after. after ≡ record self.now { layers = with_value self.now.layers layer.now status }) }
-    {
-        let images = self.images.share()?;
-        let users = self.users.share()?;
-        let layers = self.layers.set(alloc, *layer, Standing::of(status))?;
-        Ok(Registry::of(images, layers, users, self.limit))
     }
 }

@@ -2,7 +2,7 @@ ghost use Rattle.std.specs.Prelude.{◌≡◌, true, false, Some, IfOk};
 ghost use Rattle.cv_machine.specs.Layers.{is_claimed_by, is_named};
 ghost use Rattle.cv_machine.specs.State.{value_at, with_value, without_value};
 ghost use Rattle.cv_machine.specs.Step.{finish};
-ghost use Rattle.cv_registry.specs.Registrations.{IsRegular, Leads};
+ghost use Rattle.cv_registry.specs.Registrations.{Leads};
 
 use crate::registry::Registry;
 use crate::users::is_used;
@@ -10,7 +10,6 @@ use cv_base::Digest;
 use cv_machine::Status;
 use cv_records::Reply;
 use cv_seq::NoMemory;
-use cv_tree::Share;
 use std::alloc::Global;
 
 impl Registry {
@@ -76,9 +75,7 @@ impl Registry {
     {
         is_used(&self.users, layer)
     }
-}
 
-impl Registry {
     /// The registry with the next status of a layer that an image names.
     fn finished(
         &self,
@@ -90,7 +87,7 @@ impl Registry {
         requires { is_named self.now.images layer.now ≡ true }
         ensures { IfOk result (λ after. after ≡ (record self.now { layers = with_value self.now.layers layer.now next }, answer)) }
     {
-        self.is_regular();
+        self.regular();
         Ok((self.with_status(alloc, layer, next)?, answer))
     }
 
@@ -99,18 +96,7 @@ impl Registry {
         requires { is_named self.now.images layer.now ≡ false }
         ensures { IfOk result (λ after. after ≡ (record self.now { layers = without_value self.now.layers layer.now }, Reply.Discarded)) }
     {
-        self.is_regular();
+        self.regular();
         Ok((self.without_layer(alloc, layer)?, Reply::Discarded))
-    }
-
-    /// The registry without a layer.
-    fn without_layer(&self, alloc: Global, layer: &Digest) -> Result<Registry, NoMemory>
-        requires { IsRegular (record self.now { layers = without_value self.now.layers layer.now }) }
-        ensures { IfOk result (λ after. after ≡ record self.now { layers = without_value self.now.layers layer.now }) }
-    {
-        let images = self.images.share()?;
-        let users = self.users.share()?;
-        let layers = self.layers.without(alloc, layer)?;
-        Ok(Registry::of(images, layers, users, self.limit))
     }
 }

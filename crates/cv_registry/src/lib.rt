@@ -11,6 +11,7 @@
 mod claim;
 mod drop_image;
 mod finish;
+mod parts;
 mod register;
 mod registry;
 mod standing;

@@ -3,13 +3,11 @@ ghost use Rattle.std.specs.Option.{option_map};
 ghost use Rattle.cv_machine.specs.Layers.{first_pending, is_indexed_as, queued};
 ghost use Rattle.cv_machine.specs.State.{value_at};
 ghost use Rattle.cv_registry.specs.Registrations.{IsRegular, users_of};
-ghost use Rattle.cv_registry.specs.code.Users.{IsKept};
 
 use crate::standing::Standing;
 use crate::users::Users;
 use cv_base::Digest;
 use cv_machine::Status;
-use cv_records::Reply;
 use cv_seq::{NoMemory, Seq};
 use cv_tree::{Share, Shared, Tree};
 use std::alloc::Global;
@@ -55,28 +53,8 @@ impl Registry {
         }
     }
 
-    /// A registry of these parts.
-    pub(crate) fn of(images: Images, layers: Layers, users: Users, limit: u32) -> Registry
-        requires { IsKept images layers users limit }
-        ensures { result ≡ record { images = images; layers = layers; limit = limit } }
-    {
-        Registry {
-            images,
-            layers,
-            users,
-            limit,
-        }
-    }
-
-    /// The registry as it is, with a reply.
-    pub(crate) fn unchanged(&self, reply: Reply) -> Result<(Registry, Reply), NoMemory>
-        ensures { IfOk result (λ after. after ≡ (self.now, reply)) }
-    {
-        Ok((self.share()?, reply))
-    }
-
     /// Registrations are consistent. It does nothing.
-    pub fn is_regular(&self)
+    pub fn regular(&self)
         ensures { IsRegular self.now }
     {
         let _images = &self.images;

@@ -1,5 +1,5 @@
 -- For each layer the set of the images that name it, as a map of nothing.
-use Rattle.std.specs.Prelude.{◌≡◌, ℕ, Bool, true, false, ◌&&◌, ◌||◌, cond, List, [], Option, None, Some, unwrap_or}
+use Rattle.std.specs.Prelude.{◌≡◌, ℕ, Bool, false, ◌&&◌, ◌||◌, cond, List, [], Option, None, Some, unwrap_or}
 use Rattle.std.specs.Option.{is_some}
 use Rattle.cv_base.specs.Texts.{has_text, same}
 use Rattle.cv_machine.specs.State.{Images, Layers, value_at}

@@ -1,5 +1,5 @@
-use Rattle.std.proofs.Common.{[], ◌-◌, ◌∷◌, drop, length, take}
-use Rattle.cv_registry.specs.code.Users.{AreTaken, Users}
+use Rattle.std.proofs.Common.{◌-◌, drop, length, take}
+use Rattle.cv_registry.specs.code.Users.{AreTaken}
 use Rattle.cv_registry.proofs.ResultLemmas.{if_ok}
 use Rattle.cv_registry.proofs.UserLemmas.{take_slice}
 use Rattle.cv_registry.proofs.users.+take_all.Goals as goal

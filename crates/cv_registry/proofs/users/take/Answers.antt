@@ -1,4 +1,4 @@
-use Rattle.std.proofs.Common.{◌≡◌, [], ◌∷◌, cond, is_none, sym}
+use Rattle.std.proofs.Common.{◌≡◌, [], ◌∷◌, cond, is_none}
 use Rattle.cv_machine.specs.State.{with_value, without_value}
 use Rattle.cv_tree.specs.Entries.{first_entry}
 use Rattle.cv_registry.specs.code.Users.{AreTaken, Users}

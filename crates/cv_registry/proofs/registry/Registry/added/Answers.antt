@@ -1,4 +1,4 @@
-use Rattle.std.proofs.Common.{◌≡◌, ap, length, nat_lt, true, None, sym, ◌∙◌}
+use Rattle.std.proofs.Common.{◌≡◌, ap, length, nat_lt, true, None, ◌∙◌}
 use Rattle.std.proofs.lemmas.Bool.{lt-ltb}
 use Rattle.cv_machine.specs.State.{value_at}
 use Rattle.cv_registry.specs.Registrations.{Registrations}
