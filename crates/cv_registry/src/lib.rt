@@ -1,0 +1,24 @@
+//! Which images are registered, and which of their layers wait for a worker, are claimed by one, or are indexed. An event makes
+//! a new registry that shares the rest with the old one, which stays as it was. `specs/Registrations.antt` says what a registry
+//! is, and each event is proved to be that of the machine in `cv_machine`.
+//!
+//! ```text
+//! let (registry, reply) = Registry::new(4096).register(alloc, &manifest)?;
+//! let (registry, reply) = registry.claim(alloc, &layer, worker)?;
+//! ```
+#![tactic(auto)]
+
+mod claim;
+mod drop_image;
+mod finish;
+mod parts;
+mod register;
+mod registry;
+mod standing;
+mod table;
+mod users;
+
+pub use registry::Registry;
+
+#[cfg(test)]
+mod tests;

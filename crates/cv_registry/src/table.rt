@@ -1,0 +1,62 @@
+ghost use Rattle.std.specs.Prelude.{◌≡◌, is_some, IfOk};
+ghost use Rattle.cv_machine.specs.Laws.{is_claimed};
+ghost use Rattle.cv_machine.specs.State.{value_at};
+ghost use Rattle.cv_machine.specs.Step.{entered};
+ghost use Rattle.cv_registry.specs.code.Tables.{left};
+
+use crate::registry::Layers;
+use crate::standing::Standing;
+use crate::users::{Users, is_used};
+use cv_base::Digest;
+use cv_machine::Status;
+use cv_seq::NoMemory;
+use cv_tree::Share;
+use std::alloc::Global;
+
+/// The table with those of these layers that it does not have, as queued.
+pub fn entered(alloc: Global, table: &Layers, layers: &[Digest]) -> Result<Layers, NoMemory>
+    ensures { IfOk result (λ after. after ≡ entered table.now layers.now) }
+{
+    let [layer, rest @ ..] = layers else {
+        return table.share();
+    };
+    if is_known(table, layer) {
+        return entered(alloc, table, rest);
+    }
+    let next = table.set(alloc, *layer, Standing::of(Status::Queued))?;
+    entered(alloc, &next, rest)
+}
+
+/// The table without those of these layers that no image uses and that are not claimed.
+pub fn left(
+    alloc: Global,
+    table: &Layers,
+    layers: &[Digest],
+    users: &Users,
+) -> Result<Layers, NoMemory>
+    ensures { IfOk result (λ after. after ≡ left table.now layers.now users.now) }
+{
+    let [layer, rest @ ..] = layers else {
+        return table.share();
+    };
+    if is_used(users, layer) || is_claimed(table, layer) {
+        return left(alloc, table, rest, users);
+    }
+    let next = table.without(alloc, layer)?;
+    left(alloc, &next, rest, users)
+}
+
+fn is_known(table: &Layers, layer: &Digest) -> bool
+    ensures { result ≡ is_some (value_at table.now layer.now) }
+{
+    table.contains(layer)
+}
+
+fn is_claimed(table: &Layers, layer: &Digest) -> bool
+    ensures { result ≡ is_claimed (value_at table.now layer.now) }
+{
+    match table.get(layer) {
+        None => false,
+        Some(standing) => standing.is_claimed(),
+    }
+}
