@@ -19,6 +19,3 @@ mod table;
 mod users;
 
 pub use registry::Registry;
-
-#[cfg(test)]
-mod tests;
