@@ -11,13 +11,13 @@ trap 'rm -rf "$data"' EXIT
 # the folder of the layer of a word
 folder() { echo "$data/layers/sha256/$(digest "$1")"; }
 
-# makes a layer of so many entries, a hundred and one folders of equally many files, with a status file of dpkg
+# makes a layer of so many entries: a hundred folders of files, and a status file of dpkg, with the folders that they lie in
 layer() {
     local top count=$2
     top=$(folder "$1")
     mkdir -p "$top/var/lib/dpkg"
     printf 'Package: zlib1g\nStatus: install ok installed\nVersion: 1\n' >"$top/var/lib/dpkg/status"
-    seq 1 "$count" | awk -v top="$top/usr/d" '{ print top $1 % 100 "/f" $1 }' >"$data/paths"
+    seq 1 "$((count - 105))" | awk -v top="$top/usr/d" '{ print top $1 % 100 "/f" $1 }' >"$data/paths"
     seq 0 99 | sed "s|^|$top/usr/d|" | xargs mkdir -p --
     xargs touch -- <"$data/paths"
 }
