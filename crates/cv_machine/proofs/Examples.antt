@@ -174,6 +174,31 @@ notified : ((state_after trees indexed (Update (codes "p") (listed (codes "X-1")
 unfolding rows_of scan root_entries packages findings affects fixed
 notified = (refl, refl)
 
+-- Notifications.
+
+abbrev row : ℕ → Row
+row hash = record { image = hash ∷ []; reason = Added; finding = zlib (codes "X-1") None }
+
+-- a state with an image and two notifications
+abbrev two : State
+two = record small {
+  images = (1 ∷ [], a ∷ []) ∷ [];
+  layers = (a, status.Indexed) ∷ [];
+  generation = 5;
+  notifications = (2, row 1 ∷ []) ∷ (4, row 1 ∷ row 2 ∷ []) ∷ [];
+}
+
+-- an acknowledgement removes the notification of its number and no other
+acked : ((state_after no_trees two (Ack 2 ∷ [])).notifications ≡ (4, row 1 ∷ row 2 ∷ []) ∷ [])
+    × ((state_after no_trees two (Ack 4 ∷ [])).notifications ≡ (2, row 1 ∷ []) ∷ [])
+    × ((state_after no_trees two (Ack 3 ∷ [])).notifications ≡ two.notifications)
+acked = (refl, refl, refl)
+
+-- an image that is dropped leaves the notifications about it
+drop_leaves : (replies no_trees two (DropImage (1 ∷ []) ∷ []) ≡ reply.Dropped ∷ [])
+    × ((state_after no_trees two (DropImage (1 ∷ []) ∷ [])).notifications ≡ (2, row 1 ∷ []) ∷ (4, row 1 ∷ row 2 ∷ []) ∷ [])
+drop_leaves = (refl, refl)
+
 -- Answers.
 
 reports : (report_of trees indexed (3 ∷ []) ≡ report.NotRegistered)
@@ -183,9 +208,6 @@ reports : (report_of trees indexed (3 ∷ []) ≡ report.NotRegistered)
     × (report_of trees (state_after trees indexed (Update (codes "p") (listed (codes "X-1") ∷ []) ∷ [])) (2 ∷ []) ≡ report.Good 1 (zlib (codes "X-1") None ∷ []))
 unfolding rows_of scan root_entries packages findings affects fixed
 reports = (refl, refl, refl, refl, refl)
-
-abbrev row : ℕ → Row
-row hash = record { image = hash ∷ []; reason = Added; finding = zlib (codes "X-1") None }
 
 -- a state with a notification of three rows
 abbrev three : State

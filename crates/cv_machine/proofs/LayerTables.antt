@@ -3,7 +3,7 @@ use Rattle.std.specs.Prelude.{◌≡◌, ℕ, Bool, true, false, ◌||◌, cond,
 use Rattle.std.specs.Cmp.Lexicographic.{nat_list_cmp_total, nat_list_eq_equiv, texts_ties}
 use Rattle.std.specs.List.Sorted.{IsStrictlySortedBy}
 use Rattle.std.specs.Map.{keys_of}
-use Rattle.std.specs.Option.{is_some}
+use Rattle.std.specs.Option.{is_some, option_or}
 use Rattle.std.specs.declared.cmp.Ordering.{Ordering}
 use Rattle.std.specs.declared.cmp.Ordering.TheVariants.{Less, Equal, Greater}
 use Rattle.std.specs.Ordering.{is_eq}
@@ -80,6 +80,47 @@ entered_some table (layer ∷ layers) q =
 pub entered_claimed : (table : Layers) (layers : List (List ℕ)) (q : List ℕ) → is_claimed (value_at (entered table layers) q) ≡ is_claimed (value_at table q)
 entered_claimed table [] q = refl
 entered_claimed table (layer ∷ layers) q = entered_claimed (one_entered table layer) layers q ∙ one_claimed table layer q
+
+some_stays : (found : Option Status) (other : Option Status) → is_some found ≡ true → found ≡ option_or found other
+some_stays None other h = absurd (cc h)
+some_stays (Some status) other h = refl
+
+none_added : (found : Option Status) → found ≡ option_or found None
+none_added None = refl
+none_added (Some status) = refl
+
+none_taken : (found : Option Status) (other : Option Status) → is_some found ≡ false → other ≡ option_or found other
+none_taken None other h = refl
+none_taken (Some status) other h = absurd (cc h)
+
+-- the status of a layer that enters the table
+abbrev queued_if : Bool → Option Status
+queued_if b = cond b (Some status.Queued) None
+
+one_found : (table : Layers) (layer q : List ℕ) → value_at (one_entered table layer) q ≡ option_or (value_at table q) (queued_if (same layer q))
+one_found table layer q = by_tests (is_some (value_at table layer)) (same layer q) refl refl where
+  by_tests : (s t : Bool) → is_some (value_at table layer) ≡ s → same layer q ≡ t
+      → value_at (cond s table (with_value table layer status.Queued)) q ≡ option_or (value_at table q) (queued_if t)
+  by_tests true true some key = some_stays (value_at table q) (Some status.Queued) (ap (λ k. is_some (value_at table k)) (sym (same_key layer q key)) ∙ some)
+  by_tests true false some key = none_added (value_at table q)
+  by_tests false true some key =
+      value_put table layer status.Queued q ∙ ap (λ b. cond b (Some status.Queued) (value_at table q)) key
+      ∙ none_taken (value_at table q) (Some status.Queued) (ap (λ k. is_some (value_at table k)) (sym (same_key layer q key)) ∙ some)
+  by_tests false false some key =
+      value_put table layer status.Queued q ∙ ap (λ b. cond b (Some status.Queued) (value_at table q)) key ∙ none_added (value_at table q)
+
+either_queued : (found : Option Status) (s t : Bool) → option_or (option_or found (queued_if s)) (queued_if t) ≡ option_or found (queued_if (s || t))
+either_queued None true t = refl
+either_queued None false t = refl
+either_queued (Some status) s t = refl
+
+-- after layers entered, a layer has the status that it had, or else Queued if it is among them, or else none
+pub entered_found : (table : Layers) (layers : List (List ℕ)) (q : List ℕ) → value_at (entered table layers) q ≡ option_or (value_at table q) (queued_if (has_text layers q))
+entered_found table [] q = none_added (value_at table q)
+entered_found table (layer ∷ layers) q =
+    entered_found (one_entered table layer) layers q
+    ∙ ap (λ f. option_or f (queued_if (has_text layers q))) (one_found table layer q)
+    ∙ either_queued (value_at table q) (same layer q) (has_text layers q)
 
 -- the table stays in order
 pub entered_sorted : (table : Layers) (layers : List (List ℕ)) → IsStrictlySortedBy text_cmp (keys_of table) → IsStrictlySortedBy text_cmp (keys_of (entered table layers))

@@ -1,15 +1,18 @@
 -- What holds of every state and of every event (defined by this project).
-use Rattle.std.specs.Prelude.{◌≡◌, ℕ, ◌+◌, ◌≤◌, Bool, true, false, ◌||◌, List, length, Option, Some, None}
+use Rattle.std.specs.Prelude.{◌≡◌, ℕ, ◌+◌, ◌≤◌, ◌<◌, ◌==◌, Bool, true, false, ◌||◌, List, [], ◌∷◌, length, Option, Some, None}
 use Rattle.std.specs.List.{AllByRecursion}
 use Rattle.std.specs.List.Sorted.{IsStrictlySortedBy}
 use Rattle.std.specs.Map.{keys_of}
 use Rattle.std.specs.Option.{is_some}
 use Rattle.std.specs.Ordering.{nat_cmp}
+use Rattle.cv_base.specs.declared.finding.Row.{Row}
 use Rattle.cv_match.specs.Findings.{text_cmp}
 use Rattle.cv_records.specs.declared.reply.Reply.{Reply}
 use Rattle.cv_records.specs.declared.reply.Reply.TheVariants as reply
 use Rattle.cv_machine.specs.Layers.{is_claimed_as, is_named}
-use Rattle.cv_machine.specs.State.{State, value_at}
+use Rattle.cv_machine.specs.State.{Notifications, State, value_at}
+use Rattle.cv_machine.specs.declared.act.WholeAct.{WholeAct}
+use Rattle.cv_machine.specs.declared.act.WholeAct.TheVariants as act
 use Rattle.cv_machine.specs.declared.status.Status.{Status}
 
 -- with these replies an event changes nothing
@@ -29,6 +32,26 @@ changes_nothing _ = false
 abbrev pub IsGenerationAfter : ℕ → Reply → ℕ → Type 0
 IsGenerationAfter before (reply.Updated generation rows) now = (now ≡ before + 1) × (generation ≡ now)
 IsGenerationAfter before _ now = now ≡ before
+
+-- with these replies an event changes the notifications: Updated may add one, and Acked removes one
+abbrev pub changes_notifications : Reply → Bool
+changes_notifications (reply.Updated generation rows) = true
+changes_notifications reply.Acked = true
+changes_notifications _ = false
+
+-- an event acknowledges the notification of this number
+abbrev pub acknowledges : ℕ → WholeAct → Bool
+acknowledges number (act.Ack other) = other == number
+acknowledges number _ = false
+
+-- the rows that a notification has, and none where there is no notification, as there are no rows
+abbrev pub rows_if_any : List Row → Option (List Row)
+rows_if_any [] = None
+rows_if_any (row ∷ rows) = Some (row ∷ rows)
+
+-- each notification has rows
+abbrev pub HaveRows : Notifications → Type 0
+HaveRows notifications = AllByRecursion (λ (notification : ℕ × List Row). 0 < length notification.1) notifications
 
 -- a layer in the table is Claimed
 abbrev pub is_claimed : Option Status → Bool

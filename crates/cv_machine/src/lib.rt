@@ -16,6 +16,6 @@ mod status;
 mod tests;
 
 pub use act::WholeAct;
-pub use laws::{board_law, scan_law, step_laws};
+pub use laws::{board_law, entered_law, notification_laws, scan_law, step_laws};
 pub use limits::Limits;
 pub use status::Status;

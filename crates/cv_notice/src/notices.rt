@@ -58,7 +58,7 @@ impl Notices {
         Ok(())
     }
 
-    /// The page of a number, from 1, of a notification, in pages of this many rows. It takes no memory.
+    /// Page `page` of the notification `number`, in pages of `size` rows. Pages are numbered from 1. It takes no memory.
     pub fn page(&self, number: u64, size: u64, page: u64) -> Result<Page<'_>, PageError>
         requires size { 1 ≤ size }
         requires page { 1 ≤ page }
@@ -83,7 +83,7 @@ impl Notices {
         Ok(())
     }
 
-    /// All notifications, with how many rows each has.
+    /// All notifications in ascending order of their numbers, with how many rows each has.
     pub fn list(&self, alloc: Global) -> Result<Seq<NoticeHead>, NoMemory>
         ensures { IfOk result (λ list. list ≡ heads self.now) }
     {

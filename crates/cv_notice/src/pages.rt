@@ -13,7 +13,7 @@ pub struct Page<'a> {
     pub rows: &'a [Row],
 }
 
-/// The page of a number, from 1, of rows in pages of a size.
+/// Page `page` of these rows, in pages of `size` rows. Pages are numbered from 1.
 pub fn page_of(rows: &[Row], size: u64, page: u64) -> Result<Page<'_>, PageError>
     requires size { 1 ≤ size }
     requires page { 1 ≤ page }

@@ -1,11 +1,11 @@
 -- Worked examples of outcomes.
-use Rattle.std.specs.Prelude.{◌≡◌, ℕ, true, false, List, [], ◌∷◌, Some, refl}
+use Rattle.std.specs.Prelude.{◌≡◌, ℕ, true, false, List, [], ◌∷◌, Some, None, refl}
 use Rattle.cv_facts.specs.Reduction.{Known}
 use Rattle.cv_facts.specs.declared.reduction.Shape.TheVariants.{NoLayer}
 use Rattle.cv_match.specs.Findings.{findings}
 use Rattle.cv_overlay.specs.declared.fault.ImageFault.TheVariants as fault
 use Rattle.cv_records.specs.declared.read.ReportOutcome.TheVariants as report
-use Rattle.cv_outcome.specs.Facts.{waits_for}
+use Rattle.cv_outcome.specs.Facts.{pending_layer, waits_for}
 use Rattle.cv_outcome.specs.Outcome.{FactTable, first_unknown, known_layers, outcome_at}
 use Rattle.cv_outcome.specs.Truth.{report_with}
 use Rattle.cv_outcome.specs.Update.{rematched, update_rows}
@@ -45,6 +45,10 @@ pending = refl
 waiting : (waits_for three (Pending three) ≡ true) × (waits_for one (Pending three) ≡ false)
 unfolding one three
 waiting = (refl, refl)
+
+-- an image that has a fault or packages waits for no layer
+waiting_for : (pending_layer (Pending three) ≡ Some three) × (pending_layer (Bad (fault.NoLayer 1)) ≡ None) × (pending_layer (Good [] []) ≡ None)
+waiting_for = (refl, refl, refl)
 
 -- an update leaves an image without packages as it is, and adds no row about it
 unchanged : (rematched [] (Bad (fault.NoLayer 1)) ≡ Bad (fault.NoLayer 1)) × (update_rows [] one (Pending three) ≡ [])

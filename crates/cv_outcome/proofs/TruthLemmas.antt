@@ -21,14 +21,16 @@ use Rattle.cv_machine.specs.Rows.{rows_of as machine_rows, scan_rows}
 use Rattle.cv_machine.specs.Scans.{IsKnown, Trees, image_scan, trees_of}
 use Rattle.cv_machine.specs.State.{Feeds, Images, Layers, State, value_at}
 use Rattle.cv_tree.specs.Entries.{map_values, remade_entries, rows_of}
+use Rattle.cv_outcome.specs.Facts.{pending_layer}
 use Rattle.cv_outcome.specs.Outcome.{FactTable, first_unknown, has_facts, known_layers, known_shapes, matched, outcome_at, outcome_by}
 use Rattle.cv_outcome.specs.Truth.{AreFactsOf, report_with}
 use Rattle.cv_outcome.specs.Update.{rematched, update_rows}
+use Rattle.cv_outcome.specs.declared.outcome.Outcome.TheVariants.{Pending}
 
 -- The facts of an image's layers.
 
 -- the first layer without facts is the first that is not Indexed
-first_same : (table : Layers) (facts : FactTable) (layers : List (List ℕ)) → ((layer : List ℕ) → has_facts facts layer ≡ is_indexed_as (value_at table layer))
+pub first_same : (table : Layers) (facts : FactTable) (layers : List (List ℕ)) → ((layer : List ℕ) → has_facts facts layer ≡ is_indexed_as (value_at table layer))
     → first_unknown facts layers ≡ first_pending table layers
 first_same table facts [] h = refl
 first_same table facts (l ∷ ls) h = λ i. cond (not (h l i)) (Some l) (first_same table facts ls h i)
@@ -56,6 +58,25 @@ shapes_are tree table facts [] all are e = refl
 shapes_are tree table facts (l ∷ ls) all are e =
     shapes_more tree (value_at facts l) l ls (known_layers facts ls) (first_unknown facts ls)
     (λ known is. right_shape tree known l all (are.own l known is) (are.right l known is)) e (shapes_are tree table facts ls all are)
+
+-- Images that wait for a layer.
+
+waits_first : (first : Option (List ℕ)) (feeds : Feeds) (found : ImagePackages) → pending_layer (outcome_by first feeds found) ≡ first
+waits_first (Some l) feeds found = refl
+waits_first None feeds (packages.Good ps) = refl
+waits_first None feeds (packages.Bad fault) = refl
+
+-- an image waits for the first of its layers that is not Indexed
+pub waiting_is : (tree : List ℕ → Option (Option (List Stored))) (table : Layers) (facts : FactTable) (feeds : Feeds) (layers : List (List ℕ)) → AreFactsOf tree table facts
+    → pending_layer (outcome_at facts feeds layers) ≡ first_pending table layers
+waiting_is tree table facts feeds layers are =
+    waits_first (first_unknown facts layers) feeds (coalesced (known_shapes facts layers)) ∙ first_same table facts layers are.indexed
+
+-- and then its outcome is this layer alone
+pub pending_is : (tree : List ℕ → Option (Option (List Stored))) (table : Layers) (facts : FactTable) (feeds : Feeds) (layers : List (List ℕ)) (layer : List ℕ) → AreFactsOf tree table facts
+    → first_pending table layers ≡ Some layer → outcome_at facts feeds layers ≡ Pending layer
+pending_is tree table facts feeds layers layer are first =
+    ap (λ (f : Option (List ℕ)). outcome_by f feeds (coalesced (known_shapes facts layers))) (first_same table facts layers are.indexed ∙ first)
 
 -- The outcome of an image.
 

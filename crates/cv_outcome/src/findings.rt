@@ -58,6 +58,8 @@ impl Findings {
     }
 }
 
+/// A copy is equal to its source and shares the findings. It takes no memory, and fails only if their number of owners is at its
+/// limit.
 impl Share for Findings {
     fn share(&self) -> Result<Findings, NoMemory> {
         Ok(Findings {

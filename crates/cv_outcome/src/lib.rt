@@ -22,6 +22,6 @@ mod tests;
 
 pub use findings::Findings;
 pub use image::outcome_of;
-pub use laws::{fact_laws, image_laws, update_laws};
+pub use laws::{fact_laws, image_laws, pending_laws, update_laws};
 pub use outcome::Outcome;
 pub use rematch::Rematch;

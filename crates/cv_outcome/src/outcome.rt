@@ -17,6 +17,8 @@ pub enum Outcome {
     },
 }
 
+/// A copy is equal to its source and shares the packages, the findings and the fault. It takes no memory, and fails only if the
+/// number of owners of a part is at its limit.
 impl Share for Outcome {
     fn share(&self) -> Result<Outcome, NoMemory> {
         match self {

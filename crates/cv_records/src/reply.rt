@@ -20,11 +20,11 @@ pub enum Reply {
     Claimed,
     /// The layer is claimed already, or indexed.
     Taken,
-    /// No registered image has the layer.
+    /// No registered image names the layer, and it is not claimed.
     Unwanted,
     /// The layer is indexed now.
     Entered,
-    /// No registered image has the layer any more.
+    /// The layer was the worker's, but no registered image names it any more.
     Discarded,
     /// The layer waits for a worker again.
     Requeued,

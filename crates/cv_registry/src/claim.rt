@@ -12,7 +12,7 @@ use std::alloc::Global;
 
 impl Registry {
     /// Claims a layer for a worker: `Claimed` if the layer waits for one, `Taken` if it is claimed or indexed, `Unwanted` if it
-    /// is not known.
+    /// is not in the table.
     pub fn claim(
         &self,
         alloc: Global,

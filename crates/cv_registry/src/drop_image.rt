@@ -13,7 +13,8 @@ use std::alloc::Global;
 
 impl Registry {
     /// Drops an image: `NotRegistered` if it is not registered, or else `Dropped`. Its layers that no other image names go, but
-    /// for those that are claimed. The time is that of its layers, whatever else is registered.
+    /// for those that are claimed. The time is in proportion to the number of its layers, times the logarithm of what is
+    /// registered.
     pub fn drop_image(&self, alloc: Global, image: &Digest) -> Result<(Registry, Reply), NoMemory>
         ensures { IfOk result (Leads (λ state. drop_image state image.now) self.now) }
     {

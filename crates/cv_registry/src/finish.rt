@@ -26,7 +26,7 @@ impl Registry {
         self.finish(alloc, layer, worker, Status::Indexed, Reply::Entered)
     }
 
-    /// A worker gives a layer back, after a fault or for want of memory: `Requeued`, and the layer waits for a worker again;
+    /// A worker gives a layer back, after a fault or because memory ran out: `Requeued`, and the layer waits for a worker again;
     /// `NotClaimed` and `Discarded` as for `index`.
     pub fn requeue(
         &self,

@@ -14,8 +14,8 @@ use std::alloc::Global;
 
 impl Registry {
     /// Registers an image: `Already` if it is registered with these layers, `Conflict` with its layers if with others,
-    /// `TooManyImages` if there are as many images as may be. After `Registered` its layers that were not known wait for a worker.
-    /// The time is that of its layers, whatever else is registered.
+    /// `TooManyImages` if there are as many images as may be. After `Registered` its layers that were not in the table wait for a
+    /// worker. The time is in proportion to the number of its layers, times the logarithm of what is registered.
     pub fn register(
         &self,
         alloc: Global,

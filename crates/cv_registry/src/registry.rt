@@ -53,7 +53,7 @@ impl Registry {
         }
     }
 
-    /// Registrations are consistent. It does nothing.
+    /// What it holds is consistent. For proofs: it has no effect at run time.
     pub fn regular(&self)
         ensures { IsRegular self.now }
     {
@@ -113,7 +113,8 @@ impl Registry {
         queued_among(alloc, &entries)
     }
 
-    /// The images that name a layer, in ascending order. The time is as long as the answer, whatever else is registered.
+    /// The images that name a layer, in ascending order. The set of a layer is found in time logarithmic in the number of layers,
+    /// and read in time linear in the number of its images.
     pub fn users_of(&self, alloc: Global, layer: &Digest) -> Result<Vec<Digest>, NoMemory>
         ensures { IfOk result (λ images. images.items ≡ users_of self.now.images layer.now) }
     {
@@ -140,7 +141,8 @@ fn queued_among(alloc: Global, entries: &[(Digest, &Standing)]) -> Result<Vec<Di
     Ok(queued)
 }
 
-/// An equal registry, which shares all parts. It takes no memory, and fails only if a count of owners is at its last value.
+/// A copy is equal to its source and shares all of it. It takes no memory, and fails only if the number of owners of a part is
+/// at its limit.
 impl Share for Registry {
     fn share(&self) -> Result<Registry, NoMemory> {
         Ok(Registry {

@@ -51,6 +51,7 @@ impl Standing {
     }
 }
 
+/// A copy is equal to its source. It takes no memory and does not fail.
 impl Share for Standing {
     fn share(&self) -> Result<Standing, NoMemory> {
         Ok(*self)
