@@ -1,0 +1,4 @@
+mod Divided
+mod Examples
+mod Generations
+mod History
