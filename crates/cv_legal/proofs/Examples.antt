@@ -2,6 +2,9 @@
 use Rattle.std.specs.Prelude.{◌≡◌, ℕ, false, true, List, [], ◌∷◌, codes, refl}
 use Rattle.cv_base.specs.Lines.{Line}
 use Rattle.cv_io.specs.Lines.{lines_of}
+use Rattle.cv_machine.specs.Scans.{Trees}
+use Rattle.cv_legal.specs.Legal.{IsLegal}
+use Rattle.cv_legal.specs.Replay.{beginning}
 use Rattle.cv_legal.specs.Rounds.{RoundLimits, round_limits, rounds_of}
 
 abbrev line : ℕ → List ℕ → Line
@@ -43,3 +46,14 @@ bytes : (rounds_of small (codes "abc\r\nd\n") true ≡ (line 1 (codes "abc") ∷
     × (rounds_of small (codes "abc\nde\n") false ≡ (line 1 (codes "abc") ∷ []) ∷ [])
 unfolding lines_of
 bytes = (refl, refl, refl)
+
+-- without input there is no output, and nothing happens
+nothing_happens : (trees : Trees) (workers : ℕ) → IsLegal trees [] [] workers beginning.state
+unfolding lines_of
+nothing_happens trees workers = record {
+  entries = [];
+  lines = record { text = refl; tags = tt };
+  after = beginning;
+  legal = record { between = beginning; first = []; last = []; parts = refl; input = (refl, refl); further = (refl, refl) };
+  reached = refl;
+}

@@ -2,3 +2,4 @@ mod Divided
 mod Examples
 mod Generations
 mod History
+pub mod Joined
