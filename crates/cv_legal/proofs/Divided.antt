@@ -111,15 +111,15 @@ cut_one limits cut lines line some h = by_text (is_nil line.text) refl where
   by_room : (b : Bool) → is_cons cut.begun && nat_lt limits.bytes (size_of cut.begun + length line.text) ≡ b → HasText line
       → Divides limits (end_full limits (put_line line (cond b (end_round cut) cut))) (lines ++ line ∷ [])
   by_room true is text =
-      let past = ltb-true _ _ (both_true _ _ is).1 in
+      let past : limits.bytes < size_of cut.begun + length line.text = ltb-true _ _ (both_true _ _ is).1 in
       ended_full limits (put_line line (end_round cut)) (lines ++ line ∷ []) some
-        (replace limits cut.rounds (cut.begun ∷ []) (cut.begun ++ line ∷ []) (line ∷ []) (lines ++ line ∷ []) longer
-          (h.text, h.within, (line ∷ [], inr (inr (record { next = line; later = []; begins = refl; text = text; past = past; short = h.short; joined = refl })), refl)))
-        (text, tt) (inr refl) (omega (arith, some))
+      (replace limits cut.rounds (cut.begun ∷ []) (cut.begun ++ line ∷ []) (line ∷ []) (lines ++ line ∷ []) longer
+      (h.text, h.within, (line ∷ [], inr (inr (record { next = line; later = []; begins = refl; text = text; past = past; short = h.short; joined = refl })), refl)))
+      (text, tt) (inr refl) (omega (arith, some))
   by_room false is text =
       ended_full limits (put_line line cut) (lines ++ line ∷ []) some longer (all_with cut.begun line h.text text)
-        (within_one limits cut.begun line is)
-        (let e = more_by_one cut.begun line in omega (arith, e, h.short))
+      (within_one limits cut.begun line is)
+      (let e = more_by_one cut.begun line in omega (arith, e, h.short))
 
   by_text : (b : Bool) → is_nil line.text ≡ b
       → Divides limits (cond b (end_round cut) (end_full limits (put_line line (end_before limits line cut)))) (lines ++ line ∷ [])
@@ -138,7 +138,7 @@ cut_more : (limits : RoundLimits) (more lines : List Line) (cut : Cut) → 0 < l
 cut_more limits [] lines cut some h = subst (λ x. Divides limits cut x) (sym (append-nil lines)) h
 cut_more limits (line ∷ more) lines cut some h =
     subst (λ x. Divides limits (fold (cut_line limits) (cut_line limits cut line) more) x) (append_assoc lines (line ∷ []) more)
-      (cut_more limits more (lines ++ line ∷ []) (cut_line limits cut line) some (cut_one limits cut lines line some h))
+    (cut_more limits more (lines ++ line ∷ []) (cut_line limits cut line) some (cut_one limits cut lines line some h))
 
 -- all lines
 pub divides : (limits : RoundLimits) (lines : List Line) → 0 < limits.lines → Divides limits (cut_lines limits lines) lines

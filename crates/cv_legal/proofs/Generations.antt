@@ -71,7 +71,7 @@ answer_names trees state reads.Heads = inl refl
 some_names : (trees : Trees) (state : State) (read : Option Read) (other : Answer) → option_map (answer_to trees state) read ≡ Some other
     → Names state.generation other
 some_names trees state None other h = absurd (cc h)
-some_names trees state (Some read) other h = subst (λ a. Names state.generation a) (same_Some h) (answer_names trees state read)
+some_names trees state (Some read) other h = subst (λ a. Names state.generation a) (same_Some (answer_to trees state read) other h) (answer_names trees state read)
 
 read_names : (trees : Trees) (asked : List Requested) (now : Moment) (read : ReadEntry) → IsRead trees asked now read → Names now.state.generation read.answer
 read_names trees asked now read h = by_kind h.is where
@@ -95,7 +95,7 @@ fall_entries known trees asked before after (entry.Event event ∷ entries) h =
     subst (λ r. NeverFall before.state.generation (cons_option (reply_generation r) (generations entries)) after.state.generation) (sym (ap (λ e. e.reply) h.1.is)) all
 fall_entries known trees asked before after (entry.Read read ∷ entries) h =
     after_read before.state.generation after.state.generation (generations entries) (answer_generation read.answer)
-      (read_names trees asked before read h.0) (fall_entries known trees asked before after entries h.1)
+    (read_names trees asked before read h.0) (fall_entries known trees asked before after entries h.1)
 
 -- a refused line names no generation
 none_named : (taken : List Taken) (others : List Entry) → generations (refusals taken ++ others) ≡ generations others
@@ -110,13 +110,13 @@ fall_round : KnownSteps → (trees : Trees) (workers : ℕ) (before : Moment) (l
     → IsLegalRound trees workers before lines entries after → NeverFall before.state.generation (generations entries) after.state.generation
 fall_round known trees workers before lines entries after h =
     subst (λ ns. NeverFall before.state.generation ns after.state.generation) (sym (ap (λ es. generations es) h.parts ∙ none_named h.taken h.others))
-      (fall_entries known trees (requests h.taken) before after h.others h.replays)
+    (fall_entries known trees (requests h.taken) before after h.others h.replays)
 
 fall_parts : (first middle last : ℕ) (entries front back : List Entry) → entries ≡ front ++ back → NeverFall first (generations front) middle
     → NeverFall middle (generations back) last → NeverFall first (generations entries) last
 fall_parts first middle last entries front back is h k =
     subst (λ ns. NeverFall first ns last) (sym (ap (λ es. generations es) is ∙ filter_map_both entry_generation front back))
-      (fall_both first middle last (generations front) (generations back) h k)
+    (fall_both first middle last (generations front) (generations back) h k)
 
 fall_none : (before after : Moment) (entries : List Entry) → entries ≡ [] → after ≡ before
     → NeverFall before.state.generation (generations entries) after.state.generation
@@ -130,8 +130,8 @@ fall_rounds : KnownSteps → (trees : Trees) (workers : ℕ) (before : Moment) (
 fall_rounds known trees workers before [] entries after h = fall_none before after entries h.0 h.1
 fall_rounds known trees workers before (round ∷ rounds) entries after h =
     fall_parts _ h.0.state.generation _ entries h.1 h.2 h.3
-      (fall_round known trees workers before round h.1 h.0 h.4)
-      (fall_rounds known trees workers h.0 rounds h.2 after h.5)
+    (fall_round known trees workers before round h.1 h.0 h.4)
+    (fall_rounds known trees workers h.0 rounds h.2 after h.5)
 
 fall_last : KnownSteps → (waiting : List (List ℕ)) (trees : Trees) (workers : ℕ) (before : Moment) (entries : List Entry) (after : Moment)
     → AreLast waiting trees workers before entries after → NeverFall before.state.generation (generations entries) after.state.generation
@@ -142,5 +142,5 @@ pub never_fall : KnownSteps → (trees : Trees) (workers : ℕ) (before : Moment
     → AreLegal trees workers before rounds entries after → NeverFall before.state.generation (generations entries) after.state.generation
 never_fall known trees workers before rounds entries after h =
     fall_parts _ h.between.state.generation _ entries h.first h.last h.parts
-      (fall_rounds known trees workers before rounds h.first h.between h.input)
-      (fall_last known _ trees workers h.between h.last after h.further)
+    (fall_rounds known trees workers before rounds h.first h.between h.input)
+    (fall_last known _ trees workers h.between h.last after h.further)

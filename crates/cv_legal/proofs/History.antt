@@ -71,7 +71,7 @@ follow_round : (trees : Trees) (workers : ℕ) (before : Moment) (lines : Round)
     → IsLegalRound trees workers before lines entries after → Follow trees before (events_of entries) after
 follow_round trees workers before lines entries after h =
     subst (λ events. Follow trees before events after) (sym (ap (λ es. events_of es) h.parts ∙ no_events h.taken h.others))
-      (follow_entries trees (requests h.taken) before after h.others h.replays)
+    (follow_entries trees (requests h.taken) before after h.others h.replays)
 
 -- ---- of all rounds
 
@@ -86,7 +86,7 @@ follow_parts : (trees : Trees) (before between after : Moment) (entries first la
     → Follow trees before (events_of first) between → Follow trees between (events_of later) after → Follow trees before (events_of entries) after
 follow_parts trees before between after entries first later is h k =
     subst (λ events. Follow trees before events after) (sym (ap (λ es. events_of es) is ∙ filter_map_both event_in first later))
-      (follow_both trees before between after (events_of first) (events_of later) h k)
+    (follow_both trees before between after (events_of first) (events_of later) h k)
 
 -- no entry is no event
 follow_none : (trees : Trees) (before after : Moment) (entries : List Entry) → entries ≡ [] → after ≡ before → Follow trees before (events_of entries) after
@@ -97,8 +97,8 @@ follow_rounds : (trees : Trees) (workers : ℕ) (before : Moment) (rounds : List
 follow_rounds trees workers before [] entries after h = follow_none trees before after entries h.0 h.1
 follow_rounds trees workers before (round ∷ rounds) entries after h =
     follow_parts trees before h.0 after entries h.1 h.2 h.3
-      (follow_round trees workers before round h.1 h.0 h.4)
-      (follow_rounds trees workers h.0 rounds h.2 after h.5)
+    (follow_round trees workers before round h.1 h.0 h.4)
+    (follow_rounds trees workers h.0 rounds h.2 after h.5)
 
 follow_last : (waiting : List (List ℕ)) (trees : Trees) (workers : ℕ) (before : Moment) (entries : List Entry) (after : Moment)
     → AreLast waiting trees workers before entries after → Follow trees before (events_of entries) after
@@ -109,6 +109,6 @@ pub one_history : (trees : Trees) (workers : ℕ) (before : Moment) (rounds : Li
     → AreLegal trees workers before rounds entries after → IsHistory trees before (events_of entries) after
 one_history trees workers before rounds entries after h =
     is_history trees before after (events_of entries)
-      (follow_parts trees before h.between after entries h.first h.last h.parts
-        (follow_rounds trees workers before rounds h.first h.between h.input)
-        (follow_last _ trees workers h.between h.last after h.further))
+    (follow_parts trees before h.between after entries h.first h.last h.parts
+    (follow_rounds trees workers before rounds h.first h.between h.input)
+    (follow_last _ trees workers h.between h.last after h.further))

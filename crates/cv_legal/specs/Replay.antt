@@ -1,6 +1,6 @@
 -- Entries as one history of the machine (defined by this project): each event has the next number and the machine's reply,
 -- and each read is answered from the state after as many events as its front says.
-use Rattle.std.specs.Prelude.{◌≡◌, ⊥, ℕ, ◌+◌, ◌==◌, ◌&&◌, ◌⊎◌, List, [], ◌∷◌, find, Option, Some, None, option_and_then, option_map}
+use Rattle.std.specs.Prelude.{◌≡◌, ℕ, ◌+◌, ◌==◌, ◌&&◌, ◌⊎◌, List, [], ◌∷◌, find, Option, Some, None, option_and_then, option_map}
 use Rattle.cv_records.specs.declared.event.Act.{Act}
 use Rattle.cv_records.specs.declared.event.Act.TheVariants as name
 use Rattle.cv_records.specs.declared.event.By.{By}
