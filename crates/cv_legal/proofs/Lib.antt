@@ -1,0 +1,5 @@
+mod Divided
+mod Examples
+mod Generations
+mod History
+pub mod Joined

@@ -1,0 +1,9 @@
+pub mod Division
+pub mod Laws
+pub mod Legal
+pub mod Parts
+pub mod Replay
+pub mod Round
+pub mod Rounds
+pub mod Taken
+pub mod Turns

@@ -1,0 +1,107 @@
+-- Entries as one history of the machine (defined by this project): each event has the next number and the machine's reply,
+-- and each read is answered from the state after as many events as its front says.
+use Rattle.std.specs.Prelude.{◌≡◌, ℕ, ◌+◌, ◌==◌, ◌&&◌, ◌⊎◌, List, [], ◌∷◌, find, Option, Some, None, option_and_then, option_map}
+use Rattle.cv_records.specs.declared.event.Act.{Act}
+use Rattle.cv_records.specs.declared.event.Act.TheVariants as name
+use Rattle.cv_records.specs.declared.event.By.{By}
+use Rattle.cv_records.specs.declared.event.By.TheVariants as by
+use Rattle.cv_records.specs.declared.event.EventEntry.{EventEntry}
+use Rattle.cv_records.specs.declared.read.Answer.TheVariants as answer
+use Rattle.cv_records.specs.declared.read.ReadEntry.{ReadEntry}
+use Rattle.cv_request.specs.declared.request.Act.{Act as RequestAct}
+use Rattle.cv_request.specs.declared.request.Act.TheVariants as request
+use Rattle.cv_transcript.specs.declared.entry.Entry.{Entry}
+use Rattle.cv_transcript.specs.declared.entry.Entry.TheVariants as entry
+use Rattle.cv_machine.specs.Answer.{Read, answer_to}
+use Rattle.cv_machine.specs.Answer as reads
+use Rattle.cv_machine.specs.History.{event_entry}
+use Rattle.cv_machine.specs.Scans.{Trees}
+use Rattle.cv_machine.specs.State.{State, opening}
+use Rattle.cv_machine.specs.Step.{step}
+use Rattle.cv_machine.specs.declared.act.WholeAct.{WholeAct}
+use Rattle.cv_machine.specs.declared.act.WholeAct.TheVariants as whole
+use Rattle.cv_machine.specs.declared.limits.Limits.{Limits}
+use Rattle.cv_legal.specs.Taken.{Requested}
+use Rattle.cv_legal.specs.declared.limits.TheConstants.{MAX_FEEDS, MAX_IMAGES}
+
+-- a moment of a history: how many events were applied, and the state after them
+pub record Moment : Type 0 where
+  pub count : ℕ
+  pub state : State
+
+-- the moment after an event
+abbrev pub moment_after : Trees → Moment → WholeAct → Moment
+moment_after trees before act = record { count = before.count + 1; state = (step trees before.state act).0 }
+
+-- the moment before all events, of the service with its limits
+abbrev pub beginning : Moment
+beginning = record { count = 0; state = opening (record { images = MAX_IMAGES; feeds = MAX_FEEDS }) }
+
+-- ---- what a request asks for
+
+-- the event that a request submits, if it submits one
+abbrev pub event_of : RequestAct → Option WholeAct
+event_of (request.Register manifest) = Some (whole.Register manifest)
+event_of (request.DropImage image) = Some (whole.DropImage image)
+event_of (request.Update feed records) = Some (whole.Update feed records)
+event_of (request.Report image) = None
+event_of (request.Page number size page) = None
+event_of request.List = None
+event_of (request.Ack number) = Some (whole.Ack number)
+
+-- the read that a request asks for, if it asks for one
+abbrev pub read_of : RequestAct → Option Read
+read_of (request.Register manifest) = None
+read_of (request.DropImage image) = None
+read_of (request.Update feed records) = None
+read_of (request.Report image) = Some (reads.Report image)
+read_of (request.Page number size page) = Some (reads.Page number size page)
+read_of request.List = Some reads.Heads
+read_of (request.Ack number) = None
+
+-- what the request of a lane on a line asks for
+abbrev pub asked_at : List Requested → ℕ → ℕ → Option RequestAct
+asked_at asked lane line = option_map (λ r. r.request.act) (find (λ r. r.line == line && r.request.lane == lane) asked)
+
+-- ---- events
+
+-- the event that a worker submits about a layer
+abbrev pub worker_event : ℕ → Act → Option WholeAct
+worker_event worker (name.Claim layer) = Some (whole.Claim layer worker)
+worker_event worker (name.Indexed layer) = Some (whole.Indexed layer worker)
+worker_event worker (name.Fault layer) = Some (whole.Fault layer worker)
+worker_event worker (name.Memory layer) = Some (whole.Memory layer worker)
+worker_event worker act = None
+
+-- the event of an entry, by who submits it: that of a lane is what the request of the line submits, whole
+abbrev pub submitted : List Requested → By → Act → Option WholeAct
+submitted asked (by.Lane lane line) act = option_and_then event_of (asked_at asked lane line)
+submitted asked (by.Worker worker) act = worker_event worker act
+
+-- an event at its place: it has the next number and the machine's reply
+pub record IsEvent (trees : Trees) (asked : List Requested) (before : Moment) (entry : EventEntry) (after : Moment) : Type 0 where
+  pub act : WholeAct
+  pub source : submitted asked entry.by entry.act ≡ Some act
+  pub is : entry ≡ event_entry (before.count + 1) entry.by act (step trees before.state act).1
+  pub next : after ≡ moment_after trees before act
+
+-- ---- reads
+
+-- a lane's line without an event, at its place: its front is the number of events before it, and it has the answer there, or
+-- says that memory ran out. The latter may be the line of any request
+pub record IsRead (trees : Trees) (asked : List Requested) (now : Moment) (entry : ReadEntry) : Type 0 where
+  pub act : RequestAct
+  pub source : asked_at asked entry.lane entry.line ≡ Some act
+  pub front : entry.front ≡ now.count
+  pub is : (entry.answer ≡ answer.NoMemory) ⊎ (option_map (answer_to trees now.state) (read_of act) ≡ Some entry.answer)
+
+-- ---- histories
+
+-- entries lead from one moment to another. Only an event moves on
+abbrev pub Replays : Trees → List Requested → Moment → List Entry → Moment → Type 0
+Replays trees asked before [] after = after ≡ before
+Replays trees asked before (entry.Refused line error ∷ entries) after = ⊥
+Replays trees asked before (entry.Event event ∷ entries) after =
+    (between : Moment) × IsEvent trees asked before event between × Replays trees asked between entries after
+Replays trees asked before (entry.Read read ∷ entries) after =
+    IsRead trees asked before read × Replays trees asked before entries after

@@ -1,0 +1,49 @@
+-- What becomes of the lines of a round before its requests are carried out (defined by this project): each is a request, or
+-- is refused.
+use Rattle.std.specs.Prelude.{◌≡◌, ℕ, ◌==◌, List, map, filter, filter_map, Option, Some, None, Result, Ok, Err}
+use Rattle.cv_base.specs.Answer.{Yields}
+use Rattle.cv_base.specs.Lines.{Line}
+use Rattle.cv_request.specs.Fault.{fault_of}
+use Rattle.cv_request.specs.Request.{request_line}
+use Rattle.cv_request.specs.declared.error.RequestError.{RequestError}
+use Rattle.cv_request.specs.declared.request.Request.{Request}
+use Rattle.cv_transcript.specs.declared.entry.Entry.{Entry}
+use Rattle.cv_transcript.specs.declared.entry.Entry.TheVariants as entry
+
+-- a line by its number, with the request that it is, or why it is refused
+pub record Taken : Type 0 where
+  pub line : ℕ
+  pub answer : Result Request RequestError
+
+-- what may become of a line: the request that it is, or its first fault; or, whatever it is, it is refused because memory
+-- ran out
+pub record IsTaken (line : Line) (taken : Taken) : Type 0 where
+  pub number : taken.line ≡ line.number
+  pub answer : Yields fault_of (λ request. request) taken.answer (request_line line.text)
+
+-- the entry of a refused line
+abbrev pub refusal_at : ℕ → Result Request RequestError → Option Entry
+refusal_at line (Ok request) = None
+refusal_at line (Err error) = Some (entry.Refused line error)
+
+-- the entries of all refused lines, in input order
+abbrev pub refusals : List Taken → List Entry
+refusals taken = filter_map (λ t. refusal_at t.line t.answer) taken
+
+-- a request with the number of its line
+pub record Requested : Type 0 where
+  pub line : ℕ
+  pub request : Request
+
+-- the request of a line that is not refused
+abbrev pub request_at : ℕ → Result Request RequestError → Option Requested
+request_at line (Ok request) = Some (record { line = line; request = request })
+request_at line (Err error) = None
+
+-- the requests, in input order
+abbrev pub requests : List Taken → List Requested
+requests taken = filter_map (λ t. request_at t.line t.answer) taken
+
+-- the lines of a lane's requests, in input order
+abbrev pub lines_asked : ℕ → List Requested → List ℕ
+lines_asked lane asked = map (λ r. r.line) (filter (λ r. r.request.lane == lane) asked)
