@@ -1,0 +1,14 @@
+use Rattle.std.proofs.Common.{ap, sym, ◌∙◌}
+use Rattle.cv_inventory.proofs.KeptLemmas.{held_same, kept_entered}
+use Rattle.cv_inventory.proofs.layers.Inventory.entered.Goals as goal
+
+pub of-requires : goal.of-requires
+of-requires g c =
+    let inside = c.self.inside in
+    kept_entered _ inside.registry c.args.registry inside.facts c.in_ok-facts.facts inside.outcomes c.in_ok-outcomes.outcomes inside.feeds c.in_ok-feeds.feeds c.args.self.now
+    c.digest-layer.result c.args.known c.in_ok-users.users.items c.self.invariant c.self.view_is c.regular.ensures (rw (c.digest-layer.ensures) c.requires)
+    (sym c.digest-layer.ensures) c.known.ensures ? ? c.in_ok-outcomes.ensures c.in_ok-feeds.ensures
+
+pub returns : goal.returns
+returns g c =
+    held_same c.self.inside.registry c.args.registry c.self.inside.feeds c.in_ok-feeds.feeds c.args.self.now c.of.result c.self.view_is c.in_ok-feeds.ensures c.of.ensures
