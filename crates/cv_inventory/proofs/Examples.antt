@@ -1,15 +1,15 @@
 -- The definitions on worked examples.
-use Rattle.std.specs.Prelude.{◌≡◌, ℕ, Bool, true, false, List, [], ◌∷◌, None, refl}
+use Rattle.std.specs.Prelude.{◌≡◌, ℕ, List, [], ◌∷◌, None, refl}
 use Rattle.cv_facts.specs.Reduction.{Known}
 use Rattle.cv_facts.specs.declared.reduction.Shape.TheVariants.{NoLayer}
 use Rattle.cv_records.specs.declared.reply.Reply.TheVariants as reply
-use Rattle.cv_machine.specs.State.{Images, State, opening}
+use Rattle.cv_machine.specs.State.{Images}
 use Rattle.cv_machine.specs.Step.{claim}
 use Rattle.cv_machine.specs.declared.status.Status.TheVariants as status
 use Rattle.cv_outcome.specs.Outcome.{outcome_at}
 use Rattle.cv_outcome.specs.declared.outcome.Outcome.TheVariants.{Pending}
 use Rattle.cv_records.specs.declared.read.ReportOutcome.TheVariants as report
-use Rattle.cv_inventory.specs.Holdings.{Holdings, Leads, holding, nothing, report_by}
+use Rattle.cv_inventory.specs.Holdings.{Holdings, Leads, nothing, report_by}
 use Rattle.cv_inventory.specs.code.Changes.{all_renewed, remaining_facts}
 
 abbrev a : List ℕ

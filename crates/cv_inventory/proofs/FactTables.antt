@@ -17,7 +17,7 @@ use Rattle.cv_machine.specs.declared.status.Status.{Status}
 use Rattle.cv_machine.specs.declared.status.Status.TheVariants as status
 use Rattle.cv_machine.proofs.Entries.{sorted_cut}
 use Rattle.cv_machine.proofs.LayerTables.{remaining_found, same_key, staying, value_put}
-use Rattle.cv_outcome.specs.Outcome.{FactTable, has_facts, outcome_at}
+use Rattle.cv_outcome.specs.Outcome.{FactTable, outcome_at}
 use Rattle.cv_outcome.specs.Truth.{AreFactsOf}
 use Rattle.cv_outcome.proofs.FactLemmas.{agree}
 use Rattle.cv_registry.proofs.UserLemmas.{value_cut}

@@ -1,9 +1,8 @@
 -- What each event keeps is right.
-use Rattle.std.specs.Prelude.{◌≡◌, ℕ, ◌≤◌, Bool, true, false, cond, List, [], ◌∷◌, length, Option, Some, None, refl}
-use Rattle.std.specs.BTreeMap.{is_at}
+use Rattle.std.specs.Prelude.{◌≡◌, ℕ, ◌≤◌, Bool, true, false, cond, List, [], length, Option, Some, None, refl}
 use Rattle.std.specs.List.Sorted.{IsStrictlySortedBy}
 use Rattle.std.specs.Map.{keys_of}
-use Rattle.std.specs.Option.{is_some, option_map}
+use Rattle.std.specs.Option.{option_map}
 use Rattle.std.proofs.Common.{ap, arith, subst, sym, ◌∙◌}
 use Rattle.std.proofs.lemmas.Option.{same_Some}
 use Rattle.cv_advdb.specs.Feeds.{FeedTable, by_id, replaced}
@@ -18,11 +17,11 @@ use Rattle.cv_machine.specs.Answer.{report_at, report_of}
 use Rattle.cv_machine.specs.Board.{board_of}
 use Rattle.cv_machine.specs.Rows.{rows_of as machine_rows}
 use Rattle.cv_machine.specs.Scans.{IsKnown, trees_of}
-use Rattle.cv_machine.specs.State.{Feeds, Images, State, value_at, with_value, without_value}
+use Rattle.cv_machine.specs.State.{Images, State, value_at, with_value, without_value}
 use Rattle.cv_machine.specs.Step.{is_full}
 use Rattle.cv_machine.proofs.Consistent.{few_after}
 use Rattle.cv_machine.proofs.LayerTables.{value_put}
-use Rattle.cv_outcome.specs.Outcome.{FactTable, has_facts, outcome_at}
+use Rattle.cv_outcome.specs.Outcome.{FactTable, outcome_at}
 use Rattle.cv_outcome.specs.Truth.{AreFactsOf, report_with}
 use Rattle.cv_outcome.specs.Update.{rematched, update_rows}
 use Rattle.cv_outcome.specs.declared.outcome.Outcome.{Outcome}
@@ -41,6 +40,22 @@ use Rattle.cv_inventory.proofs.RenewedLemmas.{all_told}
 pub held_same : (r after : Registrations) (table feeds : FeedTable) (now made : Holdings) → held r table ≡ now → feeds ≡ table → made ≡ held after feeds
     → made ≡ held after (feed_table now)
 held_same r after table feeds now made was copy is = is ∙ ap (held after) (copy ∙ ap feed_table was)
+
+-- what is true of a registry is true of what is held
+pub alike_now : (r after : Registrations) (table : FeedTable) (now : Holdings) → held r table ≡ now → IsAlike r after → IsAlike (registrations now) after
+alike_now r after table now was h = subst (λ (x : Holdings). IsAlike (registrations x) after) was h
+
+pub with_image_now : (r after : Registrations) (table : FeedTable) (now : Holdings) (image : List ℕ) (layers : List (List ℕ)) → held r table ≡ now
+    → after ≡ with_image r image layers → after ≡ with_image (registrations now) image layers
+with_image_now r after table now image layers was is = is ∙ ap (λ (x : Holdings). with_image (registrations x) image layers) was
+
+pub without_image_now : (r after : Registrations) (table : FeedTable) (now : Holdings) (image : List ℕ) (layers : List (List ℕ)) → held r table ≡ now
+    → after ≡ without_image r image layers → after ≡ without_image (registrations now) image layers
+without_image_now r after table now image layers was is = is ∙ ap (λ (x : Holdings). without_image (registrations x) image layers) was
+
+pub entered_now : (r after : Registrations) (table : FeedTable) (now : Holdings) (layer : List ℕ) → held r table ≡ now → HasEntered r after layer
+    → HasEntered (registrations now) after layer
+entered_now r after table now layer was h = subst (λ (x : Holdings). HasEntered (registrations x) after layer) was h
 
 -- nothing is registered
 pub kept_none : (trees : List ℕ → Option (Option (List Stored))) (r : Registrations) (facts : FactTable) (outcomes : Outcomes) (table : FeedTable) (images feeds : ℕ)
@@ -139,7 +154,7 @@ kept_dropped trees r after facts fewer outcomes next table feeds now image names
 entered : (trees : List ℕ → Option (Option (List Stored))) (r after : Registrations) (facts : FactTable) (outcomes : Outcomes) (table : FeedTable) (layer : List ℕ) (known : Known)
     → IsKept trees r facts outcomes table → IsRegularRegistry r → HasEntered r after layer → known.digest ≡ layer → IsRight trees known
     → IsKept trees after (with_value facts layer known)
-      (all_renewed (outcome_at (with_value facts layer known) table.feeds) r.images layer outcomes (users_of r.images layer)) table
+    (all_renewed (outcome_at (with_value facts layer known) table.feeds) r.images layer outcomes (users_of r.images layer)) table
 entered trees r after facts outcomes table layer known k regular h own right =
     subst
     (λ (s : Registrations).

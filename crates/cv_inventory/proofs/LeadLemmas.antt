@@ -12,7 +12,7 @@ use Rattle.cv_records.specs.declared.reply.Reply.{Reply}
 use Rattle.cv_records.specs.declared.reply.Reply.TheVariants as reply
 use Rattle.cv_machine.specs.Layers.{is_claimed_by, is_indexed_as, is_named}
 use Rattle.cv_machine.specs.State.{State, opening, value_at, with_value, without_value}
-use Rattle.cv_machine.specs.Step.{claim, claim_at, drop_at, drop_image, entered, finish, register, register_at, remaining}
+use Rattle.cv_machine.specs.Step.{claim, claim_at, drop_at, drop_image, entered, finish, register, register_at}
 use Rattle.cv_machine.specs.declared.status.Status.{Status}
 use Rattle.cv_machine.specs.declared.status.Status.TheVariants as status
 use Rattle.cv_machine.proofs.LayerTables.{same_key, value_put}
@@ -54,7 +54,8 @@ adds (Some kept) s t m answer e done =
     absurd (cc (ap (λ (p : State × Reply). is_registered p.1) e, done, not_registered (pointwise same kept m.layers) kept))
 adds None s t m answer e done = by_room (nat_lt (length s.images) s.limits.images) e where
   by_room : (b : Bool)
-      → cond b (record s { images = with_value s.images m.hash m.layers; layers = entered s.layers m.layers }, reply.Registered) (s, reply.TooManyImages) ≡ (t, answer)
+      → ◌≡◌ {A = State × Reply}
+      (cond b (record s { images = with_value s.images m.hash m.layers; layers = entered s.layers m.layers }, reply.Registered) (s, reply.TooManyImages)) (t, answer)
       → record s { images = with_value s.images m.hash m.layers; layers = entered s.layers m.layers } ≡ t
   by_room true e = ap (λ (p : State × Reply). p.0) e
   by_room false e = absurd (cc (ap (λ (p : State × Reply). is_registered p.1) e, done))
@@ -63,7 +64,8 @@ stays : (found : Option (List (List ℕ))) (s t : State) (m : Manifest) (answer 
 stays (Some kept) s t m answer e other = ap (λ (p : State × Reply). p.0) e
 stays None s t m answer e other = by_room (nat_lt (length s.images) s.limits.images) e where
   by_room : (b : Bool)
-      → cond b (record s { images = with_value s.images m.hash m.layers; layers = entered s.layers m.layers }, reply.Registered) (s, reply.TooManyImages) ≡ (t, answer)
+      → ◌≡◌ {A = State × Reply}
+      (cond b (record s { images = with_value s.images m.hash m.layers; layers = entered s.layers m.layers }, reply.Registered) (s, reply.TooManyImages)) (t, answer)
       → s ≡ t
   by_room true e = absurd (cc (ap (λ (p : State × Reply). is_registered p.1) e, other))
   by_room false e = ap (λ (p : State × Reply). p.0) e

@@ -150,7 +150,7 @@ either false x y h = sym h
 told_anew : (facts : FactTable) (layer : List ℕ) (known : Known) (feeds : Feeds) (images : Images) (q : List ℕ) (layers : List (List ℕ)) → has_facts facts layer ≡ false
     → value_at images q ≡ Some layers
     → cond (has_text (users_of images layer) q && waits_for layer (outcome_at facts feeds layers)) (Some (outcome_at (with_value facts layer known) feeds layers))
-      (Some (outcome_at facts feeds layers))
+    (Some (outcome_at facts feeds layers))
     ≡ Some (outcome_at (with_value facts layer known) feeds layers)
 told_anew facts layer known feeds images q layers new found = by_named (has_text layers layer) refl where
   user : Bool

@@ -1,8 +1,10 @@
 ghost use Rattle.std.specs.Prelude.{◌≡◌, ◌≤◌, length, Some, IfOk};
 ghost use Rattle.cv_base.specs.declared.limits.TheConstants.{MAX_LAYERS};
+ghost use Rattle.std.specs.Option.{is_some};
+ghost use Rattle.cv_machine.specs.State.{value_at};
 ghost use Rattle.cv_machine.specs.Step.{drop_image, register};
 ghost use Rattle.cv_inventory.specs.Holdings.{Leads, feed_table};
-ghost use Rattle.cv_inventory.specs.code.Changes.{remaining_facts};
+ghost use Rattle.cv_inventory.specs.code.Changes.{remaining_after, remaining_facts};
 ghost use Rattle.cv_inventory.specs.code.Kept.{held, registrations, with_image, without_image};
 
 use crate::inventory::{Facts, Inventory};
@@ -39,7 +41,11 @@ impl<D: Desk + Drop> Inventory<D> {
 
     /// Drops an image: `NotRegistered` if it is not registered, or else `Dropped`. Its layers that no other image names go, but
     /// for those that are claimed. The time is that of its layers, whatever else is registered.
-    pub fn drop_image(&self, alloc: Global, image: &Digest) -> Result<(Inventory<D>, Reply), NoMemory>
+    pub fn drop_image(
+        &self,
+        alloc: Global,
+        image: &Digest,
+    ) -> Result<(Inventory<D>, Reply), NoMemory>
         ensures { IfOk result (Leads (λ state. drop_image state image.now) self.now) }
     {
         let (registry, reply) = self.registry.drop_image(alloc, image)?;
@@ -98,12 +104,32 @@ fn remaining_facts<D: Desk + Drop>(
 ) -> Result<Facts<D>, NoMemory>
     ensures { IfOk result (λ after. after ≡ remaining_facts facts.now layers.now registry.now.layers) }
 {
-    let [layer, rest @ ..] = layers else {
-        return facts.share();
-    };
-    if registry.status(layer).is_some() {
-        return remaining_facts(alloc, facts, rest, registry);
+    let mut remaining = facts.share()?;
+    for layer in layers {
+        let next = remaining_after(alloc, &remaining, layer, registry)?;
+        remaining = next;
     }
-    let next = facts.without(alloc, layer)?;
-    remaining_facts(alloc, &next, rest, registry)
+    Ok(remaining)
+}
+
+/// The facts without that of a layer, if the registry does not know it.
+fn remaining_after<D: Desk + Drop>(
+    alloc: Global,
+    facts: &Facts<D>,
+    layer: &Digest,
+    registry: &Registry,
+) -> Result<Facts<D>, NoMemory>
+    ensures { IfOk result (λ after. after ≡ remaining_after facts.now layer.now registry.now.layers) }
+{
+    if is_known(registry, layer) {
+        return facts.share();
+    }
+    facts.without(alloc, layer)
+}
+
+/// Whether a registry has a layer in its table.
+fn is_known(registry: &Registry, layer: &Digest) -> bool
+    ensures { result ≡ is_some (value_at registry.now.layers layer.now) }
+{
+    registry.status(layer).is_some()
 }

@@ -71,18 +71,19 @@ impl<D: Desk + Drop> Inventory<D> {
         &self,
         alloc: Global,
         registry: Registry,
-        known: LayerFacts<D>,
+        indexed: LayerFacts<D>,
         steps: &mut Steps<L>,
     ) -> Result<Inventory<D>, NoMemory>
-        requires { HasEntered (registrations self.now) registry known.digest }
+        requires { HasEntered (registrations self.now) registry indexed.digest }
         ensures { IfOk result (λ after. after ≡ held registry (feed_table self.now)) }
     {
         self.registry.regular();
-        known.known();
-        let layer = known.digest();
+        indexed.known();
+        let layer = indexed.digest();
         let users = self.registry.users_of(alloc, &layer)?;
         let feeds = self.feeds.share()?;
-        let facts = self.facts.set(alloc, layer, Shared::of(alloc, known)?)?;
+        let shared = Shared::of(alloc, indexed)?;
+        let facts = self.facts.set(alloc, layer, shared)?;
         let outcomes = self.all_renewed(alloc, &facts, &self.outcomes, &users, &layer, steps)?;
         Ok(Inventory::of(registry, facts, outcomes, feeds))
     }

@@ -37,12 +37,7 @@ impl<D: Desk + Drop> Inventory<D> {
     }
 
     /// The feeds after an update of one.
-    fn replaced(
-        &self,
-        alloc: Global,
-        feed: Text,
-        records: Seq<Advisory>,
-    ) -> Result<Feeds, AdvError>
+    fn replaced(&self, alloc: Global, feed: Text, records: Seq<Advisory>) -> Result<Feeds, AdvError>
         ensures value { IfOk result (λ feeds. feeds ≡ replaced (feed_table self.now) feed records) }
         ensures room { IfOk result (λ _. is_full (feed_table self.now) feed ≡ false) }
         ensures full { IsErrOf result AdvError.TooManyFeeds → is_full (feed_table self.now) feed ≡ true }
@@ -70,6 +65,9 @@ impl<D: Desk + Drop> Inventory<D> {
             .outcomes
             .remake(alloc, &Rematch::<L>::new(&feeds), &mut rows, steps)?;
         let feeds = Shared::of(alloc, feeds)?;
-        Ok((Inventory::of(registry, facts, outcomes, feeds), Seq::of(rows)))
+        Ok((
+            Inventory::of(registry, facts, outcomes, feeds),
+            Seq::of(rows),
+        ))
     }
 }

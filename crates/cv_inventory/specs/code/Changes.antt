@@ -10,11 +10,14 @@ use Rattle.cv_outcome.specs.declared.outcome.Outcome.{Outcome}
 abbrev pub Outcomes : Type 0
 Outcomes = List (List ℕ × Outcome)
 
--- the facts without those of these layers that are not in the table
+-- the facts without that of a layer, if it is not in the table
+abbrev pub remaining_after : FactTable → List ℕ → Layers → FactTable
+remaining_after facts layer table = if is_some (value_at table layer) then facts else without_value facts layer
+
+-- the same for several layers
 abbrev pub remaining_facts : FactTable → List (List ℕ) → Layers → FactTable
 remaining_facts facts [] table = facts
-remaining_facts facts (layer ∷ layers) table =
-    remaining_facts (if is_some (value_at table layer) then facts else without_value facts layer) layers table
+remaining_facts facts (layer ∷ layers) table = remaining_facts (remaining_after facts layer table) layers table
 
 -- there is an outcome, and it waits for a layer
 abbrev pub is_waiting : List ℕ → Option Outcome → Bool

@@ -1,5 +1,5 @@
-use Rattle.cv_inventory.proofs.KeptLemmas.{held_same, kept_dropped}
-use Rattle.cv_inventory.proofs.images.Inventory.dropped.Goals as goal
+use Rattle.cv_inventory.proofs.KeptLemmas.{kept_dropped}
+use Rattle.cv_inventory.proofs.inventory.Inventory.dropped.Goals as goal
 
 pub of-requires : goal.of-requires
 of-requires g c =
@@ -7,7 +7,3 @@ of-requires g c =
     kept_dropped _ inside.registry c.args.registry inside.facts c.in_ok-facts.facts inside.outcomes c.in_ok-outcomes.outcomes inside.feeds c.in_ok-feeds.feeds c.args.self.now
     c.args.image.now c.args.layers.now c.self.invariant c.self.view_is c.regular.ensures c.ascends.ensures c.requires c.in_ok-facts.ensures c.in_ok-outcomes.ensures
     c.in_ok-feeds.ensures
-
-pub returns : goal.returns
-returns g c =
-    held_same c.self.inside.registry c.args.registry c.self.inside.feeds c.in_ok-feeds.feeds c.args.self.now c.of.result c.self.view_is c.in_ok-feeds.ensures c.of.ensures

@@ -1,5 +1,5 @@
 use Rattle.cv_inventory.proofs.KeptLemmas.{report_kept}
-use Rattle.cv_inventory.proofs.reads.Inventory.outcome.Goals as goal
+use Rattle.cv_inventory.proofs.inventory.Inventory.outcome.Goals as goal
 
 pub returns : goal.returns
 returns g c = λ known state.

@@ -1,5 +1,5 @@
-use Rattle.cv_inventory.proofs.KeptLemmas.{held_same, kept_added}
-use Rattle.cv_inventory.proofs.images.Inventory.added.Goals as goal
+use Rattle.cv_inventory.proofs.KeptLemmas.{kept_added}
+use Rattle.cv_inventory.proofs.inventory.Inventory.added.Goals as goal
 
 pub of-requires : goal.of-requires
 of-requires g c =
@@ -8,7 +8,3 @@ of-requires g c =
     c.args.self.now c.args.manifest.now.hash c.args.manifest.now.layers c.as_slice-layers.result.now c.in_ok-outcome.outcome c.self.invariant c.self.view_is
     c.requires.registered c.requires.at_most_128_layers c.value.ensures c.as_slice-layers.ensures c.in_ok-outcome.ensures.value c.in_ok-facts.ensures
     c.in_ok-outcomes.ensures c.in_ok-feeds.ensures
-
-pub returns : goal.returns
-returns g c =
-    held_same c.self.inside.registry c.args.registry c.self.inside.feeds c.in_ok-feeds.feeds c.args.self.now c.of.result c.self.view_is c.in_ok-feeds.ensures c.of.ensures
