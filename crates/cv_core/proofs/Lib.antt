@@ -1,0 +1,3 @@
+mod Examples
+pub mod BoardLemmas
+pub mod CoreLemmas
