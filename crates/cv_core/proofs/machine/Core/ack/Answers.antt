@@ -1,4 +1,4 @@
-use Rattle.std.proofs.Common.{ℕ, List, ap, ◌∙◌}
+use Rattle.std.proofs.Common.{ap, ◌∙◌}
 use Rattle.cv_machine.specs.State.{Notifications, without_notification}
 use Rattle.cv_core.specs.Core.{CoreView}
 use Rattle.cv_core.proofs.CoreLemmas.{regular_acked}
