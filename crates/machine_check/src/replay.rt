@@ -13,15 +13,15 @@ use std::marker::Brand;
 use std::sync::ledger::{Blank, Ledger};
 
 /// How many runs there are, and how many events each has. Each begins with a new core.
-const RUNS: u64 = 12;
+const RUNS: u64 = 8;
 
 const EVENTS: u64 = 250;
 
 /// How many events all runs have.
-pub const ALL: u64 = 3000;
+pub const ALL: u64 = 2000;
 
 /// An event of ten is planned and cancelled first, and another one is planned and committed.
-pub const TENTH: u64 = 300;
+pub const TENTH: u64 = 200;
 
 const LIMITS: Limits = Limits {
     images: 4,
