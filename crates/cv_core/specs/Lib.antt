@@ -1,0 +1,5 @@
+pub mod Core
+pub mod Planned
+pub mod Reports
+pub mod code
+pub mod tests

@@ -1,0 +1,42 @@
+ghost use Rattle.std.specs.Prelude.{◌≡◌, ◌^◌, ◌<◌, IfOk};
+ghost use Rattle.cv_machine.specs.Step.{ack};
+ghost use Rattle.cv_core.specs.Core.{IsRegular, counted};
+
+use crate::machine::Core;
+use cv_desk::Desk;
+use cv_notice::Notices;
+use cv_records::Reply;
+use cv_seq::NoMemory;
+use cv_tree::{Share, Shared};
+use std::alloc::Global;
+
+impl<D: Desk + Drop> Core<D> {
+    pub(crate) fn ack(&self, alloc: Global, number: u64) -> Result<(Core<D>, Reply), NoMemory>
+        requires room { self.now.count < 2 ^ 63 }
+        ensures { IfOk result (λ after. after ≡ counted self.now (ack self.now.state number)) }
+    {
+        self.regular();
+        let mut notices = self.notices.value().copy()?;
+        if notices.ack(number).is_err() {
+            return self.unchanged(Reply::NoNotification);
+        }
+        self.with_notices(alloc, notices, Reply::Acked)
+    }
+
+    /// The core after an event that leaves these notifications, with its reply.
+    fn with_notices(
+        &self,
+        alloc: Global,
+        notices: Notices,
+        reply: Reply,
+    ) -> Result<(Core<D>, Reply), NoMemory>
+        requires room { self.now.count < 2 ^ 63 }
+        requires regular { IsRegular (record self.now { state = record self.now.state { notifications = notices } }) }
+        ensures { IfOk result (λ after. after ≡ counted self.now (record self.now.state { notifications = notices }, reply)) }
+    {
+        let inventory = self.inventory.share()?;
+        let notices = Shared::of(alloc, notices)?;
+        let core = Core::of(inventory, notices, self.generation, self.count + 1);
+        Ok((core, reply))
+    }
+}

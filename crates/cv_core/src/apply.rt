@@ -1,0 +1,35 @@
+ghost use Rattle.std.specs.Prelude.{◌≡◌, ◌+◌, ◌^◌, ◌<◌, false, IfOk, OnErr};
+ghost use Rattle.cv_machine.specs.Scans.{IsKnown, Trees, trees_of};
+ghost use Rattle.cv_machine.specs.Step.{step};
+ghost use Rattle.cv_core.specs.Core.{IsSound, act_of, counted, is_update};
+
+use crate::event::Event;
+use crate::machine::Core;
+use cv_base::Steps;
+use cv_desk::Desk;
+use cv_records::Reply;
+use cv_seq::NoMemory;
+use std::alloc::Global;
+use std::sync::ledger::Ledger;
+
+impl<D: Desk + Drop> Core<D> {
+    /// Applies an event, and gives the reply. If memory runs out, the event is spent and the core is as it was. What an update
+    /// notifies of is stated if the type of the desks says of each layer what it has; the other events do not depend on that.
+    pub fn apply<L: Ledger>(
+        &mut self,
+        alloc: Global,
+        event: Event<D>,
+        steps: &mut Steps<L>,
+    ) -> Result<Reply, NoMemory>
+        requires room { self.old.count < 2 ^ 63 }
+        requires sound { IsSound (act_of event) }
+        ensures stepped { IsKnown D.tree → IfOk result (λ reply. (self.new, reply) ≡ counted self.old (step (trees_of D.tree) self.old.state (act_of event))) }
+        ensures others { (trees : Trees) → is_update (act_of event) ≡ false → IfOk result (λ reply. (self.new, reply) ≡ counted self.old (step trees self.old.state (act_of event))) }
+        ensures count { IfOk result (λ _. self.new.count ≡ self.old.count + 1) }
+        ensures err { OnErr result (self.new ≡ self.old) }
+    {
+        let (next, reply) = self.next(alloc, event, steps)?;
+        *self = next;
+        Ok(reply)
+    }
+}

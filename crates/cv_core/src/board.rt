@@ -1,0 +1,77 @@
+ghost use Rattle.std.specs.Prelude.{◌≡◌, IfOk};
+ghost use Rattle.cv_machine.specs.Answer.{Read};
+ghost use Rattle.cv_machine.specs.Board.{board_answer, board_of};
+ghost use Rattle.cv_machine.specs.Scans.{IsKnown, trees_of};
+ghost use Rattle.cv_core.specs.Reports.{report_answer, shown};
+
+use crate::machine::Core;
+use crate::report::{Report, ReportRefusal, report_by};
+use cv_base::Digest;
+use cv_desk::Desk;
+use cv_inventory::Outcomes;
+use cv_notice::Notices;
+use cv_seq::NoMemory;
+use cv_tree::{Share, Shared};
+use std::marker::Model;
+
+/// All that reads are answered from, at one moment: the reports of the registered images, and the notifications. It shares them
+/// with the core, and stays as it is while the core goes on.
+#[derive(Drop)]
+pub struct Board {
+    outcomes: Outcomes,
+    notices: Shared<Notices>,
+    generation: u64,
+}
+
+impl Model for Board {
+    ghost use Rattle.cv_machine.specs.Board.{BoardView};
+    ghost use Rattle.cv_core.specs.code.Boards.{board_view};
+
+    ghost Value = { BoardView };
+
+    ghost view = { λ b. board_view b.outcomes b.notices b.generation };
+}
+
+impl<D: Desk + Drop> Core<D> {
+    /// The board of the core as it is. It takes no memory, and fails only if a count of owners is at its last value.
+    pub fn board(&self) -> Result<Board, NoMemory>
+        ensures { IsKnown D.tree → IfOk result (λ board. board ≡ board_of (trees_of D.tree) self.now.state) }
+    {
+        let outcomes = self.inventory.outcomes()?;
+        let notices = self.notices.share()?;
+        Ok(Board {
+            outcomes,
+            notices,
+            generation: self.generation,
+        })
+    }
+}
+
+impl Board {
+    /// An equal board, which shares all parts. It takes no memory, and fails only if a count of owners is at its last value.
+    pub fn share(&self) -> Result<Board, NoMemory>
+        ensures { IfOk result (λ board. board ≡ self.now) }
+    {
+        let outcomes = self.outcomes.share()?;
+        let notices = self.notices.share()?;
+        Ok(Board {
+            outcomes,
+            notices,
+            generation: self.generation,
+        })
+    }
+
+    /// The report of an image. It takes no memory.
+    pub fn report(&self, image: &Digest) -> Result<Report<'_>, ReportRefusal<'_>>
+        ensures { report_answer image.now (shown result) ≡ board_answer self.now (Read.Report image.now) }
+    {
+        report_by(self.generation, self.outcomes.get(image))
+    }
+
+    /// The notifications that are not acknowledged. It takes no memory.
+    pub fn notices(&self) -> &Notices
+        ensures { result.now ≡ self.now.notifications }
+    {
+        self.notices.value()
+    }
+}

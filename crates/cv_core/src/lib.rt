@@ -1,0 +1,44 @@
+//! The core of the service: the machine of `cv_machine` with its events, its reports, its notifications and its boards. An event
+//! makes a new core that shares the rest with the old one, so that an event that runs out of memory, or is cancelled, changes
+//! nothing.
+//!
+//! ```text
+//! let mut core = Core::<D>::new(alloc, Limits { images: MAX_IMAGES, feeds: MAX_FEEDS })?;
+//! let reply = core.apply(alloc, Event::Register(manifest), &mut steps)?;
+//! match core.report(&image) {
+//!     Ok(report) => print(report.findings),
+//!     Err(ReportRefusal::Pending(layer)) => wait_for(layer),
+//!     Err(refusal) => refuse(refusal),
+//! }
+//! ```
+#![tactic(auto)]
+
+mod ack;
+mod apply;
+mod board;
+mod claim;
+mod drop_image;
+mod event;
+mod index;
+mod limits;
+mod machine;
+mod parts;
+mod plan;
+mod register;
+mod report;
+mod step;
+#[cfg(test)]
+mod tests;
+mod update;
+
+pub use board::Board;
+pub use cv_machine::Limits;
+pub use cv_notice::{Notices, Page, PageError};
+pub use cv_records::{
+    Act, Answer, By, EventEntry, NoticeHead, PageOutcome, ReadEntry, Reply, ReportOutcome,
+};
+pub use event::Event;
+pub use limits::{MAX_FEEDS, MAX_IMAGES};
+pub use machine::Core;
+pub use plan::Planned;
+pub use report::{Report, ReportRefusal};

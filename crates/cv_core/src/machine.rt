@@ -1,0 +1,76 @@
+ghost use Rattle.std.specs.Prelude.{◌≡◌, ◌≤◌, IfOk};
+ghost use Rattle.cv_machine.specs.Layers.{queued};
+ghost use Rattle.cv_core.specs.Core.{IsRegular, opened};
+ghost use Rattle.cv_core.specs.declared.limits.TheConstants.{MAX_FEEDS, MAX_IMAGES};
+
+use cv_base::Digest;
+use cv_desk::Desk;
+use cv_inventory::Inventory;
+use cv_machine::Limits;
+use cv_notice::Notices;
+use cv_seq::{NoMemory, Seq};
+use cv_tree::Shared;
+use std::alloc::Global;
+use std::marker::Model;
+
+/// The machine of the service. Contracts see its state, and how many events it replied to. The outcome of each image is kept, so
+/// that reports are read without matching.
+#[derive(Drop)]
+pub struct Core<D: Desk> {
+    pub(crate) inventory: Inventory<D>,
+    pub(crate) notices: Shared<Notices>,
+    pub(crate) generation: u64,
+    pub(crate) count: u64,
+}
+
+impl<D: Desk> Model for Core<D> {
+    ghost use Rattle.cv_core.specs.Core.{CoreView, IsRegular};
+    ghost use Rattle.cv_core.specs.code.Parts.{core_of};
+
+    ghost Value = { CoreView };
+
+    ghost view = { λ c. core_of c.inventory c.notices c.generation c.count };
+
+    ghost invariant = { λ c. IsRegular (core_of c.inventory c.notices c.generation c.count) };
+}
+
+impl<D: Desk + Drop> Core<D> {
+    /// The core before all events. There may be as many images and feeds as the limits say.
+    pub fn new(alloc: Global, limits: Limits) -> Result<Core<D>, NoMemory>
+        requires images { (1 ≤ limits.images) × (limits.images ≤ MAX_IMAGES) }
+        requires feeds { (1 ≤ limits.feeds) × (limits.feeds ≤ MAX_FEEDS) }
+        ensures { IfOk result (λ core. core ≡ opened limits) }
+    {
+        let notices = Shared::of(alloc, Notices::new(alloc))?;
+        let inventory = Inventory::new(alloc, limits)?;
+        Ok(Core::of(inventory, notices, 0, 0))
+    }
+
+    /// How many events it replied to. It takes no memory.
+    pub fn count(&self) -> u64
+        ensures { result ≡ self.now.count }
+    {
+        self.count
+    }
+
+    /// The notifications that are not acknowledged. It takes no memory.
+    pub fn notices(&self) -> &Notices
+        ensures { result.now ≡ self.now.state.notifications }
+    {
+        self.notices.value()
+    }
+
+    /// The layers that wait for a worker, in ascending order.
+    pub fn queued(&self, alloc: Global) -> Result<Seq<Digest>, NoMemory>
+        ensures { IfOk result (λ layers. layers ≡ queued self.now.state.layers) }
+    {
+        Ok(Seq::of(self.inventory.queued(alloc)?))
+    }
+
+    /// The state is consistent. For proofs: it has no effect at run time.
+    pub fn regular(&self)
+        ensures { IsRegular self.now }
+    {
+        let _inventory = &self.inventory;
+    }
+}

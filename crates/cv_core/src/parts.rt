@@ -1,0 +1,55 @@
+ghost use Rattle.std.specs.Prelude.{◌≡◌, ◌^◌, ◌<◌, IfOk};
+ghost use Rattle.cv_inventory.specs.Holdings.{holding};
+ghost use Rattle.cv_core.specs.Core.{IsRegular, counted};
+ghost use Rattle.cv_core.specs.code.Parts.{core_of};
+
+use crate::machine::Core;
+use cv_desk::Desk;
+use cv_inventory::Inventory;
+use cv_notice::Notices;
+use cv_records::Reply;
+use cv_seq::NoMemory;
+use cv_tree::{Share, Shared};
+
+impl<D: Desk + Drop> Core<D> {
+    /// A core of these parts.
+    pub(crate) fn of(
+        inventory: Inventory<D>,
+        notices: Shared<Notices>,
+        generation: u64,
+        count: u64,
+    ) -> Core<D>
+        requires { IsRegular (core_of inventory notices generation count) }
+        ensures { result ≡ core_of inventory notices generation count }
+    {
+        Core {
+            inventory,
+            notices,
+            generation,
+            count,
+        }
+    }
+
+    /// The core after an event that changes nothing, with its reply.
+    pub(crate) fn unchanged(&self, reply: Reply) -> Result<(Core<D>, Reply), NoMemory>
+        requires room { self.now.count < 2 ^ 63 }
+        ensures { IfOk result (λ after. after ≡ counted self.now (self.now.state, reply)) }
+    {
+        self.with_inventory(self.inventory.share()?, reply)
+    }
+
+    /// The core after an event that leaves this inventory, with its reply.
+    pub(crate) fn with_inventory(
+        &self,
+        inventory: Inventory<D>,
+        reply: Reply,
+    ) -> Result<(Core<D>, Reply), NoMemory>
+        requires room { self.now.count < 2 ^ 63 }
+        ensures { IfOk result (λ after. after ≡ counted self.now (holding self.now.state inventory, reply)) }
+    {
+        inventory.regular();
+        let notices = self.notices.share()?;
+        let core = Core::of(inventory, notices, self.generation, self.count + 1);
+        Ok((core, reply))
+    }
+}
