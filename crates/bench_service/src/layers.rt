@@ -121,8 +121,12 @@ fn file(alloc: Global, number: u64, path: &RelPath) -> Result<Seq<u8>, NoMemory>
 
 /// Adds the paragraph of a package.
 fn add_package(alloc: Global, status: &mut String, name: u64) -> Result<(), NoMemory> {
-    let package = format!(in alloc; "Package: p{name}\nStatus: install ok installed\nPriority: optional\n")?;
+    let package = format!(in alloc;
+        "Package: p{name}\nStatus: install ok installed\nPriority: optional\n"
+    )?;
     status.push_str(package.as_str())?;
-    status.push_str("Section: libs\nArchitecture: amd64\nVersion: 1.2\nDescription: a library\n\n")?;
+    status.push_str(
+        "Section: libs\nArchitecture: amd64\nVersion: 1.2\nDescription: a library\n\n",
+    )?;
     Ok(())
 }

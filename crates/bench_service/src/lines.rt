@@ -29,7 +29,10 @@ fn entries(alloc: Global) -> Result<Vec<Entry>, NoMemory> {
 }
 
 fn by_lane() -> By {
-    By::Lane { lane: 3, line: 100_000 }
+    By::Lane {
+        lane: 3,
+        line: 100_000,
+    }
 }
 
 fn by_worker() -> By {

@@ -82,7 +82,10 @@ fn report_core(rt: &HostRuntime, arguments: &[String]) -> io::Result<()> {
 fn print_costs(rt: &HostRuntime, costs: &[Cost], timed: bool) -> io::Result<()> {
     for work in costs {
         let Cost {
-            name, count, rows, ..
+            name,
+            count,
+            rows,
+            ..
         } = *work;
         if timed {
             println!(rt; "core {name} {count} {rows} {}", work.each())?;

@@ -1,6 +1,4 @@
-use cv_base::{
-    Advisory, Affected, NoMemory, PackageName, Range, RangeKind, Seq, Text, Turn,
-};
+use cv_base::{Advisory, Affected, NoMemory, PackageName, Range, RangeKind, Seq, Text, Turn};
 use std::alloc::Global;
 
 /// How many packages the records are about.

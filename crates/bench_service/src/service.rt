@@ -1,10 +1,10 @@
 ghost use Rattle.std.specs.Prelude.{◌≡◌, ◌<◌};
 ghost use Rattle.cv_core.specs.Core.{IsSound, act_of};
 
+use crate::cost::{Cost, add, processor_time};
 use crate::images::{hash, last_layer, manifest, manifest_over};
 use crate::layers::{MadeDesk, facts_of};
 use crate::records::records;
-use crate::cost::{Cost, add, processor_time};
 use cv_base::{NoMemory, Steps, Text};
 use cv_core::{Core, Event, Limits, MAX_FEEDS, MAX_IMAGES, Reply};
 use cv_facts::LayerFacts;
