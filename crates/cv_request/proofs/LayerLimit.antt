@@ -1,14 +1,17 @@
--- A manifest has at most `MAX_LAYERS` layers.
+-- A manifest has at least one layer and at most `MAX_LAYERS`.
 use Rattle.std.proofs.Common.{◌≡◌, ◌≤◌, ℕ, ◌+◌, Bool, true, false, List, [], ◌∷◌, length, refl, ap, sym, ◌∙◌, arith}
 use Rattle.std.proofs.lemmas.Bool.Decides.{nat_tests}
-use Rattle.std.specs.Prelude.{◌==◌, nat_lt, cond, Result, Ok, Err, Option}
+use Rattle.std.specs.Prelude.{◌==◌, nat_lt, cond, codes, Result, Ok, Err, Option}
 use Rattle.serde_json.specs.Data.{Data, Items, no_items, item}
+use Rattle.serde_json.specs.Find.{get}
 use Rattle.cv_base.specs.Results.{◌>>=◌}
 use Rattle.cv_base.specs.declared.limits.TheConstants.{MAX_LAYERS}
-use Rattle.cv_request.specs.Manifest.{checked_layers, count, layer_of, layers_from, layers_in, list_or}
+use Rattle.cv_base.specs.declared.manifest.Manifest.{Manifest}
+use Rattle.cv_osv.specs.Json.{object_or}
+use Rattle.cv_request.specs.Manifest.{checked_layers, count, digest_or, layer_of, layers_from, layers_in, list_or, manifest_of}
 use Rattle.cv_request.specs.Fault.{refusing}
 use Rattle.cv_request.specs.declared.error.RequestWhat.{RequestWhat}
-use Rattle.cv_request.specs.declared.error.RequestWhat.TheVariants.{BadLayers, NoLayers, TooManyLayers}
+use Rattle.cv_request.specs.declared.error.RequestWhat.TheVariants.{BadHash, BadLayers, BadManifest, NoLayers, TooManyLayers}
 
 -- both steps of what was read were read
 bind_ok : {A B : Type 0} (r : Result A RequestWhat) (f : A → Result B RequestWhat) (y : B) → (r >>= f) ≡ Ok y → (x : A) × (r ≡ Ok x) × (f x ≡ Ok y)
@@ -43,3 +46,31 @@ read_within found layers h = by_read (layers_in found) refl h
     by_read : (r : Result (List (List ℕ)) RequestWhat) → layers_in found ≡ r → refusing r ≡ Ok layers → length layers ≤ MAX_LAYERS
     by_read (Ok xs) e k = let same : xs ≡ layers = cc (k) in layers_within found layers (e ∙ ap Ok same)
     by_read (Err what) e k = absurd (cc)
+
+some_by : (items : Items) (layers : List (List ℕ)) (is_none is_many : Bool) → (count items == 0) ≡ is_none
+    → cond is_none (Err NoLayers) (cond is_many (Err TooManyLayers) (layers_from 0 items)) ≡ Ok layers → 1 ≤ length layers
+some_by items layers true is_many e h = absurd (cc)
+some_by items layers false true e h = absurd (cc)
+some_by items layers false false e h = let many = layers_many 0 items layers h in grind (arith, nat_tests)
+
+layers_some : (found : Option Data) (layers : List (List ℕ)) → layers_in found ≡ Ok layers → 1 ≤ length layers
+layers_some found layers h =
+    let listed = bind_ok (list_or BadLayers found) checked_layers layers h in
+    some_by listed.0 layers (count listed.0 == 0) (nat_lt MAX_LAYERS (count listed.0)) refl listed.2
+
+manifest_some : (d : Data) (manifest : Manifest) → manifest_of d ≡ Ok manifest → 1 ≤ length manifest.layers
+unfolding manifest_of
+manifest_some d manifest h =
+    let checked = bind_ok (object_or BadManifest d) _ manifest h in
+    let hash = bind_ok (digest_or BadHash (get (codes "hash") d)) _ manifest checked.2 in
+    let layers = bind_ok (layers_in (get (codes "layers") d)) _ manifest hash.2 in
+    let whole : record { hash = hash.0; layers = layers.0 } ≡ manifest = cc (layers.2) in
+    rw (← whole) (layers_some (get (codes "layers") d) layers.0 layers.1)
+
+refusing_ok : {A : Type 0} (r : Result A RequestWhat) (x : A) → refusing r ≡ Ok x → r ≡ Ok x
+refusing_ok (Ok y) x h = let same : y ≡ x = cc in ap Ok same
+refusing_ok (Err what) x h = absurd (cc)
+
+-- a manifest that was read has a layer
+pub read_some : (d : Data) (manifest : Manifest) → refusing (manifest_of d) ≡ Ok manifest → 1 ≤ length manifest.layers
+read_some d manifest h = manifest_some d manifest (refusing_ok (manifest_of d) manifest h)

@@ -1,2 +1,4 @@
+mod Examples
 pub mod LayerLimit
 pub mod Layers
+pub mod Records

@@ -1,14 +1,24 @@
-//! Reads the requests of a client from JSON: today the manifest of an image.
+//! Reads the requests of a client, each a line of JSON.
 //!
 //! ```text
-//! {"hash":"sha256:11..","layers":[{"hash":"sha256:aa..","uri":"..","headers":{}}]}
+//! {"do":"register","manifest":{"hash":"sha256:11..","layers":[{"hash":"sha256:aa..","uri":"..","headers":{}}]}}
+//! {"do":"update","feed":"debian","advisories":[{"id":"DSA-5417-1","modified":"2023-05-31T00:00:00Z"}]}
+//! {"lane":1,"do":"report","image":"sha256:11.."}
+//! {"lane":1,"do":"page","number":1,"size":100,"page":1}
 //! ```
 #![tactic(auto)]
 
 mod error;
+mod limits;
 mod line;
 mod manifest;
+mod member;
+mod read;
+mod request;
 
 pub use error::{RequestError, RequestFault, RequestWhat};
+pub use limits::{MAX_FEED_NAME_LEN, MAX_LANES, MAX_PAGE_ROWS};
 pub use line::read_json;
 pub use manifest::read_manifest;
+pub use read::read_request;
+pub use request::{Act, Request};

@@ -27,14 +27,14 @@ pub fn read_manifest(alloc: Global, value: &Value) -> Result<Manifest, RequestEr
     }
 }
 
-fn object_or(value: &Value, bad: RequestWhat) -> Result<(), RequestWhat>
+pub(crate) fn object_or(value: &Value, bad: RequestWhat) -> Result<(), RequestWhat>
     ensures { result ≡ object_or bad (view value.now) }
 {
     if value.is_object() { Ok(()) } else { Err(bad) }
 }
 
 /// A member that is the text of a digest.
-fn digest_or(found: Option<&Value>, bad: RequestWhat) -> Result<Digest, RequestWhat>
+pub(crate) fn digest_or(found: Option<&Value>, bad: RequestWhat) -> Result<Digest, RequestWhat>
     ensures { result ≡ digest_or bad (option_map (λ v. view v.now) found.entry) }
 {
     let Some(text) = found.and_then(Value::as_str) else {

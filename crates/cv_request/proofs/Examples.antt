@@ -1,0 +1,31 @@
+-- Lines read by the definition, computed.
+use Rattle.std.specs.Prelude.{◌≡◌, codes, List, [], Ok, Err, refl}
+use Rattle.std.specs.Str.{chars, is_utf8}
+use Rattle.serde_json.proofs.OnLiterals.{serde_json_on_literals}
+use Rattle.cv_osv.specs.Records.{records_of}
+use Rattle.cv_request.specs.Request.{act_of, page_of, request_line, request_of, update_of}
+use Rattle.cv_request.specs.declared.error.RequestFault.TheVariants.{BadJson, BadRequest}
+use Rattle.cv_request.specs.declared.error.RequestWhat.TheVariants.{BadLane, BadNumber}
+use Rattle.cv_request.specs.declared.request.Act.TheVariants as act
+
+-- a page of lane 3
+page :
+    request_line (codes "{\"lane\":3,\"do\":\"page\",\"number\":7,\"size\":1000,\"page\":1}")
+    ≡ Ok (record { lane = 3; act = act.Page 7 1000 1 })
+unfolding is_utf8 chars serde_json_on_literals request_of act_of page_of
+page = refl
+
+-- a feed without records
+update :
+    request_line (codes "{\"do\":\"update\",\"feed\":\"debian-12\",\"advisories\":[]}")
+    ≡ Ok (record { lane = 0; act = act.Update (codes "debian-12") [] })
+unfolding is_utf8 chars serde_json_on_literals request_of act_of update_of records_of
+update = refl
+
+-- a line without a value, a lane that is tested first, and a number with a sign
+faults :
+    (request_line (codes " ") ≡ Err BadJson)
+    × (request_line (codes "{\"lane\":null,\"do\":7}") ≡ Err (BadRequest BadLane))
+    × (request_line (codes "{\"do\":\"ack\",\"number\":-0}") ≡ Err (BadRequest BadNumber))
+unfolding is_utf8 chars serde_json_on_literals request_of act_of
+faults = (refl, refl, refl)

@@ -1,0 +1,74 @@
+//! Members of a request. A member with the value null is present.
+ghost use Rattle.std.specs.Prelude.{◌≡◌, ◌<◌, ◌≤◌, Some, IfOk};
+ghost use Rattle.std.specs.List.{list_all};
+ghost use Rattle.std.specs.Option.{option_map};
+ghost use Rattle.serde_json.specs.View.{view};
+ghost use Rattle.cv_base.specs.Answer.{Yields};
+ghost use Rattle.cv_osv.specs.Json.{text_or};
+ghost use Rattle.cv_request.specs.Member.{feed_or, is_feed_byte, is_feed_name, lane_or, number_or};
+
+use crate::error::RequestWhat;
+use crate::limits::{MAX_FEED_NAME_LEN, MAX_LANES};
+use serde_json::Value;
+
+pub(crate) fn text_or(found: Option<&Value>, bad: RequestWhat) -> Result<&str, RequestWhat>
+    ensures { Yields (λ what. Some what) (λ text. text.now) result (text_or bad (option_map (λ v. view v.now) found.entry)) }
+{
+    found.and_then(Value::as_str).ok_or(bad)
+}
+
+/// A whole number from `least` to `most`.
+pub(crate) fn number_or(
+    found: Option<&Value>,
+    least: u64,
+    most: u64,
+    bad: RequestWhat,
+) -> Result<u64, RequestWhat>
+    ensures value { result ≡ number_or least most bad (option_map (λ v. view v.now) found.entry) }
+    ensures least { IfOk result (λ number. least ≤ number) }
+    ensures most { IfOk result (λ number. number ≤ most) }
+{
+    match found.and_then(Value::as_u64) {
+        Some(number) if least <= number && number <= most => Ok(number),
+        _ => Err(bad),
+    }
+}
+
+/// The number of a lane, which is 0 if the member is absent.
+pub(crate) fn lane_or(found: Option<&Value>) -> Result<u8, RequestWhat>
+    ensures value { result ≡ lane_or (option_map (λ v. view v.now) found.entry) }
+    ensures lane { IfOk result (λ lane. lane < MAX_LANES) }
+{
+    if found.is_none() {
+        return Ok(0);
+    }
+    let lane = number_or(found, 0, u64::from(MAX_LANES - 1), RequestWhat::BadLane)?;
+    Ok(lane as u8)
+}
+
+pub(crate) fn feed_or(found: Option<&Value>) -> Result<&str, RequestWhat>
+    ensures { Yields (λ what. Some what) (λ text. text.now) result (feed_or (option_map (λ v. view v.now) found.entry)) }
+{
+    match found.and_then(Value::as_str) {
+        Some(text) if is_feed_name(text.as_bytes()) => Ok(text),
+        _ => Err(RequestWhat::BadFeed),
+    }
+}
+
+fn is_feed_name(text: &[u8]) -> bool
+    ensures { result ≡ is_feed_name text.now }
+{
+    1 <= text.len() && text.len() <= MAX_FEED_NAME_LEN && are_feed_bytes(text)
+}
+
+fn are_feed_bytes(text: &[u8]) -> bool
+    ensures { result ≡ list_all is_feed_byte text.now }
+{
+    text.iter().all(|byte| is_feed_byte(*byte))
+}
+
+fn is_feed_byte(byte: u8) -> bool
+    ensures { result ≡ is_feed_byte byte }
+{
+    matches!(byte, b'a'..=b'z' | b'0'..=b'9' | b'.' | b'_' | b'-')
+}

@@ -1,0 +1,27 @@
+use cv_base::{Advisory, Digest, Manifest, Seq, Text};
+
+/// What a client asks for.
+#[derive(Debug, PartialEq, Eq, Drop)]
+pub enum Act {
+    /// To register an image.
+    Register(Manifest),
+    /// To drop the image of this hash.
+    DropImage(Digest),
+    /// To replace all records of a feed.
+    Update { feed: Text, records: Seq<Advisory> },
+    /// To report the findings of the image of this hash.
+    Report(Digest),
+    /// To show a page of a notification: its number, the rows of a page, and the page, numbered from 1.
+    Page { number: u64, size: u32, page: u64 },
+    /// To list the notifications.
+    List,
+    /// To acknowledge the notification of this number.
+    Ack(u64),
+}
+
+/// A request, and the lane that it belongs to.
+#[derive(Debug, PartialEq, Eq, Drop)]
+pub struct Request {
+    pub lane: u8,
+    pub act: Act,
+}
