@@ -1,4 +1,4 @@
-ghost use Rattle.std.specs.Prelude.{◌≡◌, ◌<◌, ◌↔◌, IsTrue};
+ghost use Rattle.std.specs.Prelude.{◌≡◌, ◌<◌, IsTrue};
 ghost use Rattle.cv_core.specs.Core.{IsSound, act_of};
 ghost use Rattle.cv_core.specs.tests.Sample.{rows_of};
 
@@ -7,7 +7,7 @@ use cv_base::{
     Advisory, Affected, Digest, Kind, MAX_LAYERS, Manifest, PackageName, Range, RangeKind, Seq,
     Steps, Text, Turn,
 };
-use cv_desk::{Desk, Table, TableDesk, TableEntry};
+use cv_desk::{Table, TableDesk, TableEntry};
 use cv_facts::{LayerFacts, index_layer};
 use cv_seq::NoMemory;
 use std::alloc::Global;
@@ -149,8 +149,17 @@ fn is_sound(event: &Event<Layer>) -> bool
     ensures { IsTrue result → IsSound (act_of event.now) }
 {
     match event {
-        Event::Register(manifest) => (1..=MAX_LAYERS).contains(&manifest.layers.as_slice().len()),
-        _ => true,
+        Event::Register(manifest) => {
+            let layers = manifest.layers.as_slice();
+            !layers.is_empty() && layers.len() <= MAX_LAYERS
+        }
+        Event::DropImage(_)
+        | Event::Claim(_, _)
+        | Event::Indexed(_, _)
+        | Event::Fault(_, _)
+        | Event::Memory(_, _)
+        | Event::Update(_, _)
+        | Event::Ack(_) => true,
     }
 }
 
