@@ -46,9 +46,10 @@ fn run<L: Ledger>(rt: &HostRuntime, blank: Blank, plan: Plan) -> Result<Vec<Cost
     requires some { 0 < L.parts }
 {
     let mut steps = Steps::<L>::open(blank);
-    let mut service = Service::new(rt, images_of(plan))?;
+    let images = images_of(plan);
+    let mut service = Service::new(rt, images)?;
     service.notify(rt, plan.times, &mut steps)?;
-    service.fill(rt, 1..service.images, &mut steps)?;
+    service.fill(rt, 1..images, &mut steps)?;
     service.come_and_go(rt, plan.times, &mut steps)?;
     service.update_all(rt, plan.updates, &mut steps)?;
     Ok(service.costs)
