@@ -1,1 +1,4 @@
+mod Examples
 pub mod Floats
+pub mod Plain
+pub mod Tags

@@ -1,6 +1,12 @@
 pub mod Bad
+pub mod Entry
+pub mod Event
 pub mod Finding
 pub mod Line
+pub mod Members
 pub mod Names
+pub mod Read
 pub mod Refusal
+pub mod Rows
 pub mod Scan
+pub mod Tag

@@ -1,8 +1,9 @@
 ghost use Rattle.std.specs.Prelude.{◌≡◌, IfOk};
 ghost use Rattle.serde_json.specs.Data.{no_members, object, put, string};
 ghost use Rattle.serde_json.specs.View.{view, members_view};
+ghost use Rattle.cv_base.specs.Digest.{digest_text};
 
-use cv_base::NoMemory;
+use cv_base::{Digest, NoMemory};
 use serde_json::{Map, Value};
 use std::alloc::Global;
 
@@ -36,6 +37,14 @@ impl Object {
     {
         let value = Value::String(String::from_str(alloc, text)?);
         self.value(alloc, key, value)
+    }
+
+    /// With one more member, which is a digest in full.
+    pub fn digest(self, alloc: Global, key: &str, digest: &Digest) -> Result<Object, NoMemory>
+        ensures { IfOk result (λ o. members_view o.map.entries ≡ put key.now (string (digest_text digest.now)) (members_view self.map.entries)) }
+    {
+        let text = digest.text(alloc)?;
+        self.text(alloc, key, text.as_str())
     }
 
     /// The object.

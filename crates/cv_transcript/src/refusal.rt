@@ -48,7 +48,12 @@ fn line_value(alloc: Global, line: u64, word: &str) -> Result<Value, NoMemory>
     )
 }
 
-fn refusal_value(alloc: Global, line: u64, error: &RequestError) -> Result<Value, NoMemory>
+/// The JSON of an input line that is refused.
+pub(crate) fn refusal_value(
+    alloc: Global,
+    line: u64,
+    error: &RequestError,
+) -> Result<Value, NoMemory>
     ensures { IfOk result (λ value. view value ≡ refusal_data line error.now) }
 {
     match *error {

@@ -1,0 +1,31 @@
+-- Examples of lines and their tags.
+use Rattle.std.proofs.Common.{◌≡◌, ℕ, List, false, true, Some, refl}
+use Rattle.std.specs.Prelude.{codes}
+use Rattle.serde_json.specs.Data.{member, no_members, number, object, string, unsigned}
+use Rattle.cv_base.specs.Digest.{digest_text}
+use Rattle.cv_records.specs.declared.event.Act.TheVariants as act
+use Rattle.cv_records.specs.declared.event.By.TheVariants as by
+use Rattle.cv_records.specs.declared.read.Answer.TheVariants as answer
+use Rattle.cv_records.specs.declared.reply.Reply.TheVariants as reply
+use Rattle.cv_transcript.specs.Event.{event_data}
+use Rattle.cv_transcript.specs.Read.{read_data}
+use Rattle.cv_transcript.specs.Tag.{LaneEvent, LaneRead, tag_of}
+
+-- the members of an event stand in the order of their names
+claim : (layer : List ℕ) → event_data (record { number = 2; by = by.Worker 0; act = act.Claim layer; reply = reply.Claimed })
+    ≡ object (member (codes "at") (number (unsigned 2)) (member (codes "event") (string (codes "claim")) (member (codes "layer") (string (digest_text layer))
+    (member (codes "reply") (string (codes "claimed")) (member (codes "worker") (number (unsigned 0)) no_members)))))
+claim layer = refl
+
+-- a read that ran out of memory has neither its word nor what it asks for
+no_memory : read_data (record { front = 4; lane = 1; line = 9; answer = answer.NoMemory })
+    ≡ object (member (codes "at") (number (unsigned 4)) (member (codes "lane") (number (unsigned 1)) (member (codes "line") (number (unsigned 9)) (member (codes "reply") (string (codes "no_memory")) no_members))))
+no_memory = refl
+
+-- it has the tag of a read
+no_memory_tag : tag_of (read_data (record { front = 4; lane = 1; line = 9; answer = answer.NoMemory })) ≡ Some (LaneRead 4 1 9 true)
+no_memory_tag = refl
+
+-- an event of a lane has the tag of its number, the lane and the line
+ack_tag : tag_of (event_data (record { number = 5; by = by.Lane 0 11; act = act.Ack 1; reply = reply.Acked })) ≡ Some (LaneEvent 5 0 11)
+ack_tag = refl
