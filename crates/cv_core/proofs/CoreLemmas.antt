@@ -1,9 +1,8 @@
 -- What each event leaves is the machine after it, and is consistent.
-use Rattle.std.specs.Prelude.{◌≡◌, ℕ, ◌+◌, ◌≤◌, ◌<◌, Bool, true, false, cond, List, [], ◌∷◌, ◌++◌, length, map, All, Option, Some, None, Result, Ok, Err, IfOk, refl}
+use Rattle.std.specs.Prelude.{◌≡◌, ℕ, ◌+◌, ◌≤◌, ◌<◌, true, false, cond, List, [], ◌∷◌, ◌++◌, length, All, Option, Some, None, Result, IfOk, refl}
 use Rattle.std.specs.List.{AllByRecursion}
 use Rattle.std.specs.Map.{keys_of}
-use Rattle.std.specs.Option.{is_some, option_map}
-use Rattle.std.specs.Result.{is_ok}
+use Rattle.std.specs.Option.{is_some}
 use Rattle.std.proofs.Common.{ap, arith, subst, sym, ◌∙◌}
 use Rattle.std.proofs.lemmas.List.Elements.{All-from_recursion}
 use Rattle.cv_advdb.specs.Feeds.{by_id, is_full as is_full_table}
@@ -14,7 +13,7 @@ use Rattle.cv_records.specs.declared.reply.Reply.TheVariants as reply
 use Rattle.cv_machine.specs.Laws.{IsConsistent}
 use Rattle.cv_machine.specs.Rows.{rows_of}
 use Rattle.cv_machine.specs.Scans.{Trees}
-use Rattle.cv_machine.specs.State.{Notifications, State, notification_at, with_value, without_notification}
+use Rattle.cv_machine.specs.State.{Feeds, Notifications, State, notification_at, with_value, without_notification}
 use Rattle.cv_machine.specs.Step.{ack, ack_at, notified, update, updated}
 use Rattle.cv_machine.specs.declared.limits.Limits.{Limits}
 use Rattle.cv_machine.proofs.Consistent.{ack_consistent, opening_consistent, updated_consistent}
@@ -50,15 +49,16 @@ pub regular_with : (h inventory : Holdings) (ns notices : Notifications) (genera
     → IsRegularPart inventory → notices ≡ ns → IsRegular (core_of inventory notices generation (count + 1))
 regular_with h inventory ns notices generation count k r b = rw b record {
   consistent = joined (core_of h ns generation count).state inventory k.consistent r;
-  generations = omega (arith, k.generations);
+  generations = let low : generation ≤ count = k.generations in omega (arith, low);
 }
 
 -- an event that leads from the inventory to another one
 pub led : {E : Type 0} (event : State → State × Reply) (h inventory : Holdings) (ns : Notifications) (generation count : ℕ) (core : CoreView) (answer : Reply) (r : Result (CoreView × Reply) E)
     → core_of h ns generation count ≡ core → Leads event h (inventory, answer)
     → IfOk r (λ after. after ≡ counted core (holding core.state inventory, answer)) → IfOk r (λ after. after ≡ counted core (event core.state))
-led event h inventory ns generation count core answer r is leads = rw (← is) (λ known.
-    subst (λ (end : State × Reply). IfOk r (λ after. after ≡ counted (core_of h ns generation count) end)) (sym (leads (core_of h ns generation count).state)) known)
+led event h inventory ns generation count core answer r is leads =
+    subst (λ (k : CoreView). IfOk r (λ after. after ≡ counted k (holding k.state inventory, answer)) → IfOk r (λ after. after ≡ counted k (event k.state))) is
+    (subst (λ (end : State × Reply). IfOk r (λ after. after ≡ counted (core_of h ns generation count) end)) (sym (leads (core_of h ns generation count).state)))
 
 -- Update
 
@@ -82,7 +82,7 @@ pub regular_updated : (h inventory : Holdings) (ns notices : Notifications) (gen
     → IsRegularPart inventory → notices ≡ notified ns (generation + 1) rows → IsRegular (core_of inventory notices (generation + 1) (count + 1))
 regular_updated h inventory ns notices generation count rows k r b = rw b record {
   consistent = updated_consistent (core_of inventory ns generation count).state inventory.feeds rows (joined (core_of h ns generation count).state inventory k.consistent r) r.feeds r.few_feeds;
-  generations = omega (arith, k.generations);
+  generations = let low : generation ≤ count = k.generations in omega (arith, low);
 }
 
 -- an update that there is room for
@@ -90,15 +90,22 @@ pub update_is : (trees : Trees) (h inventory : Holdings) (ns : Notifications) (g
     → core_of h ns generation count ≡ core → inventory ≡ record h { feeds = with_value h.feeds feed (by_id records) }
     → rows ≡ rows_of trees (holding core.state h) (with_value h.feeds feed (by_id records)) → is_full_table (feed_table h) feed ≡ false
     → updated (holding core.state inventory) inventory.feeds rows ≡ update trees core.state feed records
-update_is trees h inventory ns generation count core feed records rows is value found room = rw (← is, value) (λ rows_are.
-    ap (updated (core_of h ns generation count).state (with_value h.feeds feed (by_id records))) rows_are
-    ∙ sym (ap (λ full. cond full ((core_of h ns generation count).state, reply.TooManyFeeds) (updated (core_of h ns generation count).state (with_value h.feeds feed (by_id records)) (rows_of trees (core_of h ns generation count).state (with_value h.feeds feed (by_id records))))) room)) found
+update_is trees h inventory ns generation count core feed records rows is value found room =
+    let feeds : Feeds = with_value h.feeds feed (by_id records) in
+    let s : State = (core_of h ns generation count).state in
+    let same : rows ≡ rows_of trees s feeds → updated s feeds rows ≡ update trees s feed records =
+    λ rows_are. ap (updated s feeds) rows_are ∙ sym (ap (λ full. cond full (s, reply.TooManyFeeds) (updated s feeds (rows_of trees s feeds))) room) in
+    subst (λ (k : CoreView). rows ≡ rows_of trees (holding k.state h) feeds → updated (holding k.state inventory) inventory.feeds rows ≡ update trees k.state feed records) is
+    (λ rows_are. subst (λ (i : Holdings). updated (holding s i) i.feeds rows ≡ update trees s feed records) (sym value) (same rows_are)) found
 
 -- an update of a new feed, where there are as many as may be
 pub update_full : (trees : Trees) (h : Holdings) (ns : Notifications) (generation count : ℕ) (core : CoreView) (feed : List ℕ) (records : List Advisory)
     → core_of h ns generation count ≡ core → is_full_table (feed_table h) feed ≡ true → (core.state, reply.TooManyFeeds) ≡ update trees core.state feed records
-update_full trees h ns generation count core feed records is full = rw (← is)
-    (sym (ap (λ b. cond b ((core_of h ns generation count).state, reply.TooManyFeeds) (updated (core_of h ns generation count).state (with_value h.feeds feed (by_id records)) (rows_of trees (core_of h ns generation count).state (with_value h.feeds feed (by_id records))))) full))
+update_full trees h ns generation count core feed records is full =
+    let feeds : Feeds = with_value h.feeds feed (by_id records) in
+    let s : State = (core_of h ns generation count).state in
+    subst (λ (k : CoreView). (k.state, reply.TooManyFeeds) ≡ update trees k.state feed records) is
+    (sym (ap (λ b. cond b (s, reply.TooManyFeeds) (updated s feeds (rows_of trees s feeds))) full))
 
 -- Ack
 

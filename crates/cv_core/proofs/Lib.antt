@@ -1,2 +1,3 @@
 mod Examples
+pub mod BoardLemmas
 pub mod CoreLemmas

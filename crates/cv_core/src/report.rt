@@ -46,7 +46,7 @@ pub fn report_by(
     generation: u64,
     outcome: Option<&Outcome>,
 ) -> Result<Report<'_>, ReportRefusal<'_>>
-    ensures { shown result ≡ report_by generation (option_map (λ outcome. outcome.now) outcome) }
+    ensures { shown result ≡ report_by generation (option_map (λ outcome. outcome.now) outcome.entry) }
 {
     match outcome {
         None => Err(ReportRefusal::NotRegistered),
