@@ -1,5 +1,5 @@
 -- Lines read by the definition, computed.
-use Rattle.std.specs.Prelude.{◌≡◌, codes, List, [], Ok, Err, refl}
+use Rattle.std.specs.Prelude.{◌≡◌, codes, [], Ok, Err, refl}
 use Rattle.std.specs.Str.{chars, is_utf8}
 use Rattle.serde_json.proofs.OnLiterals.{serde_json_on_literals}
 use Rattle.cv_osv.specs.Records.{records_of}

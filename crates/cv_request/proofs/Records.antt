@@ -1,5 +1,5 @@
 -- The refusal of a list of records as that of a line.
-use Rattle.std.specs.Prelude.{◌≡◌, List, IfSome, Result, Ok, Err, refl}
+use Rattle.std.specs.Prelude.{◌≡◌, List, IfSome, Result, Err}
 use Rattle.std.proofs.Common.{ap}
 use Rattle.cv_base.specs.declared.advisory.Advisory.{Advisory}
 use Rattle.cv_osv.specs.Answer as osv
