@@ -1,5 +1,5 @@
 -- What an inventory holds (defined by this project): all of the machine but the generation and the notifications.
-use Rattle.std.specs.Prelude.{◌≡◌, ℕ, List, Option, Some, None}
+use Rattle.std.specs.Prelude.{◌≡◌, ℕ, [], Option, Some, None}
 use Rattle.cv_advdb.specs.Feeds.{FeedTable}
 use Rattle.cv_records.specs.declared.read.ReportOutcome.{ReportOutcome}
 use Rattle.cv_records.specs.declared.read.ReportOutcome.TheVariants as report

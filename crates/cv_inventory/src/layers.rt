@@ -1,14 +1,18 @@
 ghost use Rattle.std.specs.Prelude.{◌≡◌, IfOk};
 ghost use Rattle.cv_machine.specs.Step.{claim, finish};
-ghost use Rattle.cv_inventory.specs.Holdings.{Leads};
+ghost use Rattle.cv_inventory.specs.Holdings.{Leads, feed_table};
+ghost use Rattle.cv_inventory.specs.code.Kept.{HasEntered, held, registrations};
 
 use crate::inventory::Inventory;
+use crate::replies::is_entered;
 use cv_base::{Digest, Steps};
 use cv_desk::Desk;
 use cv_facts::LayerFacts;
 use cv_machine::Status;
 use cv_records::Reply;
+use cv_registry::Registry;
 use cv_seq::NoMemory;
+use cv_tree::{Share, Shared};
 use std::alloc::Global;
 use std::sync::ledger::Ledger;
 
@@ -23,7 +27,8 @@ impl<D: Desk + Drop> Inventory<D> {
     ) -> Result<(Inventory<D>, Reply), NoMemory>
         ensures { IfOk result (Leads (λ state. claim state layer.now worker) self.now) }
     {
-        Err(NoMemory)
+        let (registry, reply) = self.registry.claim(alloc, layer, worker)?;
+        Ok((self.with_registry(registry)?, reply))
     }
 
     /// A worker has indexed a layer, of which these are the facts: `Entered`, and the layer is indexed; `NotClaimed` if the layer is
@@ -38,7 +43,12 @@ impl<D: Desk + Drop> Inventory<D> {
     ) -> Result<(Inventory<D>, Reply), NoMemory>
         ensures { IfOk result (Leads (λ state. finish state facts.digest worker Status.Indexed Reply.Entered) self.now) }
     {
-        Err(NoMemory)
+        self.registry.regular();
+        let (registry, reply) = self.registry.index(alloc, &facts.digest(), worker)?;
+        if is_entered(&reply) {
+            return Ok((self.entered(alloc, registry, facts, steps)?, reply));
+        }
+        Ok((self.with_registry(registry)?, reply))
     }
 
     /// A worker gives a layer back, after a fault or for want of memory: `Requeued`, and the layer waits for a worker again;
@@ -51,6 +61,30 @@ impl<D: Desk + Drop> Inventory<D> {
     ) -> Result<(Inventory<D>, Reply), NoMemory>
         ensures { IfOk result (Leads (λ state. finish state layer.now worker Status.Queued Reply.Requeued) self.now) }
     {
-        Err(NoMemory)
+        self.registry.regular();
+        let (registry, reply) = self.registry.requeue(alloc, layer, worker)?;
+        Ok((self.with_registry(registry)?, reply))
+    }
+
+    /// The inventory with the facts of a layer, which the registry has as indexed now.
+    fn entered<L: Ledger>(
+        &self,
+        alloc: Global,
+        registry: Registry,
+        indexed: LayerFacts<D>,
+        steps: &mut Steps<L>,
+    ) -> Result<Inventory<D>, NoMemory>
+        requires { HasEntered (registrations self.now) registry indexed.digest }
+        ensures { IfOk result (λ after. after ≡ held registry (feed_table self.now)) }
+    {
+        self.registry.regular();
+        indexed.known();
+        let layer = indexed.digest();
+        let users = self.registry.users_of(alloc, &layer)?;
+        let feeds = self.feeds.share()?;
+        let shared = Shared::of(alloc, indexed)?;
+        let facts = self.facts.set(alloc, layer, shared)?;
+        let outcomes = self.all_renewed(alloc, &facts, &self.outcomes, &users, &layer, steps)?;
+        Ok(Inventory::of(registry, facts, outcomes, feeds))
     }
 }

@@ -12,7 +12,10 @@
 mod images;
 mod inventory;
 mod layers;
+mod parts;
 mod reads;
+mod renew;
+mod replies;
 mod update;
 
 pub use inventory::{Inventory, Outcomes};

@@ -1,14 +1,17 @@
-ghost use Rattle.std.specs.Prelude.{◌≡◌, true, false, IfOk, IsErrOf};
-ghost use Rattle.cv_advdb.specs.Feeds.{by_id, is_full};
+ghost use Rattle.std.specs.Prelude.{◌≡◌, ◌≤◌, true, false, length, IfOk, IsErrOf};
+ghost use Rattle.cv_advdb.specs.Feeds.{by_id, is_full, replaced};
 ghost use Rattle.cv_machine.specs.Rows.{rows_of};
 ghost use Rattle.cv_machine.specs.Scans.{IsKnown, trees_of};
 ghost use Rattle.cv_machine.specs.State.{State, with_value};
 ghost use Rattle.cv_inventory.specs.Holdings.{feed_table, holding};
+ghost use Rattle.cv_inventory.specs.code.Kept.{held, registrations};
 
 use crate::inventory::Inventory;
-use cv_advdb::AdvError;
-use cv_base::{Advisory, Row, Seq, Steps, Text};
+use cv_advdb::{AdvError, Feeds};
+use cv_base::{Advisory, NoMemory, Row, Seq, Steps, Text};
 use cv_desk::Desk;
+use cv_outcome::Rematch;
+use cv_tree::{Share, Shared};
 use std::alloc::Global;
 use std::sync::ledger::Ledger;
 
@@ -28,6 +31,43 @@ impl<D: Desk + Drop> Inventory<D> {
         ensures room { IfOk result (λ _. is_full (feed_table self.now) feed ≡ false) }
         ensures full { IsErrOf result AdvError.TooManyFeeds → is_full (feed_table self.now) feed ≡ true }
     {
-        Err(AdvError::NoMemory)
+        self.regular();
+        let feeds = self.replaced(alloc, feed, records)?;
+        Ok(self.with_feeds(alloc, feeds, steps)?)
+    }
+
+    /// The feeds after an update of one.
+    fn replaced(&self, alloc: Global, feed: Text, records: Seq<Advisory>) -> Result<Feeds, AdvError>
+        ensures value { IfOk result (λ feeds. feeds ≡ replaced (feed_table self.now) feed records) }
+        ensures room { IfOk result (λ _. is_full (feed_table self.now) feed ≡ false) }
+        ensures full { IsErrOf result AdvError.TooManyFeeds → is_full (feed_table self.now) feed ≡ true }
+    {
+        let mut feeds = self.feeds.value().copy()?;
+        feeds.replace(alloc, feed, records)?;
+        Ok(feeds)
+    }
+
+    /// The inventory with these feeds, and the rows that they add.
+    fn with_feeds<L: Ledger>(
+        &self,
+        alloc: Global,
+        feeds: Feeds,
+        steps: &mut Steps<L>,
+    ) -> Result<(Inventory<D>, Seq<Row>), NoMemory>
+        requires { length feeds.feeds ≤ feeds.limit }
+        ensures value { IfOk result (λ after. after.0 ≡ held (registrations self.now) feeds) }
+        ensures rows { IsKnown D.tree → IfOk result (λ after. (state : State) → after.1 ≡ rows_of (trees_of D.tree) (holding state self.now) feeds.feeds) }
+    {
+        let registry = self.registry.share()?;
+        let facts = self.facts.share()?;
+        let mut rows = Vec::new(alloc);
+        let outcomes = self
+            .outcomes
+            .remake(alloc, &Rematch::<L>::new(&feeds), &mut rows, steps)?;
+        let feeds = Shared::of(alloc, feeds)?;
+        Ok((
+            Inventory::of(registry, facts, outcomes, feeds),
+            Seq::of(rows),
+        ))
     }
 }

@@ -1,7 +1,12 @@
 -- What an inventory keeps beside what it holds.
-use Rattle.std.specs.Prelude.{◌≡◌, ℕ, ◌≤◌, List, length, Option}
+use Rattle.std.specs.Prelude.{◌≡◌, ℕ, ◌≤◌, false, List, length, Option, Some}
 use Rattle.cv_advdb.specs.Feeds.{FeedTable}
+use Rattle.cv_base.specs.declared.limits.TheConstants.{MAX_LAYERS}
 use Rattle.cv_desk.specs.Stored.{Stored}
+use Rattle.cv_machine.specs.Layers.{is_indexed_as}
+use Rattle.cv_machine.specs.State.{value_at, with_value, without_value}
+use Rattle.cv_machine.specs.Step.{entered, remaining}
+use Rattle.cv_machine.specs.declared.status.Status.TheVariants as status
 use Rattle.cv_outcome.specs.Outcome.{FactTable, outcome_at}
 use Rattle.cv_outcome.specs.Truth.{AreFactsOf}
 use Rattle.cv_outcome.specs.declared.outcome.Outcome.{Outcome}
@@ -13,9 +18,34 @@ use Rattle.cv_inventory.specs.Holdings.{Holdings}
 abbrev pub held : Registrations → FeedTable → Holdings
 held r table = record { images = r.images; layers = r.layers; feeds = table.feeds; limits = record { images = r.limit; feeds = table.limit } }
 
--- the facts are those of the layers that are Indexed, the outcome of each image is that of its layers' facts and the feeds, and there
--- are no more feeds than may be
+-- what of it a registry holds
+abbrev pub registrations : Holdings → Registrations
+registrations h = record { images = h.images; layers = h.layers; limit = h.limits.images }
+
+-- the facts are those of the layers that are Indexed, the outcome of each image is that of its layers' facts and the feeds, there
+-- are no more feeds than may be, and no image has more layers than may be
 pub record IsKept (trees : List ℕ → Option (Option (List Stored))) (r : Registrations) (facts : FactTable) (outcomes : List (List ℕ × Outcome)) (table : FeedTable) : Type 0 where
   pub right : AreFactsOf trees r.layers facts
   pub told : outcomes ≡ map_values (outcome_at facts table.feeds) r.images
   pub few_feeds : length table.feeds ≤ table.limit
+  pub few_layers : (image : List ℕ) (layers : List (List ℕ)) → value_at r.images image ≡ Some layers → length layers ≤ MAX_LAYERS
+
+-- the same images are registered, and the same layers are Indexed
+pub record IsAlike (before after : Registrations) : Type 0 where
+  pub images : after.images ≡ before.images
+  pub limit : after.limit ≡ before.limit
+  pub indexed : (layer : List ℕ) → is_indexed_as (value_at after.layers layer) ≡ is_indexed_as (value_at before.layers layer)
+
+-- registrations with a new image of these layers
+abbrev pub with_image : Registrations → List ℕ → List (List ℕ) → Registrations
+with_image r image layers = record r { images = with_value r.images image layers; layers = entered r.layers layers }
+
+-- registrations without an image, which has these layers
+abbrev pub without_image : Registrations → List ℕ → List (List ℕ) → Registrations
+without_image r image layers =
+    record r { images = without_value r.images image; layers = remaining r.layers layers (without_value r.images image) }
+
+-- a layer that was not Indexed is
+pub record HasEntered (before after : Registrations) (layer : List ℕ) : Type 0 where
+  pub now : after ≡ record before { layers = with_value before.layers layer status.Indexed }
+  pub new : is_indexed_as (value_at before.layers layer) ≡ false
