@@ -4,7 +4,7 @@ ghost use Rattle.cv_core.specs.Core.{IsRegular, counted};
 
 use crate::machine::Core;
 use cv_desk::Desk;
-use cv_notice::Notices;
+use cv_notice::{NoNotification, Notices};
 use cv_records::Reply;
 use cv_seq::NoMemory;
 use cv_tree::{Share, Shared};
@@ -17,10 +17,10 @@ impl<D: Desk + Drop> Core<D> {
     {
         self.regular();
         let mut notices = self.notices.value().copy()?;
-        if notices.ack(number).is_err() {
-            return self.unchanged(Reply::NoNotification);
+        match notices.ack(number) {
+            Err(NoNotification) => self.unchanged(Reply::NoNotification),
+            Ok(()) => self.with_notices(alloc, notices, Reply::Acked),
         }
-        self.with_notices(alloc, notices, Reply::Acked)
     }
 
     /// The core after an event that leaves these notifications, with its reply.

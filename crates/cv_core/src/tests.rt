@@ -364,7 +364,8 @@ fn until_indexed(alloc: Global) -> Result<Vec<Event<Layer>>, Fail> {
 /// A core with the image of both layers, which is indexed.
 fn indexed_service(alloc: Global) -> Result<Service, Fail> {
     let mut core = service(alloc, 2)?;
-    let _ = replies(alloc, &mut core, until_indexed(alloc)?)?;
+    let events = until_indexed(alloc)?;
+    let _ = replies(alloc, &mut core, events)?;
     Ok(core)
 }
 
@@ -373,37 +374,49 @@ fn curl_update(alloc: Global) -> Result<Event<Layer>, NoMemory> {
     update(alloc, "deb", vec![in alloc; record]?)
 }
 
-/// The generation of a report with its number of findings.
-fn counts(report: Result<Report<'_>, ReportRefusal<'_>>) -> Option<(u64, usize)> {
-    match report {
+/// The generation of an image's report with its number of findings.
+fn counts(core: &Service, image: u8) -> Option<(u64, usize)> {
+    match core.report(&digest(image)) {
         Ok(report) => Some((report.generation, report.findings.as_slice().len())),
         Err(_) => None,
     }
 }
 
-fn is_pending(report: Result<Report<'_>, ReportRefusal<'_>>, layer: u8) -> bool {
-    match report {
-        Err(ReportRefusal::Pending(pending)) => pending == digest(layer),
-        _ => false,
+/// The same on a board.
+fn board_counts(board: &Board, image: u8) -> Option<(u64, usize)> {
+    match board.report(&digest(image)) {
+        Ok(report) => Some((report.generation, report.findings.as_slice().len())),
+        Err(_) => None,
     }
 }
 
-fn is_unknown(report: Result<Report<'_>, ReportRefusal<'_>>) -> bool {
-    matches!(report, Err(ReportRefusal::NotRegistered))
+/// The layer that an image waits for.
+fn pending(core: &Service, image: u8) -> Option<Digest> {
+    match core.report(&digest(image)) {
+        Err(ReportRefusal::Pending(layer)) => Some(layer),
+        _ => None,
+    }
+}
+
+fn is_registered(core: &Service, image: u8) -> bool {
+    !matches!(
+        core.report(&digest(image)),
+        Err(ReportRefusal::NotRegistered)
+    )
 }
 
 #[test]
 fn a_report_names_the_first_layer_that_is_not_indexed(rt: HostRuntime) -> Result<(), Fail> {
     let alloc = rt.alloc();
     let mut core = service(alloc, 1)?;
-    assert!(rt; is_unknown(core.report(&digest(1))));
+    assert!(rt; !is_registered(&core, 1));
     let events = vec![in alloc;
         register(alloc, 1, &[0xaa, 0xbb])?,
         Event::Claim(digest(0xaa), 0),
         indexed(alloc, 0xaa, 0)?,
     ]?;
     let _ = replies(alloc, &mut core, events)?;
-    assert!(rt; is_pending(core.report(&digest(1)), 0xbb));
+    assert_eq!(rt; pending(&core, 1), Some(digest(0xbb)));
     Ok(())
 }
 
@@ -411,14 +424,15 @@ fn a_report_names_the_first_layer_that_is_not_indexed(rt: HostRuntime) -> Result
 fn an_update_changes_reports_and_adds_a_notification(rt: HostRuntime) -> Result<(), Fail> {
     let alloc = rt.alloc();
     let mut core = indexed_service(alloc)?;
-    assert_eq!(rt; counts(core.report(&digest(1))), Some((0, 0)));
-    let reply = applied(alloc, &mut core, curl_update(alloc)?)?;
+    assert_eq!(rt; counts(&core, 1), Some((0, 0)));
+    let event = curl_update(alloc)?;
+    let reply = applied(alloc, &mut core, event)?;
     let want = Reply::Updated {
         generation: 1,
         rows: 1,
     };
     assert_eq!(rt; reply, want);
-    assert_eq!(rt; counts(core.report(&digest(1))), Some((1, 1)));
+    assert_eq!(rt; counts(&core, 1), Some((1, 1)));
     let heads = core.notices().list(alloc)?;
     let head = NoticeHead { number: 1, rows: 1 };
     assert_eq!(rt; heads.as_slice(), [head].as_slice());
@@ -429,8 +443,9 @@ fn an_update_changes_reports_and_adds_a_notification(rt: HostRuntime) -> Result<
 fn an_update_without_rows_adds_no_notification(rt: HostRuntime) -> Result<(), Fail> {
     let alloc = rt.alloc();
     let mut core = indexed_service(alloc)?;
-    let _ = applied(alloc, &mut core, update(alloc, "deb", Vec::new(alloc))?)?;
-    assert_eq!(rt; counts(core.report(&digest(1))), Some((1, 0)));
+    let event = update(alloc, "deb", Vec::new(alloc))?;
+    let _ = applied(alloc, &mut core, event)?;
+    assert_eq!(rt; counts(&core, 1), Some((1, 0)));
     assert!(rt; core.notices().list(alloc)?.as_slice().is_empty());
     Ok(())
 }
@@ -466,12 +481,13 @@ fn a_notification_is_kept_until_it_is_acknowledged(rt: HostRuntime) -> Result<()
 fn a_plan_that_is_cancelled_changes_nothing(rt: HostRuntime) -> Result<(), Fail> {
     let alloc = rt.alloc();
     let core = indexed_service(alloc)?;
-    let plan = planned(alloc, core, curl_update(alloc)?)?;
+    let event = curl_update(alloc)?;
+    let plan = planned(alloc, core, event)?;
     let board = plan.board()?;
-    assert_eq!(rt; counts(board.report(&digest(1))), Some((1, 1)));
+    assert_eq!(rt; board_counts(&board, 1), Some((1, 1)));
     let core = plan.cancel();
-    assert_eq!(rt; counts(core.report(&digest(1))), Some((0, 0)));
-    assert_eq!(rt; counts(board.report(&digest(1))), Some((1, 1)));
+    assert_eq!(rt; counts(&core, 1), Some((0, 0)));
+    assert_eq!(rt; board_counts(&board, 1), Some((1, 1)));
     assert_eq!(rt; core.count(), 5);
     Ok(())
 }
@@ -481,11 +497,12 @@ fn a_plan_gives_the_reply_that_it_shows(rt: HostRuntime) -> Result<(), Fail> {
     let alloc = rt.alloc();
     let core = indexed_service(alloc)?;
     let before = core.board()?;
-    let plan = planned(alloc, core, curl_update(alloc)?)?;
+    let event = curl_update(alloc)?;
+    let plan = planned(alloc, core, event)?;
     let shown = plan.reply().clone()?;
     let (core, reply) = plan.commit();
     assert_eq!(rt; reply, shown);
-    assert_eq!(rt; counts(core.report(&digest(1))), Some((1, 1)));
-    assert_eq!(rt; counts(before.report(&digest(1))), Some((0, 0)));
+    assert_eq!(rt; counts(&core, 1), Some((1, 1)));
+    assert_eq!(rt; board_counts(&before, 1), Some((0, 0)));
     Ok(())
 }
