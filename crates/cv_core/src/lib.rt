@@ -20,7 +20,6 @@ mod claim;
 mod drop_image;
 mod event;
 mod index;
-mod limits;
 mod machine;
 mod parts;
 mod plan;
@@ -32,13 +31,12 @@ mod tests;
 mod update;
 
 pub use board::Board;
-pub use cv_machine::Limits;
+pub use cv_machine::{Limits, MAX_FEEDS, MAX_IMAGES};
 pub use cv_notice::{Notices, Page, PageError};
 pub use cv_records::{
     Act, Answer, By, EventEntry, NoticeHead, PageOutcome, ReadEntry, Reply, ReportOutcome,
 };
 pub use event::Event;
-pub use limits::{MAX_FEEDS, MAX_IMAGES};
 pub use machine::Core;
 pub use plan::Planned;
 pub use report::{Report, ReportRefusal};

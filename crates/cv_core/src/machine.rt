@@ -1,7 +1,7 @@
 ghost use Rattle.std.specs.Prelude.{◌≡◌, ◌≤◌, IfOk};
 ghost use Rattle.cv_machine.specs.Layers.{queued};
 ghost use Rattle.cv_core.specs.Core.{IsRegular, opened};
-ghost use Rattle.cv_core.specs.declared.limits.TheConstants.{MAX_FEEDS, MAX_IMAGES};
+ghost use Rattle.cv_machine.specs.declared.limits.TheConstants.{MAX_FEEDS, MAX_IMAGES};
 
 use cv_base::Digest;
 use cv_desk::Desk;

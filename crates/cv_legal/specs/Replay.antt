@@ -18,11 +18,11 @@ use Rattle.cv_machine.specs.History.{event_entry}
 use Rattle.cv_machine.specs.Scans.{Trees}
 use Rattle.cv_machine.specs.State.{State, opening}
 use Rattle.cv_machine.specs.Step.{step}
+use Rattle.cv_machine.specs.declared.limits.TheConstants.{MAX_FEEDS, MAX_IMAGES}
 use Rattle.cv_machine.specs.declared.act.WholeAct.{WholeAct}
 use Rattle.cv_machine.specs.declared.act.WholeAct.TheVariants as whole
 use Rattle.cv_machine.specs.declared.limits.Limits.{Limits}
 use Rattle.cv_legal.specs.Taken.{Requested}
-use Rattle.cv_legal.specs.declared.limits.TheConstants.{MAX_FEEDS, MAX_IMAGES}
 
 -- a moment of a history: how many events were applied, and the state after them
 pub record Moment : Type 0 where

@@ -12,4 +12,4 @@ mod laws;
 mod limits;
 
 pub use laws::{generation_law, history_law, round_laws};
-pub use limits::{MAX_FEEDS, MAX_IMAGES, MAX_ROUND_BYTES, MAX_ROUND_LINES};
+pub use limits::{MAX_ROUND_BYTES, MAX_ROUND_LINES};

@@ -17,5 +17,5 @@ mod tests;
 
 pub use act::WholeAct;
 pub use laws::{board_law, entered_law, notification_laws, scan_law, step_laws};
-pub use limits::Limits;
+pub use limits::{Limits, MAX_FEEDS, MAX_IMAGES};
 pub use status::Status;
