@@ -2,4 +2,3 @@ pub mod Core
 pub mod Planned
 pub mod Reports
 pub mod code
-pub mod tests

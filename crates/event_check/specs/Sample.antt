@@ -1,4 +1,4 @@
--- The layers of the images of the tests (defined by this project), as plain data.
+-- The layers of the images that are registered (defined by this project), as plain data.
 use Rattle.std.specs.Prelude.{ℕ, ◌==◌, if◌then◌else◌, List, [], ◌∷◌, codes, Option, Some, None}
 use Rattle.cv_base.specs.declared.tree.Kind.TheVariants as kind
 use Rattle.cv_desk.specs.Row.{Row}

@@ -1,4 +1,4 @@
-use Rattle.cv_core.proofs.tests.applied.Given as goal
+use Rattle.event_check.proofs.apply.applied.Given as goal
 
 abbrev pub ghosts-applied_counted : goal.ghosts-applied_counted
 ghosts-applied_counted a = record { name = a.blank.name; parts = a.blank.parts }
