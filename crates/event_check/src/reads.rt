@@ -61,7 +61,7 @@ pub fn update_with_rows(alloc: Global) -> Result<bool, NoMemory> {
     };
     let heads = core.notices().list(alloc)?;
     let head = NoticeHead { number: 1, rows: 1 };
-    let noted = *heads.as_slice() == [head];
+    let noted = heads.as_slice() == [head].as_slice();
     Ok(before && reply == want && counts(&core, 1) == Some((1, 1)) && noted)
 }
 
