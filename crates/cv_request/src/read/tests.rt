@@ -271,3 +271,36 @@ fn threads_may_share_a_request() {
     is_shared::<Request>();
     is_shared::<Act>();
 }
+
+/// As many bytes as a line of the input may have.
+const LONGEST_LINE: usize = 67_108_864;
+
+fn put(line: &mut Vec<u8>, text: &str) -> Result<(), Fail> {
+    for byte in text.as_bytes() {
+        line.push(*byte)?;
+    }
+    Ok(())
+}
+
+/// A request whose line is as long as it may be, by a member that is ignored.
+fn longest_request(rt: &HostRuntime) -> Result<Vec<u8>, Fail> {
+    let mut line = Vec::new(rt.alloc());
+    put(&mut line, r#"{"do":"list","more":""#)?;
+    for _ in 0..LONGEST_LINE - 23 {
+        line.push(b'a')?;
+    }
+    put(&mut line, r#""}"#)?;
+    Ok(line)
+}
+
+#[test]
+fn a_line_of_64_mebibytes_is_read_to_its_end(rt: HostRuntime) -> Result<(), Fail> {
+    let mut line = longest_request(&rt)?;
+    assert_eq!(rt; line.len(), LONGEST_LINE);
+    let request = read_request(rt.alloc(), line.as_slice())?;
+    assert_eq!(rt; request.act, Act::List);
+    put(&mut line, "}")?;
+    let refused = read_request(rt.alloc(), line.as_slice());
+    assert_eq!(rt; refused, Err(RequestError::BadJson));
+    Ok(())
+}
