@@ -28,7 +28,9 @@ use Rattle.cv_legal.specs.Legal.{AreLast, AreLegal, AreLegalRounds}
 use Rattle.cv_legal.specs.Replay.{IsRead, Moment, Replays, moment_after, read_of}
 use Rattle.cv_legal.specs.Round.{IsLegalRound}
 use Rattle.cv_legal.specs.Rounds.{Round}
-use Rattle.cv_legal.specs.Taken.{Requested, Taken, refusal_at, refusals, requests}
+use Rattle.cv_legal.specs.Taken.{refusal_at, refusals, requests}
+use Rattle.cv_legal.specs.declared.taken.Requested.{Requested}
+use Rattle.cv_legal.specs.declared.taken.Taken.{Taken}
 use Rattle.cv_legal.proofs.History.{filter_map_both}
 
 -- what is known of every event

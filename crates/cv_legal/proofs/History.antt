@@ -17,7 +17,9 @@ use Rattle.cv_legal.specs.Parts.{event_in, events_of}
 use Rattle.cv_legal.specs.Replay.{Moment, Replays, moment_after}
 use Rattle.cv_legal.specs.Round.{IsLegalRound}
 use Rattle.cv_legal.specs.Rounds.{Round}
-use Rattle.cv_legal.specs.Taken.{Requested, Taken, refusal_at, refusals, requests}
+use Rattle.cv_legal.specs.Taken.{refusal_at, refusals, requests}
+use Rattle.cv_legal.specs.declared.taken.Requested.{Requested}
+use Rattle.cv_legal.specs.declared.taken.Taken.{Taken}
 
 -- events one after the other, each with the next number and the machine's reply
 abbrev Follow : Trees → Moment → List EventEntry → Moment → Type 0

@@ -7,3 +7,4 @@ pub mod Round
 pub mod Rounds
 pub mod Taken
 pub mod Turns
+pub mod code

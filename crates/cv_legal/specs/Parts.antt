@@ -1,11 +1,13 @@
 -- The parts of a round's entries (defined by this project): the lines of a lane, the events of a worker, the claims.
-use Rattle.std.specs.Prelude.{ℕ, ◌==◌, List, filter, filter_map, length, Option, Some, None, if◌then◌else◌}
+use Rattle.std.specs.Prelude.{ℕ, ◌==◌, Bool, true, false, List, filter, filter_map, length, Option, Some, None, if◌then◌else◌}
 use Rattle.cv_base.specs.Texts.{same}
 use Rattle.cv_records.specs.declared.event.Act.{Act}
 use Rattle.cv_records.specs.declared.event.Act.TheVariants as name
 use Rattle.cv_records.specs.declared.event.By.{By}
 use Rattle.cv_records.specs.declared.event.By.TheVariants as by
 use Rattle.cv_records.specs.declared.event.EventEntry.{EventEntry}
+use Rattle.cv_records.specs.declared.reply.Reply.{Reply}
+use Rattle.cv_records.specs.declared.reply.Reply.TheVariants as reply
 use Rattle.cv_transcript.specs.declared.entry.Entry.{Entry}
 use Rattle.cv_transcript.specs.declared.entry.Entry.TheVariants as entry
 
@@ -59,3 +61,12 @@ claims_of events = filter_map (λ event. claim_in event.act) events
 -- how many times a layer stands in a list
 abbrev pub times : List ℕ → List (List ℕ) → ℕ
 times layer layers = length (filter (same layer) layers)
+
+-- a claim that is granted
+abbrev pub is_grant : Act → Reply → Bool
+is_grant (name.Claim layer) reply.Claimed = true
+is_grant act answer = false
+
+-- how many claims of a worker are granted, which is how many of its lines say `claimed`
+abbrev pub grants : ℕ → List Entry → ℕ
+grants worker entries = length (filter (λ event. is_grant event.act event.reply) (events_by worker (events_of entries)))

@@ -9,7 +9,8 @@ use Rattle.cv_machine.specs.Scans.{Trees}
 use Rattle.cv_legal.specs.Parts.{claims_of, events_by, events_of, lines_answered, times}
 use Rattle.cv_legal.specs.Replay.{Moment, Replays}
 use Rattle.cv_legal.specs.Rounds.{Round}
-use Rattle.cv_legal.specs.Taken.{IsTaken, Taken, lines_asked, refusals, requests}
+use Rattle.cv_legal.specs.Taken.{IsTaken, lines_asked, refusals, requests}
+use Rattle.cv_legal.specs.declared.taken.Taken.{Taken}
 use Rattle.cv_legal.specs.Turns.{ClaimsBelow, Works}
 
 -- of two reads with one front the one of the lower lane stands first, and of one lane that of the lower line

@@ -9,11 +9,8 @@ use Rattle.cv_request.specs.declared.error.RequestError.{RequestError}
 use Rattle.cv_request.specs.declared.request.Request.{Request}
 use Rattle.cv_transcript.specs.declared.entry.Entry.{Entry}
 use Rattle.cv_transcript.specs.declared.entry.Entry.TheVariants as entry
-
--- a line by its number, with the request that it is, or why it is refused
-pub record Taken : Type 0 where
-  pub line : ℕ
-  pub answer : Result Request RequestError
+use Rattle.cv_legal.specs.declared.taken.Requested.{Requested}
+use Rattle.cv_legal.specs.declared.taken.Taken.{Taken}
 
 -- what may become of a line: the request that it is, or its first fault; or, whatever it is, it is refused because memory
 -- ran out
@@ -29,11 +26,6 @@ refusal_at line (Err error) = Some (entry.Refused line error)
 -- the entries of all refused lines, in input order
 abbrev pub refusals : List Taken → List Entry
 refusals taken = filter_map (λ t. refusal_at t.line t.answer) taken
-
--- a request with the number of its line
-pub record Requested : Type 0 where
-  pub line : ℕ
-  pub request : Request
 
 -- the request of a line that is not refused
 abbrev pub request_at : ℕ → Result Request RequestError → Option Requested

@@ -10,6 +10,8 @@
 
 mod laws;
 mod limits;
+mod taken;
 
 pub use laws::{generation_law, history_law, round_laws};
 pub use limits::{MAX_ROUND_BYTES, MAX_ROUND_LINES};
+pub use taken::{Requested, Taken};

@@ -1,0 +1,3 @@
+-- Words of the proof that a service is legal.
+pub mod Segment
+pub mod Served
