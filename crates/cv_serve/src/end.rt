@@ -71,10 +71,10 @@ impl From<WriteError> for Stop {
 }
 
 /// The end of a service that stopped so.
-pub fn end_of(result: Result<(), Stop>) -> ServeEnd
-    ensures { result ≡ end_of result.entry }
+pub fn end_of(stopped: Result<(), Stop>) -> ServeEnd
+    ensures { result ≡ end_of stopped }
 {
-    match result {
+    match stopped {
         Ok(()) => ServeEnd::Done,
         Err(Stop::ReadFault) => ServeEnd::ReadFault,
         Err(Stop::WriteFault) => ServeEnd::WriteFault,

@@ -11,7 +11,11 @@ use cv_seq::NoMemory;
 use std::alloc::Global;
 
 /// The answer to a report.
-pub fn report<D: Desk + Drop>(alloc: Global, core: &Core<D>, image: Digest) -> Result<Answer, NoMemory>
+pub fn report<D: Desk + Drop>(
+    alloc: Global,
+    core: &Core<D>,
+    image: Digest,
+) -> Result<Answer, NoMemory>
     ensures { IsKnown D.tree → IfOk result (λ found. found ≡ answer_to (trees_of D.tree) core.now.state (Report image)) }
 {
     let outcome = match core.report(&image) {

@@ -56,7 +56,7 @@ pub fn take_line<K: Sink, D: Desk + Drop, L: Ledger>(
     ensures further { IsKnown D.tree → (workers : ℕ) → 0 < workers → (cut : Cut) (last : ℕ) (entries : List Entry) → number ≡ last + 1
         → Served (trees_of D.tree) workers cut last round.old.taken.items round.old.bytes entries (moment_of machine.old.core)
         → OnOk result (Further (trees_of D.tree) workers (cut_line round_limits cut (line_at number text.now)) number round.new.taken.items round.new.bytes entries (moment_of machine.new.core)
-            (K.contents output.old) (K.contents output.new) (D.listings desk.old) (D.listings desk.new)) }
+        (K.contents output.old) (K.contents output.new) (D.listings desk.old) (D.listings desk.new)) }
     ensures sound { OnOk result (IsSoundRound round.new.taken.items round.new.bytes) }
     ensures room { OnOk result (D.listings desk.new ≤ 2 ^ 62 + machine.new.core.count) }
     ensures stops { IfErr result IsWriting }
@@ -84,7 +84,7 @@ fn end_long<K: Sink, D: Desk + Drop, L: Ledger>(
     ensures further { IsKnown D.tree → (workers : ℕ) → 0 < workers → (cut : Cut) (last : ℕ) (entries : List Entry) (line : Line) → length line.text ≡ bytes
         → Served (trees_of D.tree) workers cut last round.old.taken.items round.old.bytes entries (moment_of machine.old.core)
         → OnOk result (Further (trees_of D.tree) workers (end_before round_limits line cut) last round.new.taken.items round.new.bytes entries (moment_of machine.new.core)
-            (K.contents output.old) (K.contents output.new) (D.listings desk.old) (D.listings desk.new)) }
+        (K.contents output.old) (K.contents output.new) (D.listings desk.old) (D.listings desk.new)) }
     ensures sound { OnOk result (IsSoundRound round.new.taken.items round.new.bytes) }
     ensures fits { OnOk result (IsRoomFor round.new.bytes bytes) }
     ensures room { OnOk result (D.listings desk.new ≤ 2 ^ 62 + machine.new.core.count) }
@@ -110,7 +110,7 @@ fn end_whole<K: Sink, D: Desk + Drop, L: Ledger>(
     ensures further { IsKnown D.tree → (workers : ℕ) → 0 < workers → (cut : Cut) (last : ℕ) (entries : List Entry)
         → Served (trees_of D.tree) workers cut last round.old.taken.items round.old.bytes entries (moment_of machine.old.core)
         → OnOk result (Further (trees_of D.tree) workers (end_full round_limits cut) last round.new.taken.items round.new.bytes entries (moment_of machine.new.core)
-            (K.contents output.old) (K.contents output.new) (D.listings desk.old) (D.listings desk.new)) }
+        (K.contents output.old) (K.contents output.new) (D.listings desk.old) (D.listings desk.new)) }
     ensures sound { OnOk result (IsSoundRound round.new.taken.items round.new.bytes) }
     ensures room { OnOk result (D.listings desk.new ≤ 2 ^ 62 + machine.new.core.count) }
     ensures stops { IfErr result IsWriting }
@@ -134,7 +134,7 @@ pub fn run_round<K: Sink, D: Desk + Drop, L: Ledger>(
     requires room { D.listings desk.old ≤ 2 ^ 62 + machine.old.core.count }
     ensures ran { IsKnown D.tree → (workers : ℕ) → 0 < workers → (lines : Lines) (last : ℕ) → AllZip IsTaken lines round.old.taken.items → LinesRise lines last
         → OnOk result (RoundRun (trees_of D.tree) workers lines (moment_of machine.old.core) (moment_of machine.new.core)
-            (K.contents output.old) (K.contents output.new) (D.listings desk.old) (D.listings desk.new)) }
+        (K.contents output.old) (K.contents output.new) (D.listings desk.old) (D.listings desk.new)) }
     ensures begins { round.new.taken.items ≡ [] }
     ensures bytes { round.new.bytes ≡ 0 }
     ensures room { OnOk result (D.listings desk.new ≤ 2 ^ 62 + machine.new.core.count) }

@@ -41,7 +41,15 @@ pub fn round_entries<D: Desk + Drop, L: Ledger>(
     let jobs = core.queued(alloc)?;
     let (mut entries, asked) = part(alloc, taken)?;
     run_lanes(alloc, core, steps, asked, &mut entries)?;
-    work(alloc, core, steps, desk, WORKER, jobs.as_slice(), &mut entries)?;
+    work(
+        alloc,
+        core,
+        steps,
+        desk,
+        WORKER,
+        jobs.as_slice(),
+        &mut entries,
+    )?;
     Ok(entries)
 }
 

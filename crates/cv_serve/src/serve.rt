@@ -121,8 +121,8 @@ fn read_lines<S: Source, K: Sink, D: Desk + Drop, L: Ledger>(
     requires room { D.listings desk.old ≤ 2 ^ 62 + machine.old.core.count }
     ensures lines { OnOk result ((texts : List (List ℕ)) × HasReadAll (reading reader.old (S.remaining input.old)) texts
         × (IsKnown D.tree → (workers : ℕ) → 0 < workers
-            → Done (trees_of D.tree) workers [] round.old.taken.items round.old.bytes (moment_of machine.old.core) (K.contents output.old) (K.contents output.old) (D.listings desk.old) (D.listings desk.old)
-            → Done (trees_of D.tree) workers texts round.new.taken.items round.new.bytes (moment_of machine.new.core) (K.contents output.old) (K.contents output.new) (D.listings desk.old) (D.listings desk.new))) }
+        → Done (trees_of D.tree) workers [] round.old.taken.items round.old.bytes (moment_of machine.old.core) (K.contents output.old) (K.contents output.old) (D.listings desk.old) (D.listings desk.old)
+        → Done (trees_of D.tree) workers texts round.new.taken.items round.new.bytes (moment_of machine.new.core) (K.contents output.old) (K.contents output.new) (D.listings desk.old) (D.listings desk.new))) }
     ensures stops { IfSome (reading reader.old (S.remaining input.old)) (λ whole. StopsLines whole.stop result) }
     ensures ended { OnOk result (IsAtEnd (S.remaining input.new)) }
     ensures sound { OnOk result (IsSoundRound round.new.taken.items round.new.bytes) }
@@ -151,7 +151,7 @@ fn end_last<K: Sink, D: Desk + Drop, L: Ledger>(
     ensures further { IsKnown D.tree → (workers : ℕ) → 0 < workers → (cut : Cut) (last : ℕ) (entries : List Entry)
         → Served (trees_of D.tree) workers cut last round.old.taken.items round.old.bytes entries (moment_of machine.old.core)
         → OnOk result (Further (trees_of D.tree) workers (all_rounds cut) last [] 0 entries (moment_of machine.new.core)
-            (K.contents output.old) (K.contents output.new) (D.listings desk.old) (D.listings desk.new)) }
+        (K.contents output.old) (K.contents output.new) (D.listings desk.old) (D.listings desk.new)) }
     ensures begins { OnOk result (round.new.taken.items ≡ []) }
     ensures room { OnOk result (D.listings desk.new ≤ 2 ^ 62 + machine.new.core.count) }
     ensures stops { IfErr result IsWriting }
@@ -174,7 +174,7 @@ fn end_queued<K: Sink, D: Desk + Drop, L: Ledger>(
     requires none { round.old.taken.items ≡ [] }
     requires room { D.listings desk.old ≤ 2 ^ 62 + machine.old.core.count }
     ensures further { IsKnown D.tree → (workers : ℕ) → 0 < workers → OnOk result (LastRun (trees_of D.tree) workers (moment_of machine.old.core) (moment_of machine.new.core)
-            (K.contents output.old) (K.contents output.new) (D.listings desk.old) (D.listings desk.new)) }
+        (K.contents output.old) (K.contents output.new) (D.listings desk.old) (D.listings desk.new)) }
     ensures stops { IfErr result IsWriting }
     ensures cause { CausedBy (K.faults output.old) (K.faults output.new) (is_write_stop result) }
 {

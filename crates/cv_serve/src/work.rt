@@ -50,7 +50,13 @@ fn work_at<D: Desk + Drop, L: Ledger>(
     ensures worked { IsKnown D.tree → (workers : ℕ) → worker < workers → OnOk result (Worked (trees_of D.tree) workers worker (layer ∷ []) (moment_of core.old) entries.old.items (D.listings desk.old) (moment_of core.new) entries.new.items (D.listings desk.new)) }
     ensures room { OnOk result (D.listings desk.new ≤ 2 ^ 62 + core.new.count) }
 {
-    let claim = submit(alloc, core, steps, By::Worker(worker), Event::Claim(layer, worker))?;
+    let claim = submit(
+        alloc,
+        core,
+        steps,
+        By::Worker(worker),
+        Event::Claim(layer, worker),
+    )?;
     let granted = is_claimed(&claim.reply);
     entries.push(Entry::Event(claim))?;
     if !granted {

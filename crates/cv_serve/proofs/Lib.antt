@@ -1,0 +1,3 @@
+mod Ending
+mod Further
+mod Input
