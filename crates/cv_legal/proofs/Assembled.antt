@@ -46,7 +46,8 @@ all_cond P false x xs h k = k
 abbrev Below : Requested → Requested → Type 0
 Below first second = first.line < second.line
 
-abbrev AsksRise : List Requested → Type 0
+-- requests on rising lines
+abbrev pub AsksRise : List Requested → Type 0
 AsksRise [] = ⊤
 AsksRise (r ∷ rs) = AllByRecursion (Below r) rs × AsksRise rs
 
@@ -62,7 +63,8 @@ taken_above number (line ∷ lines) (t ∷ taken) h k = by_answer t.answer (take
   by_answer (Ok request) rest = (let low = k.0 in let same = h.0.number in omega (arith, low, same), rest)
   by_answer (Err error) rest = rest
 
-asks_rise : (lines : List Line) (last : ℕ) (taken : List Taken) → AllZip IsTaken lines taken → LinesRise lines last → AsksRise (requests taken)
+-- what became of rising lines
+pub asks_rise : (lines : List Line) (last : ℕ) (taken : List Taken) → AllZip IsTaken lines taken → LinesRise lines last → AsksRise (requests taken)
 asks_rise [] last [] h k = tt
 asks_rise [] last (t ∷ taken) h k = absurd h
 asks_rise (line ∷ lines) last [] h k = absurd h
@@ -154,7 +156,7 @@ rise_cond : (b : Bool) (x : Requested) (xs : List Requested) → AllByRecursion 
 rise_cond true x xs h k = (h, k)
 rise_cond false x xs h k = k
 
-rise_lane : (lane : ℕ) (asked : List Requested) → AsksRise asked → AsksRise (lane_requests lane asked)
+pub rise_lane : (lane : ℕ) (asked : List Requested) → AsksRise asked → AsksRise (lane_requests lane asked)
 rise_lane lane [] h = tt
 rise_lane lane (r ∷ asked) h =
     rise_cond (r.request.lane == lane) r (lane_requests lane asked) (in_lane (Below r) lane asked h.0) (rise_lane lane asked h.1)

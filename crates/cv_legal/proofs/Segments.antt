@@ -1,9 +1,9 @@
 -- Parts of the entries of a round: one after the other, and those of one request and of one claim.
-use Rattle.std.specs.Prelude.{◌≡◌, ⊤, ℕ, suc, ◌+◌, ◌<◌, ◌==◌, ◌⊎◌, Bool, true, false, cond, List, [], ◌∷◌, ◌++◌, filter, length, Option, Some, None, Result, Ok, Err, option_and_then, option_map, refl}
+use Rattle.std.specs.Prelude.{◌≡◌, ⊤, ℕ, zero, suc, ◌+◌, ◌<◌, ◌==◌, ◌⊎◌, Bool, true, false, cond, List, [], ◌∷◌, ◌++◌, filter, length, Option, Some, None, Result, Ok, Err, option_and_then, option_map, refl}
 use Rattle.std.specs.List.{AllByRecursion, cons_option}
-use Rattle.std.proofs.Common.{ap, subst, sym, ◌∙◌}
+use Rattle.std.proofs.Common.{ap, append_assoc, arith, subst, sym, ◌∙◌}
 use Rattle.std.proofs.lemmas.Bool.{eq-eqb, ne_eqb}
-use Rattle.std.proofs.lemmas.List.{length-append, map-append}
+use Rattle.std.proofs.lemmas.List.{append-nil, length-append, map-append}
 use Rattle.std.proofs.lemmas.List.Elements.{filter-append}
 use Rattle.cv_records.specs.declared.event.Act.{Act}
 use Rattle.cv_records.specs.declared.event.Act.TheVariants as name
@@ -31,7 +31,7 @@ use Rattle.cv_legal.specs.Parts.{claim_in, claims_of, event_by, event_in, events
 use Rattle.cv_legal.specs.Replay.{Moment, Replays, event_of, moment_after, read_of, worker_event}
 use Rattle.cv_legal.specs.Taken.{refusal_at, refusals}
 use Rattle.cv_legal.specs.Turns.{ClaimsBelow, FitsWork, Works, work_after}
-use Rattle.cv_legal.specs.code.Segment.{IsFound, Segment, address_in, address_of, entry_at}
+use Rattle.cv_legal.specs.code.Segment.{IsFound, Segment, address_in, address_of, entry_at, lane_requests, lanes_from}
 use Rattle.cv_legal.specs.declared.taken.Requested.{Requested}
 use Rattle.cv_legal.specs.declared.taken.Taken.{Taken}
 use Rattle.cv_legal.proofs.History.{filter_map_both}
@@ -100,6 +100,22 @@ both trees workers asked more jobs further before between after xs ys h k = reco
   works = λ worker. subst (λ events. Works None events None) (sym (by_both worker xs ys))
       (works_both None None None (events_by worker (events_of xs)) (events_by worker (events_of ys)) (h.works worker) (k.works worker));
 }
+
+-- ---- lanes, one after the other
+
+-- one more lane, after the others
+pub lanes_next : (lane count : ℕ) (asked : List Requested) → lanes_from lane (count + 1) asked ≡ lanes_from lane count asked ++ lane_requests (lane + count) asked
+lanes_next lane count asked =
+    let more : count + 1 ≡ suc count = omega arith in
+    ap (λ n. lanes_from lane n asked) more ∙ next lane count where
+      next : (first : ℕ) (n : ℕ) → lanes_from first (suc n) asked ≡ lanes_from first n asked ++ lane_requests (first + n) asked
+      next first zero =
+          let same : first ≡ first + 0 = omega arith in
+          append-nil (lane_requests first asked) ∙ ap (λ k. lane_requests k asked) same
+      next first (suc n) =
+          let same : first + 1 + n ≡ first + suc n = omega arith in
+          ap (λ rest. lane_requests first asked ++ rest) (next (first + 1) n ∙ ap (λ k. lanes_from (first + 1) n asked ++ lane_requests k asked) same)
+          ∙ sym (append_assoc (lane_requests first asked) (lanes_from (first + 1) n asked) (lane_requests (first + suc n) asked))
 
 -- ---- of one request
 
