@@ -18,8 +18,9 @@ pub enum ReportOutcome {
     },
     /// The first layer of the image that is not indexed.
     Pending(Digest),
-    /// Why the image has no packages.
+    /// Why the image is bad.
     BadImage(ImageFault),
+    /// No image of this hash is registered.
     NotRegistered,
 }
 
@@ -28,12 +29,13 @@ pub enum ReportOutcome {
 pub enum PageOutcome {
     /// The number of pages, and the rows of this one.
     Rows { pages: u64, rows: Seq<Row> },
+    /// No notification has this number.
     NoNotification,
     /// There are only so many pages.
     NoPage { pages: u64 },
 }
 
-/// What a read asks for, and its answer.
+/// What a read asks for, with its answer; or that memory ran out.
 #[derive(Debug, PartialEq, Eq, Drop)]
 pub enum Answer {
     Report {
@@ -46,11 +48,14 @@ pub enum Answer {
         page: u64,
         outcome: PageOutcome,
     },
+    /// All notifications, in ascending order of their numbers.
     List(Seq<NoticeHead>),
+    /// The request, of whatever kind, ran out of memory and changed nothing.
     NoMemory,
 }
 
-/// A read of a lane's line, answered after the first `front` events.
+/// A line of a lane without an event: a read with its answer, or a request that ran out of memory. It stands after the first
+/// `front` events.
 #[derive(Debug, PartialEq, Eq, Drop)]
 pub struct ReadEntry {
     pub front: u64,

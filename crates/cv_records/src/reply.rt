@@ -30,13 +30,13 @@ pub enum Reply {
     Requeued,
     /// The layer is not the worker's.
     NotClaimed,
-    /// The feed has the new records. `rows` is how many rows the notification of the new generation has.
+    /// The feed has the new records. The update raises so many rows; if it raises none, there is no notification.
     Updated { generation: u64, rows: u64 },
     /// There are as many feeds as there may be.
     TooManyFeeds,
     /// The notification is gone.
     Acked,
-    /// There was no notification of that number.
+    /// There is no notification of that number.
     NoNotification,
 }
 

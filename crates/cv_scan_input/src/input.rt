@@ -19,11 +19,11 @@ use cv_io::{Line, LineReader, Source};
 use cv_osv::RecordList;
 use std::alloc::Global;
 
-/// The most bytes of a line.
-const MAX_LINE: usize = 67_108_864;
+/// The most bytes of a line of an input.
+pub const MAX_LINE: usize = 67_108_864;
 
-/// The input has fewer bytes.
-const MAX_INPUT: u64 = 1 << 36;
+/// An input has fewer bytes.
+pub const MAX_INPUT: u64 = 1 << 36;
 
 /// The request of a scan: an image, and the records to match it with.
 #[derive(Debug, Drop)]

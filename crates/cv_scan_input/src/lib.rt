@@ -13,4 +13,4 @@ mod input;
 mod line;
 
 pub use error::InputError;
-pub use input::{ScanInput, read_scan_input};
+pub use input::{MAX_INPUT, MAX_LINE, ScanInput, read_scan_input};

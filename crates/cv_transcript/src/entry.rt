@@ -20,11 +20,12 @@ pub enum Entry {
     Refused { line: u64, error: RequestError },
     /// An event that was applied.
     Event(EventEntry),
-    /// A read with its answer.
+    /// A line of a lane without an event: a read with its answer, or a request that ran out of memory.
     Read(ReadEntry),
 }
 
-/// The line of an entry: its JSON and an LF. The tag that the JSON reads back as is that of the entry.
+/// The line of an entry: its JSON and an LF. The tag that the JSON reads back as is that of the entry. It is stated of an entry
+/// that was printed, since its numbers have at most 64 bits.
 #[tactic(auto, unfolding(crate::specs::Entry::entry_text, crate::specs::Line::line_text))]
 pub fn entry_line(alloc: Global, entry: &Entry) -> Result<String, NoMemory>
     ensures text { IfOk result (λ line. string_bytes line ≡ entry_text entry.now) }

@@ -1,0 +1,4 @@
+mod Ending
+mod Further
+mod Input
+mod Parts

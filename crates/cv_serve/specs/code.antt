@@ -1,0 +1,6 @@
+-- Words that only retell private functions.
+pub mod Further
+pub mod Moments
+pub mod Printed
+pub mod Reading
+pub mod Work

@@ -1,0 +1,31 @@
+-- What was read of an input, and what was done with it.
+use Rattle.std.specs.Prelude.{◌≡◌, ⊤, ℕ, List, [], ◌++◌, length, Option, IfSome, IsSomeAnd, Result, Ok, Err}
+use Rattle.cv_base.specs.Lines.{numbered}
+use Rattle.cv_io.specs.Lines.{Reading, Stop, Finished, LongLine, LongInput, lines_then}
+use Rattle.cv_machine.specs.Scans.{Trees}
+use Rattle.cv_legal.specs.Replay.{Moment}
+use Rattle.cv_legal.specs.Rounds.{cut_lines, round_limits}
+use Rattle.cv_legal.specs.declared.taken.Taken.{Taken}
+use Rattle.cv_serve.specs.code.Further.{Further}
+use Rattle.cv_serve.specs.declared.end.Stop.{Stop as Stopped}
+use Rattle.cv_serve.specs.declared.end.Stop.TheVariants as stop
+
+-- these lines were read, and then the rest is to be read
+abbrev pub HasRead : Option Reading → Option Reading → List (List ℕ) → Type 0
+HasRead before now texts = IfSome before (λ whole. IsSomeAnd now (λ rest. whole ≡ lines_then texts rest))
+
+-- these lines are all
+abbrev pub HasReadAll : Option Reading → List (List ℕ) → Type 0
+HasReadAll before texts = IfSome before (λ whole. whole ≡ record { lines = texts; stop = Finished })
+
+-- what a stop says of how the lines stop
+abbrev pub StopsLines : Stop → Result Unit Stopped → Type 0
+StopsLines how (Ok _) = how ≡ Finished
+StopsLines how (Err stop.LineTooLong) = how ≡ LongLine
+StopsLines how (Err stop.InputTooLong) = how ≡ LongInput
+StopsLines how (Err _) = ⊤
+
+-- what was done with these lines
+abbrev pub Done : Trees → ℕ → List (List ℕ) → List Taken → ℕ → Moment → Option (List ℕ) → Option (List ℕ) → ℕ → ℕ → Type 0
+Done trees workers texts taken bytes now written written_now listings listings_now =
+    Further trees workers (cut_lines round_limits (numbered 1 texts)) (length texts) taken bytes [] now written written_now listings listings_now
