@@ -3,7 +3,7 @@ use Rattle.cv_legal.proofs.laws.round_laws.Goals as goal
 
 pub returns : goal.returns
 returns c = record {
-  ends = λ limits lines some. (divides limits lines some).rounds;
+  ends = divides;
   lines = lines_kept;
   short = rounds_short;
 }
