@@ -113,7 +113,7 @@ cut_one limits cut lines line some h = by_text (is_nil line.text) refl where
   by_room : (b : Bool) → is_cons cut.begun && nat_lt limits.bytes (size_of cut.begun + length line.text) ≡ b → HasText line
       → Divides limits (end_full limits (put_line line (cond b (end_round cut) cut))) (lines ++ line ∷ [])
   by_room true is text =
-      let past : limits.bytes < size_of cut.begun + length line.text = ltb-true _ _ (both_true _ _ is).1 in
+      let past : limits.bytes < size_of cut.begun + length line.text = ltb-true limits.bytes (size_of cut.begun + length line.text) (both_true _ _ is).1 in
       let some_begun : 0 < length cut.begun = is_some cut.begun (both_true _ _ is).0 in
       ended_full limits (put_line line (end_round cut)) (lines ++ line ∷ []) some
       (replace limits cut.rounds (cut.begun ∷ []) (cut.begun ++ line ∷ []) (line ∷ []) (lines ++ line ∷ []) longer

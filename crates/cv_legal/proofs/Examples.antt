@@ -19,6 +19,7 @@ use Rattle.cv_records.specs.declared.event.EventEntry.{EventEntry}
 use Rattle.cv_records.specs.declared.read.Answer.{Answer}
 use Rattle.cv_records.specs.declared.read.Answer.TheVariants as answer
 use Rattle.cv_records.specs.declared.read.ReportOutcome.TheVariants as report
+use Rattle.cv_records.specs.declared.reply.Reply.{Reply}
 use Rattle.cv_records.specs.declared.reply.Reply.TheVariants as reply
 use Rattle.cv_request.specs.Manifest.{manifest_of}
 use Rattle.cv_request.specs.Request.{act_of, register_of, request_line, request_of}
@@ -36,15 +37,16 @@ use Rattle.cv_scan.specs.Scan.{scan}
 use Rattle.cv_findings.specs.Rows.{rows_of}
 use Rattle.cv_machine.specs.Answer.{Read, answer_to, report_of}
 use Rattle.cv_machine.specs.Answer as reads
+use Rattle.cv_machine.specs.Layers.{queued}
 use Rattle.cv_machine.specs.Scans.{Trees}
 use Rattle.cv_machine.specs.declared.act.WholeAct.TheVariants as whole
-use Rattle.cv_legal.specs.Legal.{AreLegal, IsLegal}
-use Rattle.cv_legal.specs.Parts.{claims_of, events_of, lines_answered, times}
+use Rattle.cv_legal.specs.Legal.{AreLast, AreLegal, IsLegal}
+use Rattle.cv_legal.specs.Parts.{claims_of, events_by, events_of, lines_answered, times}
 use Rattle.cv_legal.specs.Replay.{Moment, Replays, beginning, moment_after, read_of}
 use Rattle.cv_legal.specs.Round.{AreReadsOrdered, IsLegalRound}
 use Rattle.cv_legal.specs.Rounds.{Round, RoundLimits, round_limits, rounds_of}
 use Rattle.cv_legal.specs.Taken.{IsTaken, lines_asked, refusal_at, refusals, requests}
-use Rattle.cv_legal.specs.Turns.{Works}
+use Rattle.cv_legal.specs.Turns.{ClaimsBelow, Works}
 use Rattle.cv_legal.specs.code.Segment.{lane_requests}
 use Rattle.cv_legal.specs.code.Served.{LinesRise}
 use Rattle.cv_legal.specs.declared.taken.Requested.{Requested}
@@ -77,12 +79,13 @@ empties : (rounds_of round_limits (codes "a\n\n\nb\n") true ≡ (line 1 (codes "
 unfolding lines_of
 empties = (refl, refl, refl)
 
--- a round ends with its last line, so an empty line after it ends one without lines
+-- a round ends with its last line, once that has ended, so an empty line after it ends one without lines
 full : (rounds_of small (codes "a\nb\nc\n") true ≡ (line 1 (codes "a") ∷ line 2 (codes "b") ∷ []) ∷ (line 3 (codes "c") ∷ []) ∷ [])
     × (rounds_of small (codes "a\nb\n\n") true ≡ (line 1 (codes "a") ∷ line 2 (codes "b") ∷ []) ∷ [] ∷ [])
     × (rounds_of small (codes "a\nb\n") false ≡ (line 1 (codes "a") ∷ line 2 (codes "b") ∷ []) ∷ [])
+    × (rounds_of small (codes "a\nb") false ≡ [])
 unfolding lines_of
-full = (refl, refl, refl)
+full = (refl, refl, refl, refl)
 
 -- a round has exactly its bytes, or ends before the line that would bring it past them; LF and CR do not count
 bytes : (rounds_of small (codes "abc\r\nd\n") true ≡ (line 1 (codes "abc") ∷ line 2 (codes "d") ∷ []) ∷ [])
@@ -199,6 +202,17 @@ first_legal = record {
   by_lane true = refl
   by_lane false = refl
 
+-- the worker ends what it claims
+abbrev claim_event : EventEntry
+claim_event = record { number = 2; by = by.Worker 0; act = name.Claim layer; reply = reply.Claimed }
+
+abbrev indexed_event : EventEntry
+indexed_event = record { number = 3; by = by.Worker 0; act = name.Indexed layer; reply = reply.Entered }
+
+worker_works : (b : Bool) → Works None (cons_option (cond b (Some claim_event) None) (cons_option (cond b (Some indexed_event) None) [])) None
+worker_works true = (tt, (refl, refl))
+worker_works false = refl
+
 second_legal : IsLegalRound trees 1 registered second_round second_entries indexed
 unfolding rows_of scan root_entries packages findings affects fixed
 second_legal = record {
@@ -219,21 +233,11 @@ second_legal = record {
   lanes = λ lane. by_lane (0 == lane);
   claims = λ other. refl;
   claimers = (omega arith, (tt, tt));
-  works = λ worker. by_worker (0 == worker);
+  works = λ worker. worker_works (0 == worker);
 } where
   by_lane : (b : Bool) → cons_option (cond b (Some 4) None) [] ≡ map (λ (r : Requested). r.line) (cond b (asked 4 (request.Report image) ∷ []) [])
   by_lane true = refl
   by_lane false = refl
-
-  claim : EventEntry
-  claim = record { number = 2; by = by.Worker 0; act = name.Claim layer; reply = reply.Claimed }
-
-  result : EventEntry
-  result = record { number = 3; by = by.Worker 0; act = name.Indexed layer; reply = reply.Entered }
-
-  by_worker : (b : Bool) → Works None (cons_option (cond b (Some claim) None) (cons_option (cond b (Some result) None) [])) None
-  by_worker true = (tt, (refl, refl))
-  by_worker false = refl
 
 -- the two rounds make a legal transcript, after which no layer is Queued
 two_rounds : AreLegal trees 1 beginning (first_round ∷ second_round ∷ []) (first_entries ++ second_entries) indexed
@@ -244,6 +248,39 @@ two_rounds = record {
   parts = refl;
   input = (registered, first_entries, second_entries, refl, first_legal, (indexed, second_entries, [], refl, second_legal, (refl, refl)));
   further = (refl, refl);
+}
+
+-- after the first round alone the layer is Queued, and one more round indexes it
+abbrev last_entries : List Entry
+last_entries = entry.Event claim_event ∷ entry.Event indexed_event ∷ []
+
+last_legal : IsLegalRound trees 1 registered [] last_entries indexed
+unfolding rows_of scan root_entries packages findings affects fixed
+last_legal = record {
+  taken = [];
+  read = tt;
+  others = last_entries;
+  parts = refl;
+  replays = (
+    claimed,
+    record { act = whole.Claim layer 0; source = refl; is = refl; next = refl },
+    (indexed, record { act = whole.Indexed layer 0; source = refl; is = refl; next = refl }, refl),
+  );
+  reads = ((tt, tt), (tt, tt));
+  lanes = λ lane. refl;
+  claims = λ other. refl;
+  claimers = (omega arith, (tt, tt));
+  works = λ worker. worker_works (0 == worker);
+}
+
+one_more_round : AreLegal trees 1 beginning (first_round ∷ []) (first_entries ++ last_entries) indexed
+one_more_round = record {
+  between = registered;
+  first = first_entries;
+  last = last_entries;
+  parts = refl;
+  input = (registered, first_entries, [], refl, first_legal, (refl, refl));
+  further = last_legal;
 }
 
 -- the input has these two rounds
@@ -349,21 +386,21 @@ all_refused (first ∷ taken) = by_answer first.answer (all_refused taken) where
   by_answer (Ok request) rest = rest
   by_answer (Err error) rest = (tt, rest)
 
--- no entry is of a refused line
-abbrev NoneRefused : List Entry → Type 0
-NoneRefused [] = ⊤
-NoneRefused (e ∷ entries) = (IsRefused e → ⊥) × NoneRefused entries
+-- the first entry, if there is one, is not of a refused line
+abbrev BeginsUnrefused : List Entry → Type 0
+BeginsUnrefused [] = ⊤
+BeginsUnrefused (e ∷ entries) = IsRefused e → ⊥
 
--- without refused lines the others are all
-no_refusals : (entries refused others : List Entry) → NoneRefused entries → AllByRecursion IsRefused refused → entries ≡ refused ++ others → others ≡ entries
+-- so there are no refused lines before the others
+no_refusals : (entries refused others : List Entry) → BeginsUnrefused entries → AllByRecursion IsRefused refused → entries ≡ refused ++ others → others ≡ entries
 no_refusals entries [] others none all is = sym is
 no_refusals [] (x ∷ refused) others none all is = absurd (cc is)
 no_refusals (e ∷ entries) (x ∷ refused) others none all is =
     let same : e ≡ x = cc is in
-    absurd (none.0 (subst IsRefused (sym same) all.0))
+    absurd (none (subst IsRefused (sym same) all.0))
 
 others_are : (kept : Trees) (workers : ℕ) (before : Moment) (lines : Round) (entries : List Entry) (after : Moment) (h : IsLegalRound kept workers before lines entries after)
-    → NoneRefused entries → h.others ≡ entries
+    → BeginsUnrefused entries → h.others ≡ entries
 others_are kept workers before lines entries after h none = no_refusals entries (refusals h.taken) h.others none (all_refused h.taken) h.parts
 
 -- a report that waits for a layer which is Indexed
@@ -385,7 +422,7 @@ never_waits (Some reads.Heads) is = cc is
 late : (workers : ℕ) (lines : Round) (after : Moment) → IsLegalRound trees workers indexed lines late_entries after → ⊥
 late workers lines after h =
     let replays : Replays trees (requests h.taken) indexed late_entries after =
-    subst (λ entries. Replays trees (requests h.taken) indexed entries after) (others_are trees workers indexed lines late_entries after h ((λ refused. refused), tt)) h.replays in
+    subst (λ entries. Replays trees (requests h.taken) indexed entries after) (others_are trees workers indexed lines late_entries after h (λ refused. refused)) h.replays in
     by_kind replays.0.act replays.0.is where
       by_kind : (act : RequestAct)
           → (answer.Report image (report.Pending layer) ≡ answer.NoMemory) ⊎ (option_map (answer_to trees indexed.state) (read_of act) ≡ Some (answer.Report image (report.Pending layer))) → ⊥
@@ -400,7 +437,7 @@ swapped_entries first second =
 swapped : (first second : Answer) (workers : ℕ) (lines : Round) (after : Moment) → IsLegalRound trees workers beginning lines (swapped_entries first second) after → ⊥
 swapped first second workers lines after h =
     let ordered : AreReadsOrdered (swapped_entries first second) =
-    subst (λ entries. AreReadsOrdered entries) (others_are trees workers beginning lines (swapped_entries first second) after h ((λ refused. refused), ((λ refused. refused), tt))) h.reads in
+    subst (λ entries. AreReadsOrdered entries) (others_are trees workers beginning lines (swapped_entries first second) after h (λ refused. refused)) h.reads in
     by_kind (ordered.0.0 refl) where
       by_kind : (0 < 0) ⊎ (◌≡◌ {A = ℕ} 0 0 × (2 < 1)) → ⊥
       by_kind (inl less) = omega (arith, less)
@@ -422,7 +459,7 @@ swapped_events first second = entry.Event (record second { by = by.Lane 0 2 }) �
 swapped_acts : (first second : EventEntry) (workers : ℕ) (before : Moment) (lines : Round) (last : ℕ) (after : Moment) → LinesRise lines last
     → IsLegalRound trees workers before lines (swapped_events first second) after → ⊥
 swapped_acts first second workers before lines last after rise h =
-    let same = others_are trees workers before lines (swapped_events first second) after h ((λ refused. refused), ((λ refused. refused), tt)) in
+    let same = others_are trees workers before lines (swapped_events first second) after h (λ refused. refused) in
     let numbers : lines_answered 0 (swapped_events first second) ≡ lines_asked 0 (requests h.taken) =
     subst (λ entries. lines_answered 0 entries ≡ lines_asked 0 (requests h.taken)) same (h.lanes 0) in
     not_falling (lane_requests 0 (requests h.taken)) (rise_lane 0 (requests h.taken) (asks_rise lines last h.taken h.read rise)) numbers
@@ -433,3 +470,60 @@ unclaimed workers lines after h =
     let none : h.others ≡ [] = others_are trees workers registered lines [] after h tt in
     let claims : times layer (claims_of (events_of [])) ≡ 1 = subst (λ entries. times layer (claims_of (events_of entries)) ≡ 1) none (h.claims layer) in
     omega (arith, claims)
+
+-- so there is one more round after the last, if a layer is Queued
+no_more_round : (workers : ℕ) (after : Moment) → AreLast (queued registered.state.layers) trees workers registered [] after → ⊥
+no_more_round workers after h = unclaimed workers [] after h
+
+-- a claim by a worker that there is not
+abbrev other_claim : Reply → List Entry
+other_claim answer = entry.Event (record { number = 2; by = by.Worker 1; act = name.Claim layer; reply = answer }) ∷ []
+
+no_such_worker : (answer : Reply) (lines : Round) (after : Moment) → IsLegalRound trees 1 registered lines (other_claim answer) after → ⊥
+no_such_worker answer lines after h =
+    let same = others_are trees 1 registered lines (other_claim answer) after h (λ refused. refused) in
+    let below : AllByRecursion (λ event. ClaimsBelow 1 event.by event.act) (events_of (other_claim answer)) =
+    subst (λ entries. AllByRecursion (λ event. ClaimsBelow 1 event.by event.act) (events_of entries)) same h.claimers in
+    let low : 1 < 1 = below.0 in
+    omega (arith, low)
+
+-- a result without its claim, though the layer was claimed before the round
+abbrev only_result : List Entry
+only_result = entry.Event indexed_event ∷ []
+
+no_claim : (workers : ℕ) (lines : Round) (after : Moment) → IsLegalRound trees workers claimed lines only_result after → ⊥
+no_claim workers lines after h =
+    let same = others_are trees workers claimed lines only_result after h (λ refused. refused) in
+    let works : Works None (indexed_event ∷ []) None = subst (λ entries. Works None (events_by 0 (events_of entries)) None) same (h.works 0) in
+    works.0
+
+-- a claim without its result in the round
+abbrev only_claim : List Entry
+only_claim = entry.Event claim_event ∷ []
+
+no_result : (workers : ℕ) (lines : Round) (after : Moment) → IsLegalRound trees workers registered lines only_claim after → ⊥
+no_result workers lines after h =
+    let same = others_are trees workers registered lines only_claim after h (λ refused. refused) in
+    let works : Works None (claim_event ∷ []) None = subst (λ entries. Works None (events_by 0 (events_of entries)) None) same (h.works 0) in
+    cc works.1
+
+-- a read whose front counts an event that does not stand before it
+abbrev early_read : Answer → List Entry
+early_read found = entry.Read (record { front = 1; lane = 0; line = 1; answer = found }) ∷ []
+
+early : (found : Answer) (workers : ℕ) (lines : Round) (after : Moment) → IsLegalRound trees workers beginning lines (early_read found) after → ⊥
+early found workers lines after h =
+    let replays : Replays trees (requests h.taken) beginning (early_read found) after =
+    subst (λ entries. Replays trees (requests h.taken) beginning entries after) (others_are trees workers beginning lines (early_read found) after h (λ refused. refused)) h.replays in
+    cc replays.0.front
+
+-- a refused line after an event
+abbrev late_refusal : EventEntry → ℕ → RequestError → List Entry
+late_refusal event number error = entry.Event event ∷ entry.Refused number error ∷ []
+
+refused_late : (event : EventEntry) (number : ℕ) (error : RequestError) (workers : ℕ) (before : Moment) (lines : Round) (after : Moment)
+    → IsLegalRound trees workers before lines (late_refusal event number error) after → ⊥
+refused_late event number error workers before lines after h =
+    let replays : Replays trees (requests h.taken) before (late_refusal event number error) after =
+    subst (λ entries. Replays trees (requests h.taken) before entries after) (others_are trees workers before lines (late_refusal event number error) after h (λ refused. refused)) h.replays in
+    replays.2
