@@ -113,11 +113,11 @@ cut_one limits cut lines line some h = by_text (is_nil line.text) refl where
   by_room : (b : Bool) → is_cons cut.begun && nat_lt limits.bytes (size_of cut.begun + length line.text) ≡ b → HasText line
       → Divides limits (end_full limits (put_line line (cond b (end_round cut) cut))) (lines ++ line ∷ [])
   by_room true is text =
-      let past : limits.bytes < size_of cut.begun + length line.text = ltb-true limits.bytes (size_of cut.begun + length line.text) (both_true _ _ is).1 in
-      let some_begun : 0 < length cut.begun = is_some cut.begun (both_true _ _ is).0 in
+      let parts = both_true (is_cons cut.begun) (nat_lt limits.bytes (size_of cut.begun + length line.text)) is in
+      let past = ltb-true limits.bytes (size_of cut.begun + length line.text) parts.1 in
       ended_full limits (put_line line (end_round cut)) (lines ++ line ∷ []) some
       (replace limits cut.rounds (cut.begun ∷ []) (cut.begun ++ line ∷ []) (line ∷ []) (lines ++ line ∷ []) longer
-      (h.text, h.within, (line ∷ [], inr (inr (record { some = some_begun; next = line; later = []; begins = refl; text = text; past = past; short = h.short; joined = refl })), refl)))
+      (h.text, h.within, (line ∷ [], inr (inr (record { some = is_some cut.begun parts.0; next = line; later = []; begins = refl; text = text; past = past; short = h.short; joined = refl })), refl)))
       (text, tt) (inr refl) (omega (arith, some))
   by_room false is text =
       ended_full limits (put_line line cut) (lines ++ line ∷ []) some longer (all_with cut.begun line h.text text)

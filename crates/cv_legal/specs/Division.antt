@@ -1,5 +1,5 @@
 -- What rounds are, apart from how they are found (defined by this project): each ends for one of three reasons, and what
--- follows it is cut likewise.
+-- follows it is cut likewise. Lines are divided so in one way only, which `Rounds` computes.
 use Rattle.std.specs.Prelude.{◌≡◌, ◌+◌, ◌<◌, ◌≤◌, ◌⊎◌, List, [], ◌∷◌, ◌++◌, length}
 use Rattle.std.specs.List.{AllByRecursion}
 use Rattle.cv_base.specs.Lines.{Line}
