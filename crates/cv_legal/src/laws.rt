@@ -22,7 +22,8 @@ pub fn round_laws()
     ensures short { (limits : RoundLimits) (bytes : List ℕ) (ended : Bool) → 0 < limits.lines → AllByRecursion (IsShort limits) (rounds_of limits bytes ended) }
 {}
 
-/// The events of all legal rounds are one history of the machine.
+/// The events of all legal rounds are one history of the machine. The history has some acts of these names and replies: that an
+/// act is the whole of what was asked for is said by `AreLegal`, and not by the history.
 pub fn history_law()
     ensures { (trees : Trees) (workers : ℕ) (before : Moment) (rounds : List Round) (entries : List Entry) (after : Moment) → AreLegal trees workers before rounds entries after → IsHistory trees before (events_of entries) after }
 {}
