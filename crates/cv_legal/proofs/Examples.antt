@@ -182,7 +182,7 @@ indexed = moment_after trees claimed (whole.Indexed layer 0)
 first_legal : IsLegalRound trees 1 beginning first_round first_entries registered
 first_legal = record {
   taken = asks 1 (request.Register manifest) ∷ asks 2 (request.Report image) ∷ [];
-  read = first_taken;
+  answers = first_taken;
   others = first_entries;
   parts = refl;
   replays = (
@@ -190,7 +190,7 @@ first_legal = record {
     record { act = whole.Register manifest; source = refl; is = refl; next = refl },
     (record { act = request.Report image; source = refl; front = refl; is = inr refl }, refl),
   );
-  reads = ((tt, tt), (tt, tt));
+  ordered = ((tt, tt), (tt, tt));
   lanes = λ lane. by_lane (0 == lane);
   claims = λ other. refl;
   claimers = (tt, tt);
@@ -217,7 +217,7 @@ second_legal : IsLegalRound trees 1 registered second_round second_entries index
 unfolding rows_of scan root_entries packages findings affects fixed
 second_legal = record {
   taken = asks 4 (request.Report image) ∷ [];
-  read = second_taken;
+  answers = second_taken;
   others = second_entries;
   parts = refl;
   replays = (
@@ -229,7 +229,7 @@ second_legal = record {
       (record { act = request.Report image; source = refl; front = refl; is = inr refl }, refl),
     ),
   );
-  reads = ((tt, (tt, tt)), ((tt, tt), (tt, tt)));
+  ordered = ((tt, (tt, tt)), ((tt, tt), (tt, tt)));
   lanes = λ lane. by_lane (0 == lane);
   claims = λ other. refl;
   claimers = (omega arith, (tt, tt));
@@ -258,7 +258,7 @@ last_legal : IsLegalRound trees 1 registered [] last_entries indexed
 unfolding rows_of scan root_entries packages findings affects fixed
 last_legal = record {
   taken = [];
-  read = tt;
+  answers = tt;
   others = last_entries;
   parts = refl;
   replays = (
@@ -266,7 +266,7 @@ last_legal = record {
     record { act = whole.Claim layer 0; source = refl; is = refl; next = refl },
     (indexed, record { act = whole.Indexed layer 0; source = refl; is = refl; next = refl }, refl),
   );
-  reads = ((tt, tt), (tt, tt));
+  ordered = ((tt, tt), (tt, tt));
   lanes = λ lane. refl;
   claims = λ other. refl;
   claimers = (omega arith, (tt, tt));
@@ -437,7 +437,7 @@ swapped_entries first second =
 swapped : (first second : Answer) (workers : ℕ) (lines : Round) (after : Moment) → IsLegalRound trees workers beginning lines (swapped_entries first second) after → ⊥
 swapped first second workers lines after h =
     let ordered : AreReadsOrdered (swapped_entries first second) =
-    subst (λ entries. AreReadsOrdered entries) (others_are trees workers beginning lines (swapped_entries first second) after h (λ refused. refused)) h.reads in
+    subst (λ entries. AreReadsOrdered entries) (others_are trees workers beginning lines (swapped_entries first second) after h (λ refused. refused)) h.ordered in
     by_kind (ordered.0.0 refl) where
       by_kind : (0 < 0) ⊎ (◌≡◌ {A = ℕ} 0 0 × (2 < 1)) → ⊥
       by_kind (inl less) = omega (arith, less)
@@ -462,7 +462,7 @@ swapped_acts first second workers before lines last after rise h =
     let same = others_are trees workers before lines (swapped_events first second) after h (λ refused. refused) in
     let numbers : lines_answered 0 (swapped_events first second) ≡ lines_asked 0 (requests h.taken) =
     subst (λ entries. lines_answered 0 entries ≡ lines_asked 0 (requests h.taken)) same (h.lanes 0) in
-    not_falling (lane_requests 0 (requests h.taken)) (rise_lane 0 (requests h.taken) (asks_rise lines last h.taken h.read rise)) numbers
+    not_falling (lane_requests 0 (requests h.taken)) (rise_lane 0 (requests h.taken) (asks_rise lines last h.taken h.answers rise)) numbers
 
 -- no claim of a layer that is Queued as the round begins
 unclaimed : (workers : ℕ) (lines : Round) (after : Moment) → IsLegalRound trees workers registered lines [] after → ⊥

@@ -1,5 +1,5 @@
 -- The events of a legal transcript are one history of the machine.
-use Rattle.std.specs.Prelude.{◌≡◌, ℕ, ◌+◌, List, [], ◌∷◌, ◌++◌, filter_map, length, map, Option, Some, None, Result, Ok, Err, refl}
+use Rattle.std.specs.Prelude.{◌≡◌, ℕ, ◌+◌, List, [], ◌∷◌, ◌++◌, filter_map, length, Option, Some, None, Result, Ok, Err, refl}
 use Rattle.std.specs.List.{cons_option}
 use Rattle.std.proofs.Common.{ap, arith, subst, sym, ◌∙◌}
 use Rattle.cv_records.specs.declared.event.EventEntry.{EventEntry}
@@ -7,7 +7,7 @@ use Rattle.cv_request.specs.declared.error.RequestError.{RequestError}
 use Rattle.cv_request.specs.declared.request.Request.{Request}
 use Rattle.cv_transcript.specs.declared.entry.Entry.{Entry}
 use Rattle.cv_transcript.specs.declared.entry.Entry.TheVariants as entry
-use Rattle.cv_machine.specs.History.{act_name, event_entry, replies, state_after}
+use Rattle.cv_machine.specs.History.{event_entry}
 use Rattle.cv_machine.specs.Scans.{Trees}
 use Rattle.cv_machine.specs.Step.{step}
 use Rattle.cv_machine.specs.declared.act.WholeAct.{WholeAct}
