@@ -6,6 +6,7 @@ use Rattle.std.specs.Str.{chars, is_utf8}
 use Rattle.std.proofs.Common.{ap, arith, inl, inr, subst, sym, ◌∙◌}
 use Rattle.hex.specs.Hex.{decode_pairs, encode_with}
 use Rattle.serde_json.proofs.OnLiterals.{serde_json_on_literals}
+use Rattle.cv_base.specs.Answer.{Yields}
 use Rattle.cv_base.specs.Lines.{Line}
 use Rattle.cv_base.specs.Texts.{same}
 use Rattle.cv_base.specs.declared.manifest.Manifest.{Manifest}
@@ -21,9 +22,13 @@ use Rattle.cv_records.specs.declared.read.Answer.TheVariants as answer
 use Rattle.cv_records.specs.declared.read.ReportOutcome.TheVariants as report
 use Rattle.cv_records.specs.declared.reply.Reply.{Reply}
 use Rattle.cv_records.specs.declared.reply.Reply.TheVariants as reply
+use Rattle.cv_request.specs.Fault.{fault_of}
 use Rattle.cv_request.specs.Manifest.{manifest_of}
 use Rattle.cv_request.specs.Request.{act_of, register_of, request_line, request_of}
 use Rattle.cv_request.specs.declared.error.RequestError.{RequestError}
+use Rattle.cv_request.specs.declared.error.RequestError.TheVariants as error
+use Rattle.cv_request.specs.declared.error.RequestFault.TheVariants as fault
+use Rattle.cv_request.specs.declared.error.RequestWhat.{RequestWhat}
 use Rattle.cv_request.specs.declared.request.Act.{Act as RequestAct}
 use Rattle.cv_request.specs.declared.request.Act.TheVariants as request
 use Rattle.cv_request.specs.declared.request.Request.{Request}
@@ -45,7 +50,7 @@ use Rattle.cv_legal.specs.Parts.{claims_of, events_by, events_of, lines_answered
 use Rattle.cv_legal.specs.Replay.{Moment, Replays, beginning, moment_after, read_of}
 use Rattle.cv_legal.specs.Round.{AreReadsOrdered, IsLegalRound}
 use Rattle.cv_legal.specs.Rounds.{Round, RoundLimits, round_limits, rounds_of}
-use Rattle.cv_legal.specs.Taken.{IsTaken, lines_asked, refusal_at, refusals, requests}
+use Rattle.cv_legal.specs.Taken.{IsTaken, lines_asked, refusal_at, refusals, request_at, requests}
 use Rattle.cv_legal.specs.Turns.{ClaimsBelow, Works}
 use Rattle.cv_legal.specs.code.Segment.{lane_requests}
 use Rattle.cv_legal.specs.code.Served.{LinesRise}
@@ -59,6 +64,10 @@ line number text = record { number = number; text = text }
 -- a round has at most two lines and four bytes
 abbrev small : RoundLimits
 small = record { lines = 2; bytes = 4 }
+
+-- the limits of the service
+limits : round_limits ≡ record { lines = 4096; bytes = 134217728 }
+limits = refl
 
 -- an input without bytes has no round, and neither has a line that has not ended, unless the input has
 nothing : (rounds_of round_limits [] true ≡ [])
@@ -156,6 +165,16 @@ first_taken = (record { number = refl; answer = registers }, (record { number = 
 
 second_taken : AllZip IsTaken second_round (asks 4 (request.Report image) ∷ [])
 second_taken = (record { number = refl; answer = reports }, tt)
+
+-- a line that is a request has no fault, but memory may run out at any line
+no_fault : (number : ℕ) (what : RequestWhat) → IsTaken (line number report_line) (record { line = number; answer = Err (error.BadRequest what) }) → ⊥
+no_fault number what h =
+    let known : request_line report_line ≡ Err (fault.BadRequest what) = h.answer in
+    let both : Ok (record { lane = 0; act = request.Report image }) ≡ Err (fault.BadRequest what) = sym reports ∙ known in
+    cc both
+
+no_memory : (number : ℕ) (text : List ℕ) → IsTaken (line number text) (record { line = number; answer = Err error.NoMemory })
+no_memory number text = record { number = refl; answer = tt }
 
 -- the first round registers the image, and its report waits for the layer
 abbrev first_entries : List Entry
@@ -443,6 +462,23 @@ swapped first second workers lines after h =
       by_kind (inl less) = omega (arith, less)
       by_kind (inr less) = let l = less.1 in omega (arith, l)
 
+-- two reads of two lanes, of which the higher stands first, whatever their lines are
+abbrev lanes_entries : ℕ → ℕ → Answer → Answer → List Entry
+lanes_entries low high first second =
+    entry.Read (record { front = 0; lane = low; line = 2; answer = first }) ∷ entry.Read (record { front = 0; lane = high; line = 1; answer = second }) ∷ []
+
+lower_first : (first second : Answer) → AreReadsOrdered (lanes_entries 0 1 first second)
+lower_first first second = ((λ front. inl (omega arith), tt), (tt, tt))
+
+higher_first : (first second : Answer) (workers : ℕ) (lines : Round) (after : Moment) → IsLegalRound trees workers beginning lines (lanes_entries 1 0 first second) after → ⊥
+higher_first first second workers lines after h =
+    let ordered : AreReadsOrdered (lanes_entries 1 0 first second) =
+    subst (λ entries. AreReadsOrdered entries) (others_are trees workers beginning lines (lanes_entries 1 0 first second) after h (λ refused. refused)) h.ordered in
+    by_kind (ordered.0.0 refl) where
+      by_kind : (1 < 0) ⊎ (◌≡◌ {A = ℕ} 1 0 × (2 < 1)) → ⊥
+      by_kind (inl less) = omega (arith, less)
+      by_kind (inr less) = let l = less.1 in omega (arith, l)
+
 -- two events of a lane in the other order, if the numbers of the lines rise
 not_falling : (rs : List Requested) → AsksRise rs → 2 ∷ 1 ∷ [] ≡ map (λ (r : Requested). r.line) rs → ⊥
 not_falling [] rise is = cc is
@@ -527,3 +563,73 @@ refused_late event number error workers before lines after h =
     let replays : Replays trees (requests h.taken) before (late_refusal event number error) after =
     subst (λ entries. Replays trees (requests h.taken) before entries after) (others_are trees workers before lines (late_refusal event number error) after h (λ refused. refused)) h.replays in
     replays.2
+
+-- a claim of a layer that is not Queued as the round begins
+not_queued : (workers : ℕ) (lines : Round) (after : Moment) → IsLegalRound trees workers beginning lines only_claim after → ⊥
+not_queued workers lines after h =
+    let same = others_are trees workers beginning lines only_claim after h (λ refused. refused) in
+    let claims : 1 ≡ times layer (queued beginning.state.layers) =
+    subst (λ entries. times layer (claims_of (events_of entries)) ≡ times layer (queued beginning.state.layers)) same (h.claims layer) in
+    omega (arith, claims)
+
+-- two claims of a layer
+abbrev two_claims : Reply → List Entry
+two_claims answer = entry.Event claim_event ∷ entry.Event indexed_event ∷ entry.Event (record claim_event { number = 4; reply = answer }) ∷ []
+
+claimed_twice : (answer : Reply) (workers : ℕ) (lines : Round) (after : Moment) → IsLegalRound trees workers registered lines (two_claims answer) after → ⊥
+claimed_twice answer workers lines after h =
+    let same = others_are trees workers registered lines (two_claims answer) after h (λ refused. refused) in
+    let claims : 2 ≡ times layer (queued registered.state.layers) =
+    subst (λ entries. times layer (claims_of (events_of entries)) ≡ times layer (queued registered.state.layers)) same (h.claims layer) in
+    omega (arith, claims)
+
+-- a result of another layer than the worker claimed
+abbrev other_result : List Entry
+other_result = entry.Event claim_event ∷ entry.Event (record indexed_event { act = name.Indexed image }) ∷ []
+
+wrong_layer : (workers : ℕ) (lines : Round) (after : Moment) → IsLegalRound trees workers registered lines other_result after → ⊥
+wrong_layer workers lines after h =
+    let same_entries = others_are trees workers registered lines other_result after h (λ refused. refused) in
+    let works : Works None (claim_event ∷ record indexed_event { act = name.Indexed image } ∷ []) None =
+    subst (λ entries. Works None (events_by 0 (events_of entries)) None) same_entries (h.works 0) in
+    let layers : image ≡ layer = works.1.0 in
+    let wrong : false ≡ true = ap (λ digest. same digest layer) layers in
+    cc wrong
+
+-- what the second round asks, if it begins with no refused line
+asks_report : (taken : List Taken) (entries others : List Entry) → AllZip IsTaken second_round taken → BeginsUnrefused entries → entries ≡ refusals taken ++ others
+    → requests taken ≡ asked 4 (request.Report image) ∷ []
+asks_report [] entries others h none is = absurd h
+asks_report (first ∷ next ∷ taken) entries others h none is = absurd h.1
+asks_report (first ∷ []) entries others h none is = by_answer first.answer h.0.answer is where
+  by_answer : (answer : Result Request RequestError) → Yields fault_of (λ request. request) answer (request_line report_line)
+      → entries ≡ cons_option (refusal_at first.line answer) [] ++ others
+      → cons_option (request_at first.line answer) [] ≡ asked 4 (request.Report image) ∷ []
+  by_answer (Ok r) known is =
+      let both : Ok (record { lane = 0; act = request.Report image }) ≡ Ok r = sym reports ∙ known in
+      let same_request : record { lane = 0; act = request.Report image } ≡ r = cc both in
+      ap (λ (x : Request). record { line = first.line; request = x } ∷ []) (sym same_request)
+      ∙ ap (λ n. asked n (request.Report image) ∷ []) h.0.number
+  by_answer (Err error) known is = absurd (subst BeginsUnrefused is none tt)
+
+-- a line without an entry
+no_answer : (workers : ℕ) (before after : Moment) → IsLegalRound trees workers before second_round [] after → ⊥
+no_answer workers before after h =
+    let asked_lines = ap (λ rs. lines_asked 0 rs) (asks_report h.taken [] h.others h.answers tt h.parts) in
+    let answered = subst (λ entries. lines_answered 0 entries ≡ lines_asked 0 (requests h.taken)) (others_are trees workers before second_round [] after h tt) (h.lanes 0) in
+    let none : ◌≡◌ {A = List ℕ} [] (4 ∷ []) = answered ∙ asked_lines in
+    cc none
+
+-- an event that its line does not ask for
+abbrev not_asked : ℕ → Reply → List Entry
+not_asked number answer = entry.Event (record { number = number; by = by.Lane 0 4; act = name.DropImage image; reply = answer }) ∷ []
+
+asks_no_event : (number : ℕ) (answer : Reply) (workers : ℕ) (before after : Moment) → IsLegalRound trees workers before second_round (not_asked number answer) after → ⊥
+asks_no_event number answer workers before after h =
+    let entries = not_asked number answer in
+    let asks = asks_report h.taken entries h.others h.answers (λ refused. refused) h.parts in
+    let replays : Replays trees (asked 4 (request.Report image) ∷ []) before (not_asked number answer) after =
+    subst (λ rs. Replays trees rs before (not_asked number answer) after) asks
+    (subst (λ es. Replays trees (requests h.taken) before es after) (others_are trees workers before second_round entries after h (λ refused. refused)) h.replays) in
+    let source : None ≡ Some replays.1.act = replays.1.source in
+    cc source
