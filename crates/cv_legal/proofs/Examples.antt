@@ -1,5 +1,5 @@
 -- The definitions, computed on small inputs.
-use Rattle.std.specs.Prelude.{◌≡◌, ⊤, ℕ, ◌<◌, ◌==◌, ◌⊎◌, Bool, false, true, cond, if◌then◌else◌, List, [], ◌∷◌, ◌++◌, codes, map, Option, Some, None, Result, Ok, Err, option_map, refl}
+use Rattle.std.specs.Prelude.{◌≡◌, ⊤, ℕ, ◌+◌, ◌<◌, ◌==◌, ◌⊎◌, Bool, false, true, cond, if◌then◌else◌, List, [], ◌∷◌, ◌++◌, codes, map, Option, Some, None, Result, Ok, Err, option_map, refl}
 use Rattle.std.specs.List.{AllByRecursion, AllZip, cons_option, flat_map, repeat}
 use Rattle.std.specs.Fmt.{digits}
 use Rattle.std.specs.Str.{chars, is_utf8}
@@ -96,12 +96,14 @@ full : (rounds_of small (codes "a\nb\nc\n") true ≡ (line 1 (codes "a") ∷ lin
 unfolding lines_of
 full = (refl, refl, refl, refl)
 
--- a round has exactly its bytes, or ends before the line that would bring it past them; LF and CR do not count
+-- a round has exactly its bytes, or ends before the line that would bring it past them; LF and CR do not count. A line that is
+-- too long by itself is a round of one line
 bytes : (rounds_of small (codes "abc\r\nd\n") true ≡ (line 1 (codes "abc") ∷ line 2 (codes "d") ∷ []) ∷ [])
     × (rounds_of small (codes "abc\nde\n") true ≡ (line 1 (codes "abc") ∷ []) ∷ (line 2 (codes "de") ∷ []) ∷ [])
     × (rounds_of small (codes "abc\nde\n") false ≡ (line 1 (codes "abc") ∷ []) ∷ [])
+    × (rounds_of small (codes "abcde\nf\n") true ≡ (line 1 (codes "abcde") ∷ []) ∷ (line 2 (codes "f") ∷ []) ∷ [])
 unfolding lines_of
-bytes = (refl, refl, refl)
+bytes = (refl, refl, refl, refl)
 
 -- without input there is no output, and nothing happens
 nothing_happens : (trees : Trees) (workers : ℕ) → IsLegal trees [] [] workers beginning.state
@@ -175,6 +177,9 @@ no_fault number what h =
 
 no_memory : (number : ℕ) (text : List ℕ) → IsTaken (line number text) (record { line = number; answer = Err error.NoMemory })
 no_memory number text = record { number = refl; answer = tt }
+
+no_other_number : (number : ℕ) (text : List ℕ) (answer : Result Request RequestError) → IsTaken (line number text) (record { line = number + 1; answer = answer }) → ⊥
+no_other_number number text answer h = let same = h.number in omega (arith, same)
 
 -- the first round registers the image, and its report waits for the layer
 abbrev first_entries : List Entry
@@ -255,6 +260,50 @@ second_legal = record {
   works = λ worker. worker_works (0 == worker);
 } where
   by_lane : (b : Bool) → cons_option (cond b (Some 4) None) [] ≡ map (λ (r : Requested). r.line) (cond b (asked 4 (request.Report image) ∷ []) [])
+  by_lane true = refl
+  by_lane false = refl
+
+-- a line that is no JSON is refused, before the lines of lanes
+bad_json : request_line (codes "x") ≡ Err fault.BadJson
+unfolding is_utf8 chars serde_json_on_literals request_of
+bad_json = refl
+
+bad_taken : AllZip IsTaken (line 1 report_line ∷ line 2 (codes "x") ∷ []) (asks 1 (request.Report image) ∷ record { line = 2; answer = Err error.BadJson } ∷ [])
+bad_taken = (record { number = refl; answer = reports }, (record { number = refl; answer = bad_json }, tt))
+
+bad_legal : IsLegalRound trees 1 beginning (line 1 report_line ∷ line 2 (codes "x") ∷ [])
+    (entry.Refused 2 error.BadJson ∷ entry.Read (record { front = 0; lane = 0; line = 1; answer = answer.Report image report.NotRegistered }) ∷ []) beginning
+bad_legal = record {
+  taken = asks 1 (request.Report image) ∷ record { line = 2; answer = Err error.BadJson } ∷ [];
+  answers = bad_taken;
+  others = entry.Read (record { front = 0; lane = 0; line = 1; answer = answer.Report image report.NotRegistered }) ∷ [];
+  parts = refl;
+  replays = (record { act = request.Report image; source = refl; front = refl; is = inr refl }, refl);
+  ordered = (tt, tt);
+  lanes = λ lane. by_lane (0 == lane);
+  claims = λ other. refl;
+  claimers = tt;
+  works = λ worker. refl;
+} where
+  by_lane : (b : Bool) → cons_option (cond b (Some 1) None) [] ≡ map (λ (r : Requested). r.line) (cond b (asked 1 (request.Report image) ∷ []) [])
+  by_lane true = refl
+  by_lane false = refl
+
+-- the line of a request that submits an event has none if memory ran out
+full_legal : IsLegalRound trees 1 beginning (line 1 register_line ∷ []) (entry.Read (record { front = 0; lane = 0; line = 1; answer = answer.NoMemory }) ∷ []) beginning
+full_legal = record {
+  taken = asks 1 (request.Register manifest) ∷ [];
+  answers = (record { number = refl; answer = registers }, tt);
+  others = entry.Read (record { front = 0; lane = 0; line = 1; answer = answer.NoMemory }) ∷ [];
+  parts = refl;
+  replays = (record { act = request.Register manifest; source = refl; front = refl; is = inl refl }, refl);
+  ordered = (tt, tt);
+  lanes = λ lane. by_lane (0 == lane);
+  claims = λ other. refl;
+  claimers = tt;
+  works = λ worker. refl;
+} where
+  by_lane : (b : Bool) → cons_option (cond b (Some 1) None) [] ≡ map (λ (r : Requested). r.line) (cond b (asked 1 (request.Register manifest) ∷ []) [])
   by_lane true = refl
   by_lane false = refl
 
