@@ -1,9 +1,10 @@
 -- The definitions, computed on small inputs.
-use Rattle.std.specs.Prelude.{◌≡◌, ⊤, ℕ, ◌+◌, ◌<◌, ◌==◌, ◌⊎◌, Bool, false, true, cond, if◌then◌else◌, List, [], ◌∷◌, ◌++◌, codes, map, Option, Some, None, Result, Ok, Err, option_map, refl}
+use Rattle.std.specs.Prelude.{◌≡◌, ⊤, ℕ, ◌+◌, ◌<◌, ◌==◌, ◌⊎◌, Bool, false, true, cond, if◌then◌else◌, List, [], ◌∷◌, ◌++◌, codes, filter, length, map, Option, Some, None, Result, Ok, Err, option_map, refl}
 use Rattle.std.specs.List.{AllByRecursion, AllZip, cons_option, flat_map, repeat}
 use Rattle.std.specs.Fmt.{digits}
 use Rattle.std.specs.Str.{chars, is_utf8}
 use Rattle.std.proofs.Common.{ap, arith, inl, inr, subst, sym, ◌∙◌}
+use Rattle.std.proofs.lemmas.Bool.{eq-eqb}
 use Rattle.hex.specs.Hex.{decode_pairs, encode_with}
 use Rattle.serde_json.proofs.OnLiterals.{serde_json_on_literals}
 use Rattle.cv_base.specs.Answer.{Yields}
@@ -14,7 +15,9 @@ use Rattle.cv_io.specs.Lines.{lines_of}
 use Rattle.cv_match.specs.Affects.{affects, fixed}
 use Rattle.cv_match.specs.Findings.{findings}
 use Rattle.cv_packages.specs.Packages.{packages}
+use Rattle.cv_records.specs.declared.event.Act.{Act}
 use Rattle.cv_records.specs.declared.event.Act.TheVariants as name
+use Rattle.cv_records.specs.declared.event.By.{By}
 use Rattle.cv_records.specs.declared.event.By.TheVariants as by
 use Rattle.cv_records.specs.declared.event.EventEntry.{EventEntry}
 use Rattle.cv_records.specs.declared.read.Answer.{Answer}
@@ -44,18 +47,20 @@ use Rattle.cv_machine.specs.Answer.{Read, answer_to, report_of}
 use Rattle.cv_machine.specs.Answer as reads
 use Rattle.cv_machine.specs.Layers.{queued}
 use Rattle.cv_machine.specs.Scans.{Trees}
+use Rattle.cv_machine.specs.declared.act.WholeAct.{WholeAct}
 use Rattle.cv_machine.specs.declared.act.WholeAct.TheVariants as whole
 use Rattle.cv_legal.specs.Legal.{AreLast, AreLegal, IsLegal}
-use Rattle.cv_legal.specs.Parts.{claims_of, events_by, events_of, lines_answered, times}
-use Rattle.cv_legal.specs.Replay.{Moment, Replays, beginning, moment_after, read_of}
+use Rattle.cv_legal.specs.Parts.{claim_in, claims_of, event_by, events_by, events_of, lines_answered, times}
+use Rattle.cv_legal.specs.Replay.{Moment, Replays, beginning, moment_after, read_of, submitted}
 use Rattle.cv_legal.specs.Round.{AreReadsOrdered, IsLegalRound}
 use Rattle.cv_legal.specs.Rounds.{Round, RoundLimits, round_limits, rounds_of}
 use Rattle.cv_legal.specs.Taken.{IsTaken, lines_asked, refusal_at, refusals, request_at, requests}
-use Rattle.cv_legal.specs.Turns.{ClaimsBelow, Works}
+use Rattle.cv_legal.specs.Turns.{ClaimsBelow, FitsWork, Works}
 use Rattle.cv_legal.specs.code.Segment.{lane_requests}
 use Rattle.cv_legal.specs.code.Served.{LinesRise}
 use Rattle.cv_legal.specs.declared.taken.Requested.{Requested}
 use Rattle.cv_legal.specs.declared.taken.Taken.{Taken}
+use Rattle.cv_base.proofs.Same.{same_self}
 use Rattle.cv_legal.proofs.Assembled.{AsksRise, asks_rise, rise_lane}
 
 abbrev line : ℕ → List ℕ → Line
@@ -682,3 +687,49 @@ asks_no_event number answer workers before after h =
     (subst (λ es. Replays trees (requests h.taken) before es after) (others_are trees workers before second_round entries after h (λ refused. refused)) h.replays) in
     let source : None ≡ Some replays.1.act = replays.1.source in
     cc source
+
+-- ---- a round without lines and without a Queued layer has no entries, so it is nothing to leave it out
+
+no_lines : (taken : List Taken) → AllZip IsTaken [] taken → taken ≡ []
+no_lines [] h = refl
+no_lines (first ∷ taken) h = absurd h
+
+-- a worker's first event is a claim
+first_claim : (act : Act) (claims : List (List ℕ)) → FitsWork None act → ((digest : List ℕ) → times digest (cons_option (claim_in act) claims) ≡ 0) → ⊥
+first_claim (name.Register digest) claims fits none = fits
+first_claim (name.DropImage digest) claims fits none = fits
+first_claim (name.Update feed) claims fits none = fits
+first_claim (name.Claim digest) claims fits none = by_same (same digest digest) (same_self digest) (none digest) where
+  by_same : (b : Bool) → b ≡ true → length (cond b (digest ∷ filter (same digest) claims) (filter (same digest) claims)) ≡ 0 → ⊥
+  by_same true is long = omega (arith, long)
+  by_same false is long = cc is
+first_claim (name.Indexed digest) claims fits none = fits
+first_claim (name.Fault digest) claims fits none = fits
+first_claim (name.Memory digest) claims fits none = fits
+first_claim (name.Ack number) claims fits none = fits
+
+-- an event is of a worker, and there is no claim
+no_event : (source : By) (event : EventEntry) (act : WholeAct) (events : List EventEntry) → submitted [] source event.act ≡ Some act
+    → ((digest : List ℕ) → times digest (cons_option (claim_in event.act) (claims_of events)) ≡ 0)
+    → ((worker : ℕ) → Works None (cons_option (event_by worker source event) (events_by worker events)) None) → ⊥
+no_event (by.Lane lane number) event act events asks claims works = cc asks
+no_event (by.Worker worker) event act events asks claims works = by_worker (worker == worker) (eq-eqb worker worker refl) (works worker) where
+  by_worker : (b : Bool) → b ≡ true → Works None (cons_option (cond b (Some event) None) (events_by worker events)) None → ⊥
+  by_worker true is work = first_claim event.act (claims_of events) work.0 claims
+  by_worker false is work = cc is
+
+no_others : (kept : Trees) (before : Moment) (others : List Entry) (after : Moment) → Replays kept [] before others after
+    → ((digest : List ℕ) → times digest (claims_of (events_of others)) ≡ 0) → ((worker : ℕ) → Works None (events_by worker (events_of others)) None) → others ≡ []
+no_others kept before [] after replays claims works = refl
+no_others kept before (entry.Refused number error ∷ others) after replays claims works = absurd replays
+no_others kept before (entry.Read read ∷ others) after replays claims works = let source : None ≡ Some replays.0.act = replays.0.source in absurd (cc source)
+no_others kept before (entry.Event event ∷ others) after replays claims works =
+    absurd (no_event event.by event replays.1.act (events_of others) replays.1.source claims works)
+
+nothing_to_do : (kept : Trees) (workers : ℕ) (before : Moment) (entries : List Entry) (after : Moment) → queued before.state.layers ≡ []
+    → IsLegalRound kept workers before [] entries after → entries ≡ []
+nothing_to_do kept workers before entries after idle h =
+    let none = no_lines h.taken h.answers in
+    let replays : Replays kept [] before h.others after = subst (λ taken. Replays kept (requests taken) before h.others after) none h.replays in
+    let claims : ((digest : List ℕ) → times digest (claims_of (events_of h.others)) ≡ 0) = λ digest. h.claims digest ∙ ap (λ layers. times digest layers) idle in
+    h.parts ∙ ap (λ taken. refusals taken ++ h.others) none ∙ no_others kept before h.others after replays claims h.works
