@@ -1,22 +1,28 @@
 -- All rounds of an input together are a legal transcript.
-use Rattle.std.specs.Prelude.{◌≡◌, ℕ, ◌+◌, true, List, [], ◌∷◌, ◌++◌, Option, refl}
+use Rattle.std.specs.Prelude.{◌≡◌, ℕ, ◌+◌, true, false, List, [], ◌∷◌, ◌++◌, Option, refl}
 use Rattle.std.specs.Io.KnownBytes.{Appends}
 use Rattle.std.specs.List.{flat_map}
-use Rattle.std.proofs.Common.{subst, sym}
-use Rattle.cv_base.specs.Lines.{numbered}
+use Rattle.std.proofs.Common.{arith, subst, sym, ◌∙◌}
+use Rattle.std.proofs.KnownBytes.{Appends-nil}
+use Rattle.std.proofs.lemmas.Bool.{false≢true}
+use Rattle.cv_base.specs.Lines.{Line, numbered}
+use Rattle.cv_base.specs.Texts.{is_cons}
 use Rattle.cv_io.specs.Lines.{lines_of}
 use Rattle.cv_transcript.specs.Entry.{entry_text}
 use Rattle.cv_transcript.specs.declared.entry.Entry.{Entry}
+use Rattle.cv_machine.specs.Layers.{queued}
 use Rattle.cv_machine.specs.Scans.{Trees}
-use Rattle.cv_legal.specs.Legal.{AreLegalRounds}
+use Rattle.cv_legal.specs.Legal.{AreLast, AreLegalRounds}
 use Rattle.cv_legal.specs.Parts.{grants}
 use Rattle.cv_legal.specs.Replay.{Moment, beginning}
-use Rattle.cv_legal.specs.Rounds.{counted, cut_lines, round_limits}
+use Rattle.cv_legal.specs.Rounds.{Cut, counted, cut_lines, round_limits}
+use Rattle.cv_legal.specs.code.Served.{Served}
 use Rattle.cv_legal.specs.declared.taken.Taken.{Taken}
+use Rattle.cv_legal.proofs.Serving.{counted_none, counted_some}
 use Rattle.cv_serve.specs.Served.{IsServed}
-use Rattle.cv_serve.specs.code.Further.{Further, LastRun, all_rounds}
+use Rattle.cv_serve.specs.code.Further.{Further, LastRun, RoundRun, all_rounds}
 use Rattle.cv_serve.specs.code.Reading.{Done}
-use Rattle.cv_serve.proofs.Further.{lines_both, listed_both, tags_both}
+use Rattle.cv_serve.proofs.Further.{lines_both, listed_both, runs, same_cons, stays, tags_both}
 
 -- the rounds of the input that ended, then the one that had begun, and then the last one
 pub all_served : (trees : Trees) (workers : ℕ) (input : List ℕ) (texts : List (List ℕ)) (last bytes : ℕ) (taken : List Taken) (now between after : Moment)
@@ -50,3 +56,53 @@ all_served trees workers input texts last bytes taken now between after w m u v 
       };
       listed = listed_both l i n first g.entries counted_lines g.listed;
     }
+
+-- the round that had begun as the input ended was run
+pub last_runs : (trees : Trees) (workers : ℕ) (cut : Cut) (last : ℕ) (taken : List Taken) (bytes : ℕ) (entries : List Entry) (now after : Moment) (w v : Option (List ℕ)) (l m : ℕ)
+    → Served trees workers cut last taken bytes entries now → is_cons taken ≡ true → RoundRun trees workers cut.begun now after w v l m
+    → Further trees workers (all_rounds cut) last [] 0 entries after w v l m
+last_runs trees workers cut last taken bytes entries now after w v l m h some r =
+    let f = runs trees workers cut last taken bytes entries now after w v l m h r in
+    subst (λ rounds. Further trees workers (record { rounds = rounds; begun = [] }) last [] 0 entries after w v l m)
+    (sym (counted_some cut (same_cons cut.begun taken h.begun ∙ some))) f
+
+-- no round had begun
+pub none_runs : (trees : Trees) (workers : ℕ) (cut : Cut) (last : ℕ) (taken : List Taken) (bytes : ℕ) (entries : List Entry) (now : Moment) (w : Option (List ℕ)) (l : ℕ)
+    → Served trees workers cut last taken bytes entries now → is_cons taken ≡ false → Further trees workers (all_rounds cut) last [] 0 entries now w w l l
+none_runs trees workers cut last taken bytes entries now w l h none =
+    let empty : cut.begun ≡ [] = nothing cut.begun (same_cons cut.begun taken h.begun ∙ none) in
+    stays trees workers (all_rounds cut) last [] 0 entries now w l (record {
+      rounds = subst (λ rounds. AreLegalRounds trees workers beginning rounds entries now) (sym (counted_none cut empty)) h.rounds;
+      begun = tt;
+      rise = tt;
+      size = refl;
+    })
+  where
+    nothing : (lines : List Line) → is_cons lines ≡ false → lines ≡ []
+    nothing [] e = refl
+    nothing (line ∷ lines) e = absurd (false≢true (sym e))
+
+-- no layer was queued
+pub none_queued : (trees : Trees) (workers : ℕ) (now : Moment) (w : Option (List ℕ)) (l : ℕ) → queued now.state.layers ≡ [] → LastRun trees workers now now w w l l
+none_queued trees workers now w l none = record {
+  entries = [];
+  last = subst (λ layers. AreLast layers trees workers now [] now) (sym none) (refl, refl);
+  appended = Appends-nil w;
+  tags = tt;
+  listed = omega arith;
+}
+
+-- one more round was run, as a layer was queued
+pub some_queued : (trees : Trees) (workers : ℕ) (now after : Moment) (w v : Option (List ℕ)) (l m : ℕ) → is_cons (queued now.state.layers) ≡ true → RoundRun trees workers [] now after w v l m
+    → LastRun trees workers now after w v l m
+some_queued trees workers now after w v l m some r = record {
+  entries = r.entries;
+  last = at_last (queued now.state.layers) some;
+  appended = r.appended;
+  tags = r.tags;
+  listed = r.listed;
+}
+  where
+    at_last : (layers : List (List ℕ)) → is_cons layers ≡ true → AreLast layers trees workers now r.entries after
+    at_last [] e = absurd (false≢true e)
+    at_last (layer ∷ layers) e = r.legal

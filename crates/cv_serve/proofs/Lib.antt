@@ -5,3 +5,4 @@ mod Parts
 mod Requests
 mod Rounds
 mod Working
+mod Written

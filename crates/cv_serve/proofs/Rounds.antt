@@ -55,10 +55,10 @@ legal_of trees workers worker lines last taken asked jobs before between after r
     let others : List Entry = a.0 ++ w.entries in
     let low : AllByRecursion (λ r. r.request.lane < 8) (requests taken) = subst (λ rs. AllByRecursion (λ (r : Requested). r.request.lane < 8) rs) asked_is (low_lanes asked sound) in
     let part : Segment trees workers (lanes_from 0 8 asked) jobs before others after =
-        segment_of trees workers worker (lanes_from 0 8 asked) jobs before between after refused mid entries l m a w in
+    segment_of trees workers worker (lanes_from 0 8 asked) jobs before between after refused mid entries l m a w in
     let same : Segment trees workers (lanes_from 0 8 (requests taken)) (queued before.state.layers) before others after =
-        subst (λ rs. Segment trees workers (lanes_from 0 8 rs) (queued before.state.layers) before others after) asked_is
-        (subst (λ js. Segment trees workers (lanes_from 0 8 asked) js before others after) jobs_are part) in
+    subst (λ rs. Segment trees workers (lanes_from 0 8 rs) (queued before.state.layers) before others after) asked_is
+    (subst (λ js. Segment trees workers (lanes_from 0 8 asked) js before others after) jobs_are part) in
     subst (λ es. IsLegalRound trees workers before lines es after)
     (sym (joined_of trees workers worker (lanes_from 0 8 asked) jobs before between after refused mid entries l m a w ∙ ap (λ es. es ++ others) refused_is))
     (legal_round trees workers lines last taken before others after read rise low same)
@@ -96,16 +96,18 @@ requests_both (x ∷ xs) ys = ap (cons_option (request_at x.line x.answer)) (req
 pub one_asked : (taken : List Taken) (t : Taken) (request : Request) (refused : List Entry) (asked all : List Requested) → t.answer ≡ Ok request
     → refused ≡ refusals taken → asked ≡ requests taken → all ≡ asked ++ record { line = t.line; request = request } ∷ []
     → (refused ≡ refusals (taken ++ t ∷ [])) × (all ≡ requests (taken ++ t ∷ []))
-one_asked taken t request refused asked all ok refused_is asked_is joined =
-    ( refused_is ∙ sym (refusals_both taken (t ∷ []) ∙ ap (λ a. refusals taken ++ cons_option (refusal_at t.line a) []) ok ∙ append-nil (refusals taken))
-    , joined ∙ ap (λ rs. rs ++ record { line = t.line; request = request } ∷ []) asked_is
-        ∙ sym (requests_both taken (t ∷ []) ∙ ap (λ a. requests taken ++ cons_option (request_at t.line a) []) ok))
+one_asked taken t request refused asked all ok refused_is asked_is joined = (
+  refused_is ∙ sym (refusals_both taken (t ∷ []) ∙ ap (λ a. refusals taken ++ cons_option (refusal_at t.line a) []) ok ∙ append-nil (refusals taken)),
+  joined ∙ ap (λ rs. rs ++ record { line = t.line; request = request } ∷ []) asked_is
+      ∙ sym (requests_both taken (t ∷ []) ∙ ap (λ a. requests taken ++ cons_option (request_at t.line a) []) ok),
+)
 
 -- one more line, which is refused
 pub one_refused : (taken : List Taken) (t : Taken) (error : RequestError) (refused all : List Entry) (asked : List Requested) → t.answer ≡ Err error
     → refused ≡ refusals taken → asked ≡ requests taken → all ≡ refused ++ entry.Refused t.line error ∷ []
     → (all ≡ refusals (taken ++ t ∷ [])) × (asked ≡ requests (taken ++ t ∷ []))
-one_refused taken t error refused all asked err refused_is asked_is joined =
-    ( joined ∙ ap (λ es. es ++ entry.Refused t.line error ∷ []) refused_is
-        ∙ sym (refusals_both taken (t ∷ []) ∙ ap (λ a. refusals taken ++ cons_option (refusal_at t.line a) []) err)
-    , asked_is ∙ sym (requests_both taken (t ∷ []) ∙ ap (λ a. requests taken ++ cons_option (request_at t.line a) []) err ∙ append-nil (requests taken)))
+one_refused taken t error refused all asked err refused_is asked_is joined = (
+  joined ∙ ap (λ es. es ++ entry.Refused t.line error ∷ []) refused_is
+      ∙ sym (refusals_both taken (t ∷ []) ∙ ap (λ a. refusals taken ++ cons_option (refusal_at t.line a) []) err),
+  asked_is ∙ sym (requests_both taken (t ∷ []) ∙ ap (λ a. requests taken ++ cons_option (request_at t.line a) []) err ∙ append-nil (requests taken)),
+)

@@ -97,7 +97,7 @@ worked_done trees workers worker layer act before between after old mid new clai
     let next : Moment = moment_after trees before claims in
     let claimed = granted_is layer (step trees before.state claims).1 (ap (λ (e : EventEntry). is_grant (name.Claim layer) e.reply) (sym applied.0) ∙ granted) in
     let is : entry.Event result ≡ entry_at trees next (by.Worker worker) act =
-        ap entry.Event resulted.0 ∙ ap (λ t. entry_at trees t (by.Worker worker) act) applied.1 in
+    ap entry.Event resulted.0 ∙ ap (λ t. entry_at trees t (by.Worker worker) act) applied.1 in
     let ends_at : moment_after trees next act ≡ after = sym (resulted.1 ∙ ap (λ t. moment_after trees t act) applied.1) in
     let written : List Entry = entry_at trees before (by.Worker worker) claims ∷ entry_at trees next (by.Worker worker) act ∷ [] in
     record {

@@ -1,13 +1,14 @@
-ghost use Rattle.std.specs.Prelude.{◌≡◌, ℕ, List, [], ◌∷◌, ◌++◌, ◌+◌, ◌<◌, ◌≤◌, ◌^◌, length, map, string_bytes, IfErr, IfOk, OnOk};
+ghost use Rattle.std.specs.Prelude.{◌≡◌, ℕ, List, [], ◌∷◌, ◌++◌, ◌+◌, ◌<◌, ◌≤◌, ◌^◌, ◌&&◌, nat_le, nat_lt, length, map, string_bytes, IfErr, IfOk, OnOk};
 ghost use Rattle.std.specs.List.{AllByRecursion, AllZip};
 ghost use Rattle.cv_base.specs.Lines.{Line};
-ghost use Rattle.cv_base.specs.Texts.{is_cons};
+ghost use Rattle.cv_base.specs.Texts.{is_cons, is_nil};
 ghost use Rattle.cv_transcript.specs.declared.entry.Entry.{Entry};
 ghost use Rattle.cv_machine.specs.Scans.{IsKnown, trees_of};
 ghost use Rattle.cv_seq.specs.Cause.{CausedBy};
 ghost use Rattle.cv_legal.specs.Rounds.{Cut, Round as Lines, cut_line, end_before, end_full, end_round, round_limits};
 ghost use Rattle.cv_legal.specs.Taken.{IsTaken};
 ghost use Rattle.cv_legal.specs.code.Served.{LinesRise, Served};
+ghost use Rattle.cv_legal.specs.declared.limits.TheConstants.{MAX_ROUND_BYTES, MAX_ROUND_LINES};
 ghost use Rattle.cv_serve.specs.Ends.{IsWriting, is_write_stop};
 ghost use Rattle.cv_serve.specs.code.Further.{Further, LegalTexts, RoundRun};
 ghost use Rattle.cv_serve.specs.code.Moments.{IsRoomFor, IsSoundRound, IsSoundTaken, line_at, moment_of};
@@ -62,7 +63,7 @@ pub fn take_line<K: Sink, D: Desk + Drop, L: Ledger>(
     ensures stops { IfErr result IsWriting }
     ensures cause { CausedBy (K.faults output.old) (K.faults output.new) (is_write_stop result) }
 {
-    if text.is_empty() {
+    if is_blank(text) {
         return run_round(alloc, machine, desk, output, round);
     }
     end_long(alloc, machine, desk, output, round, text.len())?;
@@ -81,6 +82,7 @@ fn end_long<K: Sink, D: Desk + Drop, L: Ledger>(
 ) -> Result<(), Stop>
     requires sound { IsSoundRound round.old.taken.items round.old.bytes }
     requires room { D.listings desk.old ≤ 2 ^ 62 + machine.old.core.count }
+    requires text { 0 < bytes }
     ensures further { IsKnown D.tree → (workers : ℕ) → 0 < workers → (cut : Cut) (last : ℕ) (entries : List Entry) (line : Line) → length line.text ≡ bytes
         → Served (trees_of D.tree) workers cut last round.old.taken.items round.old.bytes entries (moment_of machine.old.core)
         → OnOk result (Further (trees_of D.tree) workers (end_before round_limits line cut) last round.new.taken.items round.new.bytes entries (moment_of machine.new.core)
@@ -91,10 +93,10 @@ fn end_long<K: Sink, D: Desk + Drop, L: Ledger>(
     ensures stops { IfErr result IsWriting }
     ensures cause { CausedBy (K.faults output.old) (K.faults output.new) (is_write_stop result) }
 {
-    if !has_lines(round) || bytes <= MAX_ROUND_BYTES.saturating_sub(round.bytes) {
-        return Ok(());
+    if is_too_long(round, bytes) {
+        return run_round(alloc, machine, desk, output, round);
     }
-    run_round(alloc, machine, desk, output, round)
+    Ok(())
 }
 
 /// Ends a round that has as many lines as it may have.
@@ -116,10 +118,10 @@ fn end_whole<K: Sink, D: Desk + Drop, L: Ledger>(
     ensures stops { IfErr result IsWriting }
     ensures cause { CausedBy (K.faults output.old) (K.faults output.new) (is_write_stop result) }
 {
-    if round.taken.len() < MAX_ROUND_LINES {
-        return Ok(());
+    if is_full(round) {
+        return run_round(alloc, machine, desk, output, round);
     }
-    run_round(alloc, machine, desk, output, round)
+    Ok(())
 }
 
 /// Runs the round that has begun, and writes its lines. The next round has no lines yet.
@@ -179,6 +181,35 @@ fn put(round: &mut Round, taken: Taken, bytes: usize) -> Result<(), NoMemory>
     round.taken.push(taken)?;
     round.bytes += bytes;
     Ok(())
+}
+
+fn is_blank(text: &[u8]) -> bool
+    ensures { result ≡ is_nil text.now }
+{
+    text.is_empty()
+}
+
+/// Whether a line of so many bytes would make a round too long. A round without lines takes any line.
+fn is_too_long(round: &Round, bytes: usize) -> bool
+    requires text { 0 < bytes }
+    ensures { result ≡ (is_cons round.now.taken.items && nat_lt MAX_ROUND_BYTES (round.now.bytes + bytes)) }
+{
+    has_lines(round) && is_past(round.bytes, bytes)
+}
+
+/// Whether so many bytes more are more than a round may have.
+fn is_past(bytes: usize, more: usize) -> bool
+    requires text { 0 < more }
+    ensures { result ≡ nat_lt MAX_ROUND_BYTES (bytes + more) }
+{
+    MAX_ROUND_BYTES.saturating_sub(bytes) < more
+}
+
+/// Whether a round has as many lines as it may have.
+fn is_full(round: &Round) -> bool
+    ensures { result ≡ nat_le MAX_ROUND_LINES (length round.now.taken.items) }
+{
+    round.taken.len() >= MAX_ROUND_LINES
 }
 
 /// Whether the round that has begun has a line.

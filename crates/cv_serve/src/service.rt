@@ -1,6 +1,8 @@
-ghost use Rattle.std.specs.Prelude.{◌≡◌, ℕ, List, [], ◌+◌, ◌<◌, ◌≤◌, ◌^◌, false, length, All, IfErr, IfSome, OnOk};
+ghost use Rattle.std.specs.Prelude.{◌≡◌, ℕ, List, [], ◌+◌, ◌<◌, ◌≤◌, ◌^◌, false, length, All, IfErr, IfOk, IfSome, OnOk};
 ghost use Rattle.std.specs.Io.KnownBytes.{IsAtEnd};
 ghost use Rattle.cv_seq.specs.Cause.{CausedBy, Rose};
+ghost use Rattle.cv_base.specs.Texts.{is_cons};
+ghost use Rattle.cv_machine.specs.Layers.{queued};
 ghost use Rattle.cv_machine.specs.Scans.{IsKnown, trees_of};
 ghost use Rattle.cv_io.specs.Reader.{reading, room_of};
 ghost use Rattle.cv_transcript.specs.declared.entry.Entry.{Entry};
@@ -20,6 +22,7 @@ use cv_core::{Core, Limits, MAX_FEEDS, MAX_IMAGES};
 use cv_desk::Desk;
 use cv_io::{Line, LineReader, Sink, Source};
 use cv_scan_input::{MAX_INPUT, MAX_LINE};
+use cv_seq::NoMemory;
 use std::alloc::Global;
 use std::marker::Brand;
 use std::sync::ledger::{Blank, Ledger};
@@ -178,9 +181,16 @@ fn end_queued<K: Sink, D: Desk + Drop, L: Ledger>(
     ensures stops { IfErr result IsWriting }
     ensures cause { CausedBy (K.faults output.old) (K.faults output.new) (is_write_stop result) }
 {
-    let queued = machine.core.queued(alloc)?;
-    if queued.as_slice().is_empty() {
+    if !is_some_queued(alloc, &machine.core)? {
         return Ok(());
     }
     run_round(alloc, machine, desk, output, round)
+}
+
+/// Whether a layer is queued.
+fn is_some_queued<D: Desk + Drop>(alloc: Global, core: &Core<D>) -> Result<bool, NoMemory>
+    ensures { IfOk result (λ found. found ≡ is_cons (queued core.now.state.layers)) }
+{
+    let layers = core.queued(alloc)?;
+    Ok(!layers.as_slice().is_empty())
 }

@@ -18,7 +18,7 @@ pub returns-clause-answered : goal.returns-clause-answered
 returns-clause-answered g c = λ known workers.
     let start : c.into_iter-requested-iterator.result.rest.items ≡ c.args.asked.items = search rules in
     let all : c.loop-requested.yielded ≡ c.args.asked.items =
-        All-taken c.into_iter-requested-iterator.result c.loop-requested.yielded (c.next.new.self, (c.loop-requested.requested-iterator, c.loop-requested.yielded_by, c.in-None.ensures.steps))
-        ∙ start in
+    All-taken c.into_iter-requested-iterator.result c.loop-requested.yielded (c.next.new.self, (c.loop-requested.requested-iterator, c.loop-requested.yielded_by, c.in-None.ensures.steps))
+    ∙ start in
     subst (λ rs. Answered (trees_of g.D.Desk.tree) workers rs (moment_of c.args.core.now) c.args.entries.now.items (moment_of c.loop-requested.core) c.loop-requested.entries.items) all
     (c.loop-requested.invariant.answered known workers)

@@ -7,8 +7,8 @@ use Rattle.cv_serve.specs.code.Moments.{IsSoundRound, moment_of}
 use Rattle.cv_serve.specs.code.Reading.{Done, HasRead}
 use Rattle.cv_serve.proofs.service.read_lines.Given as goal
 
-abbrev pub invariant-loop-number : goal.invariant-loop-number
-invariant-loop-number g l = record {
+abbrev pub invariant-loop-text : goal.invariant-loop-text
+invariant-loop-text g l = record {
   going : l.reader.spent ≡ false;
   lines : (texts : List (List ℕ)) × (length texts ≡ l.number) × HasRead (reading l.fn.reader (g.S.Source.remaining l.fn.input)) (reading l.reader (g.S.Source.remaining l.input)) texts
       × (IsKnown g.D.Desk.tree → (workers : ℕ) → 0 < workers
@@ -22,5 +22,5 @@ invariant-loop-number g l = record {
   write_later : g.K.Sink.faults l.fn.output ≤ g.K.Sink.faults l.output;
 }
 
-abbrev pub decreases-loop-number : goal.decreases-loop-number
-decreases-loop-number g l = room_of l.reader
+abbrev pub decreases-loop-text : goal.decreases-loop-text
+decreases-loop-text g l = room_of l.reader
