@@ -1,17 +1,21 @@
-//! Tells which container images hold packages with known vulnerabilities.
+//! Tells which container images hold packages with known vulnerabilities: of one image at once, or as a service that says which
+//! images an update of advisories concerns.
 //!
 //! ```text
 //! cd examples/first-scan && cvwatch scan < input.jsonl
+//! cd examples/service && cvwatch serve < input.jsonl
 //! ```
 #![tactic(auto)]
 
 ghost use Rattle.std.specs.Prelude.{◌≡◌, ◌+◌, ◌^◌, ◌<◌, length, All, IfOk, OnOk};
 
+mod arguments;
 mod command;
 mod order;
 mod print;
 mod run;
 mod scanning;
+mod service;
 mod status;
 #[cfg(test)]
 mod tests;
