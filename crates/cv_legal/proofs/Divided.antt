@@ -88,7 +88,7 @@ both_true true true h = (refl, refl)
 both_true true false h = absurd (cc h)
 both_true false b h = absurd (cc h)
 
-size_by_one : (lines : List Line) (line : Line) → size_of (lines ++ line ∷ []) ≡ size_of lines + length line.text
+pub size_by_one : (lines : List Line) (line : Line) → size_of (lines ++ line ∷ []) ≡ size_of lines + length line.text
 size_by_one [] line = omega arith
 size_by_one (first ∷ lines) line = let e = size_by_one lines line in grind (arith, e)
 

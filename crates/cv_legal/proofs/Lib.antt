@@ -1,5 +1,8 @@
+pub mod Assembled
 mod Divided
 mod Examples
 mod Generations
 mod History
 pub mod Joined
+pub mod Segments
+pub mod Serving

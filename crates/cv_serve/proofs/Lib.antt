@@ -1,3 +1,4 @@
 mod Ending
 mod Further
 mod Input
+mod Parts

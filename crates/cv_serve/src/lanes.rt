@@ -1,4 +1,4 @@
-ghost use Rattle.std.specs.Prelude.{◌≡◌, ℕ, ◌==◌, ◌<◌, filter, IfOk, OnOk};
+ghost use Rattle.std.specs.Prelude.{◌≡◌, ℕ, ◌≤◌, filter, IfOk, OnOk};
 ghost use Rattle.std.specs.List.{AllByRecursion};
 ghost use Rattle.cv_machine.specs.Scans.{IsKnown, trees_of};
 ghost use Rattle.cv_legal.specs.code.Segment.{lane_requests, lanes_from};
@@ -24,7 +24,8 @@ pub fn run_lanes<D: Desk + Drop, L: Ledger>(
     entries: &mut Vec<Entry>,
 ) -> Result<(), NoMemory>
     requires sound { AllByRecursion IsSoundRequest asked.items }
-    ensures { IsKnown D.tree → (workers : ℕ) → OnOk result (Answered (trees_of D.tree) workers (lanes_from 0 8 asked.items) (moment_of core.old) entries.old.items (moment_of core.new) entries.new.items) }
+    ensures later { core.old.count ≤ core.new.count }
+    ensures answered { IsKnown D.tree → (workers : ℕ) → OnOk result (Answered (trees_of D.tree) workers (lanes_from 0 8 asked.items) (moment_of core.old) entries.old.items (moment_of core.new) entries.new.items) }
 {
     let mut rest = asked;
     for lane in 0..MAX_LANES {
@@ -65,7 +66,8 @@ fn run_lane<D: Desk + Drop, L: Ledger>(
     entries: &mut Vec<Entry>,
 ) -> Result<(), NoMemory>
     requires sound { AllByRecursion IsSoundRequest asked.items }
-    ensures { IsKnown D.tree → (workers : ℕ) → OnOk result (Answered (trees_of D.tree) workers asked.items (moment_of core.old) entries.old.items (moment_of core.new) entries.new.items) }
+    ensures later { core.old.count ≤ core.new.count }
+    ensures answered { IsKnown D.tree → (workers : ℕ) → OnOk result (Answered (trees_of D.tree) workers asked.items (moment_of core.old) entries.old.items (moment_of core.new) entries.new.items) }
 {
     for requested in asked {
         entries.push(carry_out(alloc, core, steps, requested))?;

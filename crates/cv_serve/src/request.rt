@@ -1,4 +1,4 @@
-ghost use Rattle.std.specs.Prelude.{◌≡◌, ℕ, [], ◌∷◌, IfOk, OnErr};
+ghost use Rattle.std.specs.Prelude.{◌≡◌, ◌≤◌, ℕ, [], ◌∷◌, IfOk, OnErr};
 ghost use Rattle.cv_machine.specs.Scans.{IsKnown, trees_of};
 ghost use Rattle.cv_request.specs.Limits.{IsWithinLimits};
 ghost use Rattle.cv_core.specs.Core.{IsSound, act_of};
@@ -34,7 +34,8 @@ pub fn carry_out<D: Desk + Drop, L: Ledger>(
     asked: Requested,
 ) -> Entry
     requires within { IsWithinLimits asked.request.act }
-    ensures { IsKnown D.tree → (workers : ℕ) → Segment (trees_of D.tree) workers (asked ∷ []) [] (moment_of core.old) (result ∷ []) (moment_of core.new) }
+    ensures entry { IsKnown D.tree → (workers : ℕ) → Segment (trees_of D.tree) workers (asked ∷ []) [] (moment_of core.old) (result ∷ []) (moment_of core.new) }
+    ensures later { core.old.count ≤ core.new.count }
 {
     let Requested {
         line,
@@ -57,6 +58,7 @@ fn entry_of<D: Desk + Drop, L: Ledger>(
 ) -> Result<Entry, NoMemory>
     requires within { IsWithinLimits act }
     ensures entry { IsKnown D.tree → (workers : ℕ) → IfOk result (λ entry. Segment (trees_of D.tree) workers (requested place act ∷ []) [] (moment_of core.old) (entry ∷ []) (moment_of core.new)) }
+    ensures later { core.old.count ≤ core.new.count }
     ensures err { OnErr result (core.new ≡ core.old) }
 {
     match act {
@@ -87,6 +89,7 @@ fn submit_at<D: Desk + Drop, L: Ledger>(
     requires sound { IsSound (act_of event) }
     ensures entry { IsKnown D.tree → IfOk result (λ entry. entry ≡ entry_at (trees_of D.tree) (moment_of core.old) (by_lane place) (act_of event)) }
     ensures after { IsKnown D.tree → IfOk result (λ _. moment_of core.new ≡ moment_after (trees_of D.tree) (moment_of core.old) (act_of event)) }
+    ensures later { core.old.count ≤ core.new.count }
     ensures err { OnErr result (core.new ≡ core.old) }
 {
     let by = By::Lane {

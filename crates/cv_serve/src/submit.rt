@@ -1,4 +1,4 @@
-ghost use Rattle.std.specs.Prelude.{◌≡◌, ◌+◌, IfOk, OnErr};
+ghost use Rattle.std.specs.Prelude.{◌≡◌, ◌+◌, ◌≤◌, ◌^◌, IfOk, OnErr};
 ghost use Rattle.cv_machine.specs.History.{act_name};
 ghost use Rattle.cv_machine.specs.Scans.{IsKnown, trees_of};
 ghost use Rattle.cv_core.specs.Core.{IsSound, act_of};
@@ -26,6 +26,7 @@ pub fn submit<D: Desk + Drop, L: Ledger>(
     requires sound { IsSound (act_of event) }
     ensures entry { IsKnown D.tree → IfOk result (λ entry. IsApplied (trees_of D.tree) (moment_of core.old) by (act_of event) entry (moment_of core.new)) }
     ensures count { IfOk result (λ _. core.new.count ≡ core.old.count + 1) }
+    ensures few { IfOk result (λ _. core.new.count ≤ 2 ^ 62) }
     ensures err { OnErr result (core.new ≡ core.old) }
 {
     if core.count() >= MOST_EVENTS {

@@ -1,13 +1,15 @@
 -- A part of the entries of a round, without refused lines: those that answer requests, one after the other, and those of
 -- claims. Parts of a round come one after the other.
-use Rattle.std.specs.Prelude.{◌≡◌, ℕ, ◌==◌, ◌+◌, List, [], ◌∷◌, ◌++◌, filter, filter_map, map, Option, Some, None}
+use Rattle.std.specs.Prelude.{◌≡◌, ℕ, zero, suc, ◌==◌, ◌+◌, List, [], ◌++◌, filter, filter_map, map, Option, Some, None}
 use Rattle.std.specs.List.{AllByRecursion}
 use Rattle.cv_records.specs.declared.event.By.{By}
 use Rattle.cv_records.specs.declared.event.By.TheVariants as by
-use Rattle.cv_records.specs.declared.event.EventEntry.{EventEntry}
 use Rattle.cv_transcript.specs.declared.entry.Entry.{Entry}
 use Rattle.cv_transcript.specs.declared.entry.Entry.TheVariants as entry
+use Rattle.cv_machine.specs.History.{event_entry}
 use Rattle.cv_machine.specs.Scans.{Trees}
+use Rattle.cv_machine.specs.Step.{step}
+use Rattle.cv_machine.specs.declared.act.WholeAct.{WholeAct}
 use Rattle.cv_legal.specs.Parts.{claims_of, events_by, events_of}
 use Rattle.cv_legal.specs.Replay.{Moment, Replays, asked_at}
 use Rattle.cv_legal.specs.Turns.{ClaimsBelow, Works}
@@ -42,6 +44,10 @@ pub record Segment (trees : Trees) (workers : ℕ) (asked : List Requested) (job
   pub claims : claims_of (events_of entries) ≡ jobs
   pub claimers : AllByRecursion (λ event. ClaimsBelow workers event.by event.act) (events_of entries)
   pub works : (worker : ℕ) → Works None (events_by worker (events_of entries)) None
+
+-- the entry of an event that comes next
+abbrev pub entry_at : Trees → Moment → By → WholeAct → Entry
+entry_at trees before source act = entry.Event (event_entry (before.count + 1) source act (step trees before.state act).1)
 
 -- ---- lanes, one after the other
 
