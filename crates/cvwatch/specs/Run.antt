@@ -1,6 +1,6 @@
 -- What the program does (defined by this project): the one argument `scan` runs that command over the first desk, the
 -- argument `serve` runs the service with one worker, whose desk is the first one, and all other arguments print a line.
-use Rattle.std.specs.Prelude.{◌≡◌, ⊥, ℕ, List, ◌∷◌, Option}
+use Rattle.std.specs.Prelude.{◌≡◌, ℕ, List, ◌∷◌, Option}
 use Rattle.cv_seq.specs.Cause.{Rose}
 use Rattle.cvwatch.specs.Arguments.{command_line, command_of}
 use Rattle.cvwatch.specs.Command.{ScanEnds}

@@ -1,5 +1,5 @@
 -- What the command `serve` does (defined by this project): what each ending says of the input, the output and the desks.
-use Rattle.std.specs.Prelude.{◌≡◌, ⊥, ℕ, List, Option, IfSome}
+use Rattle.std.specs.Prelude.{◌≡◌, ℕ, List, Option, IfSome}
 use Rattle.std.specs.Io.KnownBytes.{IsAtEnd}
 use Rattle.cv_io.specs.Lines.{Stop, Finished, LongLine, LongInput}
 use Rattle.cv_machine.specs.Scans.{IsKnown, trees_of}
