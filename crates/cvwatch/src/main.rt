@@ -52,8 +52,7 @@ fn start(rt: &HostRuntime) -> io::Result<Status> {
     match status {
         Status::ReadFault => explain(rt, "standard input", input.last_error()),
         Status::WriteFault => explain(rt, "standard output", output.last_error()),
-        Status::DeskFault => explain_desk(rt, &desks),
-        _ => {}
+        _ => explain_desk(rt, &desks),
     }
     Ok(status)
 }
@@ -65,7 +64,7 @@ fn explain(rt: &HostRuntime, name: &str, error: Option<io::Error>) {
     }
 }
 
-/// Says on standard error why the first desk failed.
+/// Says on standard error why the first desk failed the last time, if it did: a scan ends there, and a service goes on.
 fn explain_desk(rt: &HostRuntime, desks: &[FolderDesk<HostRuntime>]) {
     if let Some(failure) = desks.first().and_then(FolderDesk::last_failure) {
         let _ = eprintln!(rt; "cvwatch: {failure}");
