@@ -52,9 +52,17 @@ fn start(rt: &HostRuntime) -> io::Result<Status> {
     match status {
         Status::ReadFault => explain(rt, "standard input", input.last_error()),
         Status::WriteFault => explain(rt, "standard output", output.last_error()),
+        Status::LineTooLong => say(rt, "a line of the input has more than 67,108,864 bytes"),
+        Status::InputTooLong => say(rt, "the input has 2^36 bytes or more"),
+        Status::NoMemory => say(rt, "out of memory"),
         _ => explain_desk(rt, &desks),
     }
     Ok(status)
+}
+
+/// Says on standard error why a command ended. A failure to say it is ignored.
+fn say(rt: &HostRuntime, reason: &str) {
+    let _ = eprintln!(rt; "cvwatch: {reason}");
 }
 
 /// Says on standard error why a stream failed. A failure to say it is ignored.
