@@ -322,11 +322,11 @@ pub legal_round : (trees : Trees) (workers : ℕ) (lines : List Line) (last : �
     → IsLegalRound trees workers before lines (refusals taken ++ entries) after
 legal_round trees workers lines last taken before entries after read rise low h = record {
   taken = taken;
-  read = read;
+  answers = read;
   others = entries;
   parts = refl;
   replays = h.replays (requests taken) (in_lanes (IsFound (requests taken)) 0 8 (requests taken) (all_found (requests taken) risen));
-  reads = reads_ordered entries (subst (λ addresses. AreLed addresses) (sym h.addresses) (led (lanes_from 0 8 (requests taken)) (order_lanes 0 8 (requests taken) risen)));
+  ordered = reads_ordered entries (subst (λ addresses. AreLed addresses) (sym h.addresses) (led (lanes_from 0 8 (requests taken)) (order_lanes 0 8 (requests taken) risen)));
   lanes = λ lane. lane_lines lane (requests taken) entries low h.addresses;
   claims = λ layer. ap (λ layers. times layer layers) h.claims;
   claimers = h.claimers;

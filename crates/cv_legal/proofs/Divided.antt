@@ -1,12 +1,12 @@
 -- The rounds of lines, as they are cut, are those of which `Division` says how each ends.
-use Rattle.std.specs.Prelude.{◌≡◌, ℕ, ◌+◌, ◌<◌, ◌≤◌, ◌⊎◌, Bool, true, false, ◌&&◌, cond, nat_le, nat_lt, List, [], ◌∷◌, ◌++◌, filter, flat_map, fold, length, refl}
+use Rattle.std.specs.Prelude.{◌≡◌, ℕ, ◌+◌, ◌<◌, ◌≤◌, Bool, true, false, ◌&&◌, cond, nat_le, nat_lt, List, [], ◌∷◌, ◌++◌, filter, flat_map, fold, length, refl}
 use Rattle.std.specs.List.{AllByRecursion}
 use Rattle.std.proofs.Common.{ap, append_assoc, arith, inl, inr, subst, sym, ◌∙◌}
 use Rattle.std.proofs.lemmas.Bool.{leb-false, leb-true, ltb-false, ltb-true}
 use Rattle.std.proofs.lemmas.List.{append-nil}
 use Rattle.cv_base.specs.Lines.{Line}
 use Rattle.cv_base.specs.Texts.{is_cons, is_nil}
-use Rattle.cv_legal.specs.Division.{AreRounds, Ends, HasText, IsShort, IsWithin}
+use Rattle.cv_legal.specs.Division.{AreEnded, AreRounds, Ends, HasText, IsShort, IsWithin}
 use Rattle.cv_legal.specs.Laws.{has_text}
 use Rattle.cv_legal.specs.Rounds.{Cut, Round, RoundLimits, counted, cut_line, cut_lines, end_before, end_full, end_round, input_lines, put_line, rounds_of, size_of}
 
@@ -23,6 +23,7 @@ ends_more limits round rest lines more (inr (inl h)) = inr (inl (record {
   joined = ap (λ x. x ++ more) h.joined ∙ append_assoc round rest more;
 }))
 ends_more limits round rest lines more (inr (inr h)) = inr (inr (record {
+  some = h.some;
   next = h.next;
   later = h.later ++ more;
   begins = ap (λ x. x ++ more) h.begins;
@@ -33,25 +34,22 @@ ends_more limits round rest lines more (inr (inr h)) = inr (inr (record {
 }))
 
 -- more lines come to the round that has begun
-extend : (limits : RoundLimits) (rounds : List Round) (begun : Round) (lines more : List Line) → AreRounds limits rounds begun lines
-    → AreRounds limits rounds (begun ++ more) (lines ++ more)
+extend : (limits : RoundLimits) (rounds : List Round) (begun : Round) (lines more : List Line) → AreEnded limits rounds begun lines
+    → AreEnded limits rounds (begun ++ more) (lines ++ more)
 extend limits [] begun lines more h = ap (λ x. x ++ more) h
 extend limits (round ∷ rounds) begun lines more h =
     (h.0, h.1, (h.2.0 ++ more, ends_more limits round h.2.0 lines more h.2.1, extend limits rounds begun h.2.0 more h.2.2))
 
 -- what divides the round that has begun divides all lines
-replace : (limits : RoundLimits) (rounds tail : List Round) (begun last : Round) (lines : List Line) → AreRounds limits rounds begun lines
-    → AreRounds limits tail last begun → AreRounds limits (rounds ++ tail) last lines
-replace limits [] tail begun last lines h t = subst (λ x. AreRounds limits tail last x) (sym h) t
+replace : (limits : RoundLimits) (rounds tail : List Round) (begun last : Round) (lines : List Line) → AreEnded limits rounds begun lines
+    → AreEnded limits tail last begun → AreEnded limits (rounds ++ tail) last lines
+replace limits [] tail begun last lines h t = subst (λ x. AreEnded limits tail last x) (sym h) t
 replace limits (round ∷ rounds) tail begun last lines h t =
     (h.0, h.1, (h.2.0, h.2.1, replace limits rounds tail begun last h.2.0 h.2.2 t))
 
 -- what is cut so far
-pub record Divides (limits : RoundLimits) (cut : Cut) (lines : List Line) : Type 0 where
-  pub rounds : AreRounds limits cut.rounds cut.begun lines
-  pub text : AllByRecursion HasText cut.begun
-  pub within : IsWithin limits cut.begun
-  pub short : length cut.begun < limits.lines
+abbrev pub Divides : RoundLimits → Cut → List Line → Type 0
+Divides limits cut lines = AreRounds limits cut.rounds cut.begun lines
 
 all_with : (lines : List Line) (line : Line) → AllByRecursion HasText lines → HasText line → AllByRecursion HasText (lines ++ line ∷ [])
 all_with [] line h k = (k, tt)
@@ -65,23 +63,27 @@ is_text : (text : List ℕ) → is_nil text ≡ false → 0 < length text
 is_text [] h = absurd (cc h)
 is_text (byte ∷ bytes) h = omega arith
 
+is_some : (lines : List Line) → is_cons lines ≡ true → 0 < length lines
+is_some [] h = absurd (cc h)
+is_some (line ∷ lines) h = omega arith
+
 is_empty : (text : List ℕ) → is_nil text ≡ true → text ≡ []
 is_empty [] h = refl
 is_empty (byte ∷ bytes) h = absurd (cc h)
 
 -- a round that may be full ends if it is
-ended_full : (limits : RoundLimits) (cut : Cut) (lines : List Line) → 0 < limits.lines → AreRounds limits cut.rounds cut.begun lines
+ended_full : (limits : RoundLimits) (cut : Cut) (lines : List Line) → 0 < limits.lines → AreEnded limits cut.rounds cut.begun lines
     → AllByRecursion HasText cut.begun → IsWithin limits cut.begun → length cut.begun ≤ limits.lines → Divides limits (end_full limits cut) lines
 ended_full limits cut lines some h text within most = by_length (nat_le limits.lines (length cut.begun)) refl where
   by_length : (b : Bool) → nat_le limits.lines (length cut.begun) ≡ b → Divides limits (cond b (end_round cut) cut) lines
   by_length true is = record {
-    rounds = replace limits cut.rounds (cut.begun ∷ []) cut.begun [] lines h
+    ended = replace limits cut.rounds (cut.begun ∷ []) cut.begun [] lines h
         (text, within, ([], inr (inl (record { full = let l = leb-true limits.lines (length cut.begun) is in omega (arith, l, most); joined = sym (append-nil cut.begun) })), refl));
     text = tt;
     within = inl (omega arith);
     short = some;
   }
-  by_length false is = record { rounds = h; text = text; within = within; short = leb-false _ _ is }
+  by_length false is = record { ended = h; text = text; within = within; short = leb-false _ _ is }
 
 both_true : (a b : Bool) → a && b ≡ true → (a ≡ true) × (b ≡ true)
 both_true true true h = (refl, refl)
@@ -105,16 +107,17 @@ within_one limits (first ∷ begun) line is =
 cut_one : (limits : RoundLimits) (cut : Cut) (lines : List Line) (line : Line) → 0 < limits.lines → Divides limits cut lines
     → Divides limits (cut_line limits cut line) (lines ++ line ∷ [])
 cut_one limits cut lines line some h = by_text (is_nil line.text) refl where
-  longer : AreRounds limits cut.rounds (cut.begun ++ line ∷ []) (lines ++ line ∷ [])
-  longer = extend limits cut.rounds cut.begun lines (line ∷ []) h.rounds
+  longer : AreEnded limits cut.rounds (cut.begun ++ line ∷ []) (lines ++ line ∷ [])
+  longer = extend limits cut.rounds cut.begun lines (line ∷ []) h.ended
 
   by_room : (b : Bool) → is_cons cut.begun && nat_lt limits.bytes (size_of cut.begun + length line.text) ≡ b → HasText line
       → Divides limits (end_full limits (put_line line (cond b (end_round cut) cut))) (lines ++ line ∷ [])
   by_room true is text =
-      let past : limits.bytes < size_of cut.begun + length line.text = ltb-true _ _ (both_true _ _ is).1 in
+      let parts = both_true (is_cons cut.begun) (nat_lt limits.bytes (size_of cut.begun + length line.text)) is in
+      let past = ltb-true limits.bytes (size_of cut.begun + length line.text) parts.1 in
       ended_full limits (put_line line (end_round cut)) (lines ++ line ∷ []) some
       (replace limits cut.rounds (cut.begun ∷ []) (cut.begun ++ line ∷ []) (line ∷ []) (lines ++ line ∷ []) longer
-      (h.text, h.within, (line ∷ [], inr (inr (record { next = line; later = []; begins = refl; text = text; past = past; short = h.short; joined = refl })), refl)))
+      (h.text, h.within, (line ∷ [], inr (inr (record { some = is_some cut.begun parts.0; next = line; later = []; begins = refl; text = text; past = past; short = h.short; joined = refl })), refl)))
       (text, tt) (inr refl) (omega (arith, some))
   by_room false is text =
       ended_full limits (put_line line cut) (lines ++ line ∷ []) some longer (all_with cut.begun line h.text text)
@@ -124,7 +127,7 @@ cut_one limits cut lines line some h = by_text (is_nil line.text) refl where
   by_text : (b : Bool) → is_nil line.text ≡ b
       → Divides limits (cond b (end_round cut) (end_full limits (put_line line (end_before limits line cut)))) (lines ++ line ∷ [])
   by_text true is = record {
-    rounds = replace limits cut.rounds (cut.begun ∷ []) (cut.begun ++ line ∷ []) [] (lines ++ line ∷ []) longer
+    ended = replace limits cut.rounds (cut.begun ∷ []) (cut.begun ++ line ∷ []) [] (lines ++ line ∷ []) longer
         (h.text, h.within, ([], inl (record { empty = line; none = is_empty line.text is; short = h.short; joined = refl }), refl));
     text = tt;
     within = inl (omega arith);
@@ -142,7 +145,7 @@ cut_more limits (line ∷ more) lines cut some h =
 
 -- all lines
 pub divides : (limits : RoundLimits) (lines : List Line) → 0 < limits.lines → Divides limits (cut_lines limits lines) lines
-divides limits lines some = cut_more limits lines [] (record { rounds = []; begun = [] }) some (record { rounds = refl; text = tt; within = inl (omega arith); short = some })
+divides limits lines some = cut_more limits lines [] (record { rounds = []; begun = [] }) some (record { ended = refl; text = tt; within = inl (omega arith); short = some })
 
 -- each line that is not empty is of one round, in their order
 filter_text : (round : Round) (rest : List Line) → AllByRecursion HasText round → filter has_text (round ++ rest) ≡ round ++ filter has_text rest
@@ -163,7 +166,7 @@ filter_ended limits round rest lines t (inl h) =
 filter_ended limits round rest lines t (inr (inl h)) = ap (λ x. filter has_text x) h.joined ∙ filter_text round rest t
 filter_ended limits round rest lines t (inr (inr h)) = ap (λ x. filter has_text x) h.joined ∙ filter_text round rest t
 
-all_lines : (limits : RoundLimits) (rounds : List Round) (begun : Round) (lines : List Line) → AllByRecursion HasText begun → AreRounds limits rounds begun lines
+all_lines : (limits : RoundLimits) (rounds : List Round) (begun : Round) (lines : List Line) → AllByRecursion HasText begun → AreEnded limits rounds begun lines
     → flat_map (λ round. round) rounds ++ begun ≡ filter has_text lines
 all_lines limits [] begun lines t h =
     sym (ap (λ x. filter has_text x) (h ∙ sym (append-nil begun)) ∙ filter_text begun [] t ∙ append-nil begun)
@@ -190,7 +193,7 @@ pub lines_kept : (limits : RoundLimits) (bytes : List ℕ) → 0 < limits.lines
 lines_kept limits bytes some =
     let lines = input_lines bytes true in
     let h = divides limits lines some in
-    with_begun (cut_lines limits lines) ∙ all_lines limits (cut_lines limits lines).rounds (cut_lines limits lines).begun lines h.text h.rounds
+    with_begun (cut_lines limits lines) ∙ all_lines limits (cut_lines limits lines).rounds (cut_lines limits lines).begun lines h.text h.ended
 
 -- ---- how long rounds are
 
@@ -199,7 +202,7 @@ short_ended limits round rest lines (inl h) = omega (arith, h.short)
 short_ended limits round rest lines (inr (inl h)) = omega (arith, h.full)
 short_ended limits round rest lines (inr (inr h)) = omega (arith, h.short)
 
-all_short : (limits : RoundLimits) (rounds : List Round) (begun : Round) (lines : List Line) → AreRounds limits rounds begun lines
+all_short : (limits : RoundLimits) (rounds : List Round) (begun : Round) (lines : List Line) → AreEnded limits rounds begun lines
     → AllByRecursion (IsShort limits) rounds
 all_short limits [] begun lines h = tt
 all_short limits (round ∷ rounds) begun lines h =
@@ -220,5 +223,5 @@ rounds_short limits bytes ended some = by_last (ended && is_cons cut.begun) wher
   h = divides limits (input_lines bytes ended) some
 
   by_last : (b : Bool) → AllByRecursion (IsShort limits) (cond b (cut.rounds ++ cut.begun ∷ []) cut.rounds)
-  by_last true = short_with limits cut.rounds cut.begun (all_short limits cut.rounds cut.begun _ h.rounds) (let s = h.short in omega (arith, s), h.within)
-  by_last false = all_short limits cut.rounds cut.begun _ h.rounds
+  by_last true = short_with limits cut.rounds cut.begun (all_short limits cut.rounds cut.begun _ h.ended) (let s = h.short in omega (arith, s), h.within)
+  by_last false = all_short limits cut.rounds cut.begun _ h.ended

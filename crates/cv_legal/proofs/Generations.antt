@@ -1,5 +1,5 @@
 -- The generations that a legal transcript names never fall.
-use Rattle.std.specs.Prelude.{◌≡◌, ℕ, ◌+◌, ◌≤◌, ◌⊎◌, List, [], ◌∷◌, ◌++◌, Option, Some, None, Result, Ok, Err, option_map, refl}
+use Rattle.std.specs.Prelude.{◌≡◌, ℕ, ◌≤◌, ◌⊎◌, List, [], ◌∷◌, ◌++◌, Option, Some, None, Result, Ok, Err, option_map, refl}
 use Rattle.std.specs.List.{cons_option}
 use Rattle.std.proofs.Common.{ap, arith, inl, inr, subst, sym, ◌∙◌}
 use Rattle.std.proofs.lemmas.Option.{same_Some}
@@ -9,8 +9,6 @@ use Rattle.cv_records.specs.declared.read.ReadEntry.{ReadEntry}
 use Rattle.cv_records.specs.declared.reply.Reply.{Reply}
 use Rattle.cv_records.specs.declared.reply.Reply.TheVariants as reply
 use Rattle.cv_request.specs.declared.error.RequestError.{RequestError}
-use Rattle.cv_request.specs.declared.request.Act.{Act}
-use Rattle.cv_request.specs.declared.request.Act.TheVariants as request
 use Rattle.cv_request.specs.declared.request.Request.{Request}
 use Rattle.cv_scan.specs.Scan.{Scanned}
 use Rattle.cv_transcript.specs.declared.entry.Entry.{Entry}
@@ -23,7 +21,7 @@ use Rattle.cv_machine.specs.Scans.{Trees, image_scan}
 use Rattle.cv_machine.specs.State.{State, value_at}
 use Rattle.cv_machine.specs.Step.{step}
 use Rattle.cv_machine.specs.declared.act.WholeAct.{WholeAct}
-use Rattle.cv_legal.specs.Laws.{NeverFall, answer_generation, entry_generation, generations, reply_generation, report_generation}
+use Rattle.cv_legal.specs.Laws.{NeverFall, answer_generation, entry_generation, generations, reply_generation}
 use Rattle.cv_legal.specs.Legal.{AreLast, AreLegal, AreLegalRounds}
 use Rattle.cv_legal.specs.Replay.{IsRead, Moment, Replays, moment_after, read_of}
 use Rattle.cv_legal.specs.Round.{IsLegalRound}

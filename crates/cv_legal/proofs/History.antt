@@ -1,13 +1,13 @@
 -- The events of a legal transcript are one history of the machine.
-use Rattle.std.specs.Prelude.{◌≡◌, ℕ, ◌+◌, List, [], ◌∷◌, ◌++◌, filter_map, map, Option, Some, None, Result, Ok, Err, refl}
+use Rattle.std.specs.Prelude.{◌≡◌, ℕ, ◌+◌, List, [], ◌∷◌, ◌++◌, filter_map, length, Option, Some, None, Result, Ok, Err, refl}
 use Rattle.std.specs.List.{cons_option}
-use Rattle.std.proofs.Common.{ap, subst, sym, ◌∙◌}
+use Rattle.std.proofs.Common.{ap, arith, subst, sym, ◌∙◌}
 use Rattle.cv_records.specs.declared.event.EventEntry.{EventEntry}
 use Rattle.cv_request.specs.declared.error.RequestError.{RequestError}
 use Rattle.cv_request.specs.declared.request.Request.{Request}
 use Rattle.cv_transcript.specs.declared.entry.Entry.{Entry}
 use Rattle.cv_transcript.specs.declared.entry.Entry.TheVariants as entry
-use Rattle.cv_machine.specs.History.{act_name, event_entry, replies, state_after}
+use Rattle.cv_machine.specs.History.{event_entry}
 use Rattle.cv_machine.specs.Scans.{Trees}
 use Rattle.cv_machine.specs.Step.{step}
 use Rattle.cv_machine.specs.declared.act.WholeAct.{WholeAct}
@@ -39,7 +39,7 @@ both_same : {X : Type 0} (x y : X) (xs ys : List X) → x ≡ y → xs ≡ ys �
 both_same x y xs ys h k = ap (λ z. z ∷ xs) h ∙ ap (λ zs. y ∷ zs) k
 
 is_history : (trees : Trees) (before after : Moment) (events : List EventEntry) → Follow trees before events after → IsHistory trees before events after
-is_history trees before after [] h = record { acts = []; names = refl; answers = refl; reached = ap (λ m. m.state) (sym h); numbers = tt }
+is_history trees before after [] h = record { acts = []; names = refl; answers = refl; reached = ap (λ m. m.state) (sym h); numbers = tt; count = let same : after.count ≡ before.count = ap (λ m. m.count) h in omega (arith, same) }
 is_history trees before after (event ∷ events) h =
     let rest = is_history trees (moment_after trees before h.0) after events h.2 in
     record {
@@ -48,6 +48,7 @@ is_history trees before after (event ∷ events) h =
       answers = both_same _ _ _ _ (ap (λ e. e.reply) h.1) rest.answers;
       reached = rest.reached;
       numbers = (ap (λ e. e.number) h.1, rest.numbers);
+      count = let count : after.count ≡ before.count + 1 + length events = rest.count in omega (arith, count);
     }
 
 -- ---- of a round

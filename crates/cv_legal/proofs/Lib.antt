@@ -6,3 +6,4 @@ mod History
 pub mod Joined
 pub mod Segments
 pub mod Serving
+mod Unique

@@ -1,9 +1,8 @@
 -- What rounds are, apart from how they are found (defined by this project): each ends for one of three reasons, and what
--- follows it is cut likewise.
-use Rattle.std.specs.Prelude.{◌≡◌, ℕ, ◌+◌, ◌<◌, ◌≤◌, ◌⊎◌, List, [], ◌∷◌, ◌++◌, length}
+-- follows it is cut likewise. Lines are divided so in one way only, which `Rounds` computes.
+use Rattle.std.specs.Prelude.{◌≡◌, ◌+◌, ◌<◌, ◌≤◌, ◌⊎◌, List, [], ◌∷◌, ◌++◌, length}
 use Rattle.std.specs.List.{AllByRecursion}
 use Rattle.cv_base.specs.Lines.{Line}
-use Rattle.cv_base.specs.Texts.{is_cons}
 use Rattle.cv_legal.specs.Rounds.{Round, RoundLimits, size_of}
 
 -- a line that is not empty
@@ -22,8 +21,9 @@ pub record EndsFull (limits : RoundLimits) (round : Round) (rest lines : List Li
   pub full : length round ≡ limits.lines
   pub joined : lines ≡ round ++ rest
 
--- the rest begins with a line that would bring the round past its bytes
+-- the round has a line, and the rest begins with one that would bring it past its bytes
 pub record EndsBefore (limits : RoundLimits) (round : Round) (rest lines : List Line) : Type 0 where
+  pub some : 0 < length round
   pub next : Line
   pub later : List Line
   pub begins : rest ≡ next ∷ later
@@ -44,8 +44,16 @@ IsWithin limits round = (size_of round ≤ limits.bytes) ⊎ (length round ≡ 1
 abbrev pub IsShort : RoundLimits → Round → Type 0
 IsShort limits round = (length round ≤ limits.lines) × IsWithin limits round
 
--- lines are rounds, each with its end, and then the lines of a round that has begun
-abbrev pub AreRounds : RoundLimits → List Round → Round → List Line → Type 0
-AreRounds limits [] begun lines = lines ≡ begun
-AreRounds limits (round ∷ rounds) begun lines =
-    AllByRecursion HasText round × IsWithin limits round × ((rest : List Line) × Ends limits round rest lines × AreRounds limits rounds begun rest)
+-- lines are rounds, each with its end, and then these further lines
+abbrev pub AreEnded : RoundLimits → List Round → List Line → List Line → Type 0
+AreEnded limits [] further lines = lines ≡ further
+AreEnded limits (round ∷ rounds) further lines =
+    AllByRecursion HasText round × IsWithin limits round × ((rest : List Line) × Ends limits round rest lines × AreEnded limits rounds further rest)
+
+-- lines are rounds that ended, and then those of a round that has begun: none of these is empty, they are within its bytes, and
+-- it may have one more
+pub record AreRounds (limits : RoundLimits) (rounds : List Round) (begun : Round) (lines : List Line) : Type 0 where
+  pub ended : AreEnded limits rounds begun lines
+  pub text : AllByRecursion HasText begun
+  pub within : IsWithin limits begun
+  pub short : length begun < limits.lines

@@ -1,5 +1,5 @@
 -- What holds of every legal transcript (defined by this project).
-use Rattle.std.specs.Prelude.{◌≡◌, ⊤, ℕ, ◌+◌, ◌≤◌, Bool, List, [], ◌∷◌, map, filter_map, Option, Some, None}
+use Rattle.std.specs.Prelude.{◌≡◌, ⊤, ℕ, ◌+◌, ◌≤◌, Bool, List, [], ◌∷◌, length, map, filter_map, Option, Some, None}
 use Rattle.cv_base.specs.Lines.{Line}
 use Rattle.cv_base.specs.Texts.{is_cons}
 use Rattle.cv_records.specs.declared.event.EventEntry.{EventEntry}
@@ -34,6 +34,7 @@ pub record IsHistory (trees : Trees) (before : Moment) (events : List EventEntry
   pub answers : map (λ event. event.reply) events ≡ replies trees before.state acts
   pub reached : state_after trees before.state acts ≡ after.state
   pub numbers : AreNumbered (before.count + 1) events
+  pub count : after.count ≡ before.count + length events
 
 -- ---- generations
 

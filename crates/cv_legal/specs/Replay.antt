@@ -21,7 +21,6 @@ use Rattle.cv_machine.specs.Step.{step}
 use Rattle.cv_machine.specs.declared.limits.TheConstants.{MAX_FEEDS, MAX_IMAGES}
 use Rattle.cv_machine.specs.declared.act.WholeAct.{WholeAct}
 use Rattle.cv_machine.specs.declared.act.WholeAct.TheVariants as whole
-use Rattle.cv_machine.specs.declared.limits.Limits.{Limits}
 use Rattle.cv_legal.specs.declared.taken.Requested.{Requested}
 
 -- a moment of a history: how many events were applied, and the state after them

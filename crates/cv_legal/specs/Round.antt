@@ -32,14 +32,15 @@ AreReadsOrdered (first ∷ later) = AllByRecursion (StandsBefore first) later ×
 pub record IsLegalRound (trees : Trees) (workers : ℕ) (before : Moment) (lines : Round) (entries : List Entry) (after : Moment) : Type 0 where
   -- what becomes of each line
   pub taken : List Taken
-  pub read : AllZip IsTaken lines taken
+  pub answers : AllZip IsTaken lines taken
   -- the refused lines stand first, in input order, and then all others
   pub others : List Entry
   pub parts : entries ≡ refusals taken ++ others
   -- the others are one history of the machine
   pub replays : Replays trees (requests taken) before others after
-  pub reads : AreReadsOrdered others
-  -- each line that is not refused has one entry, and those of a lane stand in input order
+  pub ordered : AreReadsOrdered others
+  -- each line that is not refused has one entry, and those of a lane stand in input order. This holds for every lane, also for
+  -- those that no request has, so there are no further entries of lanes
   pub lanes : (lane : ℕ) → lines_answered lane others ≡ lines_asked lane (requests taken)
   -- each layer that is Queued as the round begins has one claim line, and no other layer has one
   pub claims : (layer : List ℕ) → times layer (claims_of (events_of others)) ≡ times layer (queued before.state.layers)

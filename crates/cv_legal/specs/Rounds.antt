@@ -1,7 +1,7 @@
 -- The rounds of an input (defined by this project). The bytes are cut into lines, which are numbered from 1, empty ones
--- included, and the lines into rounds. An empty line ends a round and belongs to none. A round also ends with the line that
--- is the last it may have, and before a line that would bring it past the bytes it may have. The bytes of a line are those of
--- its text: the LF that ends it and one CR before that do not count.
+-- included, and the lines into rounds. An empty line ends a round and belongs to none. A round also ends with its 4,096th line,
+-- and before a line that would bring it past 134,217,728 bytes. The bytes of a line are those of its text: one CR at its end,
+-- and the LF, do not count.
 use Rattle.std.specs.Prelude.{ℕ, ◌+◌, nat_le, nat_lt, Bool, ◌&&◌, if◌then◌else◌, List, [], ◌∷◌, ◌++◌, fold, length}
 use Rattle.cv_base.specs.Lines.{Line, numbered}
 use Rattle.cv_base.specs.Texts.{is_cons, is_nil}

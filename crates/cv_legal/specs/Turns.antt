@@ -9,7 +9,7 @@ use Rattle.cv_records.specs.declared.event.EventEntry.{EventEntry}
 use Rattle.cv_records.specs.declared.reply.Reply.{Reply}
 use Rattle.cv_records.specs.declared.reply.Reply.TheVariants as reply
 
--- an event fits the layer at which a worker works: without one it is a claim, and else it is what became of this layer
+-- the next event of a worker: a claim if it works at no layer, and else what became of that layer
 abbrev pub FitsWork : Option (List ℕ) → Act → Type 0
 FitsWork None (name.Claim layer) = ⊤
 FitsWork None act = ⊥

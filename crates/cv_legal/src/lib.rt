@@ -6,6 +6,9 @@
 //! ```text
 //! IsLegal trees input output workers state: the output is a legal transcript, and leads to the state
 //! ```
+//!
+//! `IsLegal` is of an input that was read to its end. The rounds before a refusal of reading, and those from another start, are
+//! `AreLegalRounds` in `specs/Legal.antt`, which has the moment before them and the moment after.
 #![tactic(auto)]
 
 mod laws;

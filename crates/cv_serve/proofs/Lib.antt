@@ -2,3 +2,5 @@ mod Ending
 mod Further
 mod Input
 mod Parts
+mod Rounds
+mod Working

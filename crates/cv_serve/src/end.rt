@@ -1,3 +1,6 @@
+ghost use Rattle.std.specs.Prelude.{◌≡◌};
+ghost use Rattle.cv_serve.specs.Ends.{end_of};
+
 use cv_io::{LineError, WriteError};
 use cv_seq::NoMemory;
 use thiserror::Error;

@@ -20,9 +20,9 @@ mod reads;
 mod request;
 mod round;
 mod round_entries;
-mod serve;
+mod service;
 mod submit;
 mod work;
 
 pub use end::ServeEnd;
-pub use serve::serve;
+pub use service::serve;

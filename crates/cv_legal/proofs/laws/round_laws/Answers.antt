@@ -1,9 +1,11 @@
 use Rattle.cv_legal.proofs.Divided.{divides, lines_kept, rounds_short}
+use Rattle.cv_legal.proofs.Unique.{determined}
 use Rattle.cv_legal.proofs.laws.round_laws.Goals as goal
 
 pub returns : goal.returns
 returns c = record {
-  ends = λ limits lines some. (divides limits lines some).rounds;
+  ends = divides;
+  unique = determined;
   lines = lines_kept;
   short = rounds_short;
 }

@@ -5,8 +5,8 @@ use Rattle.cv_legal.specs.Taken.{refusals, requests}
 use Rattle.cv_serve.specs.code.Moments.{IsSoundRequest}
 use Rattle.cv_serve.proofs.round_entries.part.Given as goal
 
-abbrev pub invariant-loop-taken : goal.invariant-loop-taken
-invariant-loop-taken l = record {
+abbrev pub invariant-loop-line : goal.invariant-loop-line
+invariant-loop-line l = record {
   refused : l.refused.items ≡ refusals l.yielded;
   asked : l.asked.items ≡ requests l.yielded;
 }

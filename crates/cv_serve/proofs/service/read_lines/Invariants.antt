@@ -5,7 +5,7 @@ use Rattle.cv_io.specs.Reader.{reading, room_of}
 use Rattle.cv_machine.specs.Scans.{IsKnown, trees_of}
 use Rattle.cv_serve.specs.code.Moments.{IsSoundRound, moment_of}
 use Rattle.cv_serve.specs.code.Reading.{Done, HasRead}
-use Rattle.cv_serve.proofs.serve.read_lines.Given as goal
+use Rattle.cv_serve.proofs.service.read_lines.Given as goal
 
 abbrev pub invariant-loop-number : goal.invariant-loop-number
 invariant-loop-number g l = record {
