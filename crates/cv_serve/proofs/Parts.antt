@@ -35,18 +35,11 @@ answered_one trees workers asked all one before between after old mid new entry 
 
 -- ---- lanes
 
--- one more lane
-pub lanes_more : (lane count : ℕ) (asked : List Requested) → lanes_from lane (suc count) asked ≡ lanes_from lane count asked ++ lane_requests (lane + count) asked
-lanes_more lane zero asked = append-nil (lane_requests lane asked)
-lanes_more lane (suc count) asked =
-    ap (λ rs. lane_requests lane asked ++ rs) (lanes_more (lane + 1) count asked ∙ ap (λ n. lanes_from (lane + 1) count asked ++ lane_requests n asked) (omega arith))
-    ∙ sym (append_assoc (lane_requests lane asked) (lanes_from (lane + 1) count asked) (lane_requests (lane + suc count) asked))
-
 -- requests of other lanes are all those of each other lane
 pub lane_of_others : (lane other : ℕ) (asked : List Requested) → lane < other → lane_requests other (filter (of_other_lane lane) asked) ≡ lane_requests other asked
 lane_of_others lane other [] h = refl
 lane_of_others lane other (r ∷ rs) h =
-    by_test (eqb_tells r.request.lane lane)
+    by_test (eqb_tells r.request.lane lane) (lane_of_others lane other rs h)
   where
     rest : List Requested
     rest = filter (of_other_lane lane) rs
@@ -55,16 +48,17 @@ lane_of_others lane other (r ∷ rs) h =
     first_if b tail = cond b (r ∷ tail) tail
 
     by_test : (((r.request.lane == lane) ≡ true) × (r.request.lane ≡ lane)) ⊎ (((r.request.lane == lane) ≡ false) × (r.request.lane ≢ lane))
+        → lane_requests other rest ≡ lane_requests other rs
         → lane_requests other (first_if (not (r.request.lane == lane)) rest) ≡ first_if (r.request.lane == other) (lane_requests other rs)
-    by_test (inl same) =
-        ap (λ b. lane_requests other (first_if (not b) rest)) same.0 ∙ lane_of_others lane other rs h
+    by_test (inl same) later =
+        ap (λ b. lane_requests other (first_if (not b) rest)) same.0 ∙ later
         ∙ ap (λ b. first_if b (lane_requests other rs)) (sym (ne_eqb r.request.lane other (λ e. omega (arith, e, same.1, h))))
-    by_test (inr apart) =
-        ap (λ b. lane_requests other (first_if (not b) rest)) apart.0 ∙ ap (first_if (r.request.lane == other)) (lane_of_others lane other rs h)
+    by_test (inr apart) later =
+        ap (λ b. lane_requests other (first_if (not b) rest)) apart.0 ∙ ap (first_if (r.request.lane == other)) later
 
 pub all_kept : {A : Type 0} (P : A → Type 0) (f : A → Bool) (xs : List A) → AllByRecursion P xs → AllByRecursion P (filter f xs)
 all_kept P f [] h = tt
-all_kept {A} P f (x ∷ xs) h = by_test (f x) where
-  by_test : (b : Bool) → AllByRecursion P (cond b (x ∷ filter f xs) (filter f xs))
-  by_test true = (h.0, all_kept P f xs h.1)
-  by_test false = all_kept P f xs h.1
+all_kept {A} P f (x ∷ xs) h = by_test (f x) (all_kept P f xs h.1) where
+  by_test : (b : Bool) → AllByRecursion P (filter f xs) → AllByRecursion P (cond b (x ∷ filter f xs) (filter f xs))
+  by_test true later = (h.0, later)
+  by_test false later = later

@@ -111,7 +111,7 @@ worked_done trees workers worker layer act before between after old mid new clai
 
 -- ---- entries without a claim
 
-g : EventEntry → Bool
+abbrev g : EventEntry → Bool
 g event = is_grant event.act event.reply
 
 not_granted : (w : ℕ) (source : By) (event : EventEntry) (rest : List EventEntry) → g event ≡ false

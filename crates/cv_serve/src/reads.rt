@@ -35,7 +35,7 @@ fn report_outcome<D: Desk + Drop>(
     match core.report(image) {
         Ok(report) => good(alloc, report.generation, report.findings.as_slice()),
         Err(ReportRefusal::NotRegistered) => Ok(ReportOutcome::NotRegistered),
-        Err(ReportRefusal::Pending(layer)) => Ok(ReportOutcome::Pending(layer)),
+        Err(ReportRefusal::Pending(ref layer)) => Ok(ReportOutcome::Pending(*layer)),
         Err(ReportRefusal::BadImage(fault)) => bad(fault),
     }
 }
