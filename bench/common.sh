@@ -62,13 +62,13 @@ progress() {
     done
 }
 
-# scans the image of the folder of examples/ that the script $1 stands in: its layers lie under layers/sha256, and input.jsonl has
-# its manifest and the OSV records. The answer has to be expected.jsonl, which is then printed
+# runs the command $2 of cvwatch, or `scan`, in the folder of examples/ that the script $1 stands in: the layers lie under
+# layers/sha256, and input.jsonl has the input. The answer has to be expected.jsonl, which is then printed
 example() {
     local program
     program=$(build cvwatch)
     cd "$(dirname "$1")" || return
-    "$program" scan <input.jsonl | diff - expected.jsonl
+    "$program" "${2:-scan}" <input.jsonl | diff - expected.jsonl
     echo "the answer is expected.jsonl:"
     cat expected.jsonl
 }

@@ -18,7 +18,7 @@ use Rattle.cvwatch.specs.Command.{AnswersRequest, IsAnswered, IsCutShort, IsIdle
 use Rattle.cvwatch.specs.Outcome.{Complete, Failed, Outcome, SaysOutcome, outcome_printed}
 use Rattle.cvwatch.specs.Order.{compared_as, compared_status, kind_of, order_of, order_printed}
 use Rattle.cvwatch.specs.Printed.{IsPrinted, Printed, usage}
-use Rattle.cvwatch.specs.Run.{command_line}
+use Rattle.cvwatch.specs.Arguments.{command_line}
 use Rattle.cvwatch.specs.World.{Trees, World}
 use Rattle.cvwatch.specs.code.Printing.{OutcomePrinted, RefusalPrinted}
 use Rattle.cvwatch.specs.declared.order.Compared.{Compared}

@@ -1,5 +1,4 @@
-pub mod Arguments
+pub mod Items
 pub mod Ends
 pub mod OutcomeLemmas
-pub mod Runs
 pub mod Versions

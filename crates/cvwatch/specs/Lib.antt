@@ -1,8 +1,10 @@
+pub mod Arguments
 pub mod Command
 pub mod Order
 pub mod Outcome
 pub mod Printed
 pub mod Run
+pub mod Service
 pub mod Status
 pub mod World
 pub mod code

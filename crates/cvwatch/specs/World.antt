@@ -20,3 +20,13 @@ pub record World : Type 0 where
   pub remaining : Option (List ℕ)
   pub written : Option (List ℕ)
   pub counts : Counts
+
+-- what a run works on: its input, the bytes that its output holds, if they are known, and its desks
+pub record RunWorld (S D : Type 0) : Type 0 where
+  pub input : S
+  pub written : Option (List ℕ)
+  pub desks : List D
+
+-- what a command over one of the desks works on, by the remaining bytes of the input and the desk's counts
+abbrev pub world_of : {S D : Type 0} → (S → Option (List ℕ)) → (D → Counts) → RunWorld S D → D → World
+world_of remaining counts world desk = record { remaining = remaining world.input; written = world.written; counts = counts desk }

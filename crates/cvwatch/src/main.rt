@@ -1,17 +1,21 @@
-//! Tells which container images hold packages with known vulnerabilities.
+//! Tells which container images hold packages with known vulnerabilities: of one image at once, or as a service that says which
+//! images an update of advisories concerns.
 //!
 //! ```text
 //! cd examples/first-scan && cvwatch scan < input.jsonl
+//! cd examples/service && cvwatch serve < input.jsonl
 //! ```
 #![tactic(auto)]
 
 ghost use Rattle.std.specs.Prelude.{◌≡◌, ◌+◌, ◌^◌, ◌<◌, length, All, IfOk, OnOk};
 
+mod arguments;
 mod command;
 mod order;
 mod print;
 mod run;
 mod scanning;
+mod service;
 mod status;
 #[cfg(test)]
 mod tests;
@@ -48,10 +52,17 @@ fn start(rt: &HostRuntime) -> io::Result<Status> {
     match status {
         Status::ReadFault => explain(rt, "standard input", input.last_error()),
         Status::WriteFault => explain(rt, "standard output", output.last_error()),
-        Status::DeskFault => explain_desk(rt, &desks),
-        _ => {}
+        Status::LineTooLong => say(rt, "a line of the input has more than 67,108,864 bytes"),
+        Status::InputTooLong => say(rt, "the input has 2^36 bytes or more"),
+        Status::NoMemory => say(rt, "out of memory"),
+        _ => explain_desk(rt, &desks),
     }
     Ok(status)
+}
+
+/// Says on standard error why a command ended. A failure to say it is ignored.
+fn say(rt: &HostRuntime, reason: &str) {
+    let _ = eprintln!(rt; "cvwatch: {reason}");
 }
 
 /// Says on standard error why a stream failed. A failure to say it is ignored.
@@ -61,7 +72,7 @@ fn explain(rt: &HostRuntime, name: &str, error: Option<io::Error>) {
     }
 }
 
-/// Says on standard error why the first desk failed.
+/// Says on standard error why the first desk failed the last time, if it did: a scan ends there, and a service goes on.
 fn explain_desk(rt: &HostRuntime, desks: &[FolderDesk<HostRuntime>]) {
     if let Some(failure) = desks.first().and_then(FolderDesk::last_failure) {
         let _ = eprintln!(rt; "cvwatch: {failure}");

@@ -1,19 +1,21 @@
 ghost use Rattle.std.specs.Prelude.{◌≡◌, ◌^◌, ◌<◌, ◌≤◌, length, map, string_bytes, All};
 ghost use Rattle.cv_seq.specs.Cause.{Rose};
+ghost use Rattle.cvwatch.specs.Arguments.{command_line};
 ghost use Rattle.cvwatch.specs.Printed.{IsPrinted};
-ghost use Rattle.cvwatch.specs.Run.{FirstRose, RunEnds, command_line};
-ghost use Rattle.cvwatch.specs.World.{counts_of};
+ghost use Rattle.cvwatch.specs.Run.{FirstRose, RunEnds};
 
+use crate::arguments::{Command, command_of};
 use crate::command::scan_command;
 use crate::order::order_command;
+use crate::service::serve_command;
 use crate::status::Status;
 use crate::usage::print_usage;
 use cv_desk::Desk;
 use cv_io::{Sink, Source};
 use std::alloc::Global;
 
-/// Runs the command that the arguments name: today `scan` and `order`.
-pub fn run<S: Source, K: Sink, D: Desk>(
+/// Runs the command that the arguments name: today `scan`, `serve` with one worker, and `order`.
+pub fn run<S: Source, K: Sink, D: Desk + Drop>(
     alloc: Global,
     arguments: &[String],
     input: &mut S,
@@ -23,7 +25,7 @@ pub fn run<S: Source, K: Sink, D: Desk>(
     requires has_desks { 1 ≤ length desks.old.items }
     requires at_most_8_desks { length desks.old.items ≤ 8 }
     requires room { All (λ desk. D.listings desk < 2 ^ 62) desks.old.items }
-    ensures outcome { RunEnds D.tree S.remaining (counts_of D.listings D.faults) (map (λ argument. string_bytes argument) arguments.now)
+    ensures outcome { RunEnds D.tree S.remaining D.listings D.faults (map (λ argument. string_bytes argument) arguments.now)
         (record { input = input.old; written = K.contents output.old; desks = desks.old.items })
         (record { input = input.new; written = K.contents output.new; desks = desks.new.items })
         result }
@@ -31,12 +33,13 @@ pub fn run<S: Source, K: Sink, D: Desk>(
     ensures write_fault { result ≡ Status.WriteFault → Rose (K.faults output.old) (K.faults output.new) }
     ensures desk_fault { result ≡ Status.DeskFault → FirstRose D.faults desks.old.items desks.new.items }
 {
-    match arguments {
-        [argument] if argument.as_str() == "scan" => {
+    match command_of(arguments) {
+        Command::Scan => {
             let first = &mut desks[0];
             scan_command(alloc, input, output, first)
         }
-        _ => print_command(alloc, arguments, output),
+        Command::Serve => serve_command(alloc, input, output, desks),
+        Command::Print => print_command(alloc, arguments, output),
     }
 }
 

@@ -1,4 +1,4 @@
-use Rattle.cvwatch.proofs.Arguments.{three_items}
+use Rattle.cvwatch.proofs.Items.{three_items}
 use Rattle.cvwatch.proofs.order.order_command.Goals as goal
 
 pub returns-in-len3-clause-printed : goal.returns-in-len3-clause-printed
