@@ -26,6 +26,8 @@ mod plan;
 mod register;
 mod report;
 mod step;
+#[cfg(test)]
+mod tests;
 mod update;
 
 pub use board::Board;

@@ -1,0 +1,158 @@
+-- Threads may share a core, a plan and a board, if they may share the desk. Each part has a lemma: a search over a whole type gives up.
+use denote.RattleType.{RattleType}
+use denote.Param.Send.{IsSend, IsSync, sendable}
+use denote.Param.SendFields.{declared_send, declared_sync}
+use Rattle.std.proofs.Crossing.{crosses}
+use Rattle.std.proofs.MapsCrossing as maps
+use Rattle.std.specs.declared.cmp.Ord as order
+use Rattle.std.specs.declared.cmp.PartialEq as equality
+use Rattle.std.specs.declared.cmp.PartialOrd as partial_order
+use Rattle.cv_seq.proofs.seq.Seq.TheSendSync as seq
+use Rattle.cv_seq.proofs.text.Text.TheSendSync as text
+use Rattle.cv_base.proofs.advisory.Advisory.TheSendSync as advisory
+use Rattle.cv_base.proofs.digest.Digest.TheSendSync as digest
+use Rattle.cv_base.proofs.«package».PackageName.TheSendSync as package_name
+use Rattle.cv_tree.proofs.branch.Branch.TheLaws.TheKnot as nodes
+use Rattle.cv_tree.proofs.share.Shared.TheSendSync as shared
+use Rattle.cv_tree.specs.contracts.branch.Branch as branch
+use Rattle.cv_tree.specs.contracts.tree.Tree as tree
+use Rattle.cv_match.proofs.entry.PreparedEntries.TheSendSync as entries
+use Rattle.cv_match.specs.contracts.kinds.PreparedForKinds as kinds
+use Rattle.cv_match.specs.contracts.prepared.PreparedRecord as prepared
+use Rattle.cv_match.specs.contracts.prepared.ReadyAdvisory as ready
+use Rattle.cv_advdb.specs.contracts.feeds.Feeds as feeds
+use Rattle.cv_advdb.specs.contracts.index.RecordList as list
+use Rattle.cv_advdb.specs.contracts.record.PreparedRecord as record_of
+use Rattle.cv_advdb.specs.contracts.record.StoredRecord as stored
+use Rattle.cv_advdb.specs.contracts.stock.IndexedRecords as indexed
+use Rattle.cv_advdb.specs.contracts.stock.Stock as stock
+use Rattle.cv_desk.specs.declared.desk.Desk as desk
+use Rattle.cv_facts.proofs.facts.LayerFacts.TheSendSync as facts
+use Rattle.cv_outcome.proofs.outcome.Outcome.TheSendSync as outcome
+use Rattle.cv_notice.proofs.notices.Notices.TheSendSync as notices
+use Rattle.cv_records.proofs.reply.Reply.TheSendSync as reply
+use Rattle.cv_registry.proofs.standing.Standing.TheSendSync as standing
+use Rattle.cv_registry.specs.contracts.registry.Registry as registry
+use Rattle.cv_inventory.specs.contracts.inventory.Inventory as inventory
+use Rattle.cv_core.specs.contracts.board.Board as board
+use Rattle.cv_core.specs.contracts.machine.Core as core
+use Rattle.cv_core.specs.contracts.plan.Planned as planned
+
+-- a tree's nodes are shared, so each law asks both of the keys and of the values
+module _ (K V : RattleType) where
+  branch_send : IsSend K → IsSync K → IsSend V → IsSync V → IsSend (branch.the_row K V)
+  branch_send ks ky vs vy = search (nodes.crosses, crosses, sendable) depth 60 fits 20000
+
+  branch_sync : IsSend K → IsSync K → IsSend V → IsSync V → IsSync (branch.the_row K V)
+  branch_sync ks ky vs vy = search (nodes.crosses, crosses, sendable) depth 60 fits 20000
+
+  module _ (o : order.Ghosts K.Denot) (e : equality.Ghosts K.Denot) (p : partial_order.Ghosts K.Denot) where
+    pub tree_send : IsSend K → IsSync K → IsSend V → IsSync V → IsSend (tree.the_row K V o e p)
+    tree_send ks ky vs vy = search (branch_send, sendable, declared_send) depth 30 fits 5000
+
+    pub tree_sync : IsSend K → IsSync K → IsSend V → IsSync V → IsSync (tree.the_row K V o e p)
+    tree_sync ks ky vs vy = search (branch_sync, sendable, declared_sync) depth 30 fits 5000
+
+-- what a core is made of, down to the types of the crates below
+ruleset small = (
+  tree_send,
+  tree_sync,
+  shared.the_send,
+  shared.the_sync,
+  seq.the_send,
+  seq.the_sync,
+  text.the_send,
+  text.the_sync,
+  digest.the_send,
+  digest.the_sync,
+)
+
+-- the feeds
+prepared_send : IsSend prepared.the_row
+prepared_send = search (entries.the_send, sendable, crosses, declared_send) depth 30 fits 5000
+
+prepared_sync : IsSync prepared.the_row
+prepared_sync = search (entries.the_sync, sendable, crosses, declared_sync) depth 30 fits 5000
+
+ready_send : IsSend ready.the_row
+ready_send = search (prepared_send, prepared_sync, sendable, crosses, declared_send) depth 30 fits 5000
+
+ready_sync : IsSync ready.the_row
+ready_sync = search (prepared_send, prepared_sync, sendable, crosses, declared_sync) depth 30 fits 5000
+
+kinds_send : IsSend kinds.the_row
+kinds_send = search (ready_send, sendable, declared_send) depth 30 fits 5000
+
+kinds_sync : IsSync kinds.the_row
+kinds_sync = search (ready_sync, sendable, declared_sync) depth 30 fits 5000
+
+record_send : IsSend record_of.the_row
+record_send = search (kinds_send, advisory.the_send, sendable, declared_send) depth 30 fits 5000
+
+record_sync : IsSync record_of.the_row
+record_sync = search (kinds_sync, advisory.the_sync, sendable, declared_sync) depth 30 fits 5000
+
+stored_send : IsSend stored.the_row
+stored_send = search (record_send, record_sync, sendable, crosses, declared_send) depth 30 fits 5000
+
+stored_sync : IsSync stored.the_row
+stored_sync = search (record_send, record_sync, sendable, crosses, declared_sync) depth 30 fits 5000
+
+list_send : IsSend list.the_row
+list_send = search (stored_send, sendable, crosses, declared_send) depth 30 fits 5000
+
+list_sync : IsSync list.the_row
+list_sync = search (stored_sync, sendable, crosses, declared_sync) depth 30 fits 5000
+
+indexed_send : IsSend indexed.the_row
+indexed_send = search (stored_send, list_send, package_name.the_send, sendable, crosses, maps.crosses, declared_send) depth 30 fits 5000
+
+indexed_sync : IsSync indexed.the_row
+indexed_sync = search (stored_sync, list_sync, package_name.the_sync, sendable, crosses, maps.crosses, declared_sync) depth 30 fits 5000
+
+stock_send : IsSend stock.the_row
+stock_send = search (indexed_send, indexed_sync, sendable, crosses, declared_send) depth 30 fits 5000
+
+stock_sync : IsSync stock.the_row
+stock_sync = search (indexed_send, indexed_sync, sendable, crosses, declared_sync) depth 30 fits 5000
+
+feeds_send : IsSend feeds.the_row
+feeds_send = search (stock_send, text.the_send, sendable, crosses, maps.crosses, declared_send) depth 30 fits 5000
+
+feeds_sync : IsSync feeds.the_row
+feeds_sync = search (stock_sync, text.the_sync, sendable, crosses, maps.crosses, declared_sync) depth 30 fits 5000
+
+-- the images and their layers
+registry_send : IsSend registry.the_row
+registry_send = search (standing.the_send, standing.the_sync, small, sendable, declared_send) depth 30 fits 5000
+
+registry_sync : IsSync registry.the_row
+registry_sync = search (standing.the_send, standing.the_sync, small, sendable, declared_sync) depth 30 fits 5000
+
+-- the core, and what it gives
+ruleset parts = (feeds_send, feeds_sync, outcome.the_send, outcome.the_sync, notices.the_send, notices.the_sync, facts.the_send, facts.the_sync, small)
+
+module _ (D : RattleType) (g : desk.Ghosts D.Denot) where
+  inventory_send : IsSend D → IsSync D → IsSend (inventory.the_row D g)
+  inventory_send s y = search (registry_send, parts, sendable, declared_send) depth 30 fits 5000
+
+  inventory_sync : IsSend D → IsSync D → IsSync (inventory.the_row D g)
+  inventory_sync s y = search (registry_sync, parts, sendable, declared_sync) depth 30 fits 5000
+
+  pub core_send : IsSend D → IsSync D → IsSend (core.the_row D g)
+  core_send s y = search (inventory_send, parts, sendable, declared_send) depth 30 fits 5000
+
+  pub core_sync : IsSend D → IsSync D → IsSync (core.the_row D g)
+  core_sync s y = search (inventory_sync, parts, sendable, declared_sync) depth 30 fits 5000
+
+  pub planned_send : IsSend D → IsSync D → IsSend (planned.the_row D g)
+  planned_send s y = search (core_send, reply.the_send, sendable, declared_send) depth 30 fits 5000
+
+  pub planned_sync : IsSend D → IsSync D → IsSync (planned.the_row D g)
+  planned_sync s y = search (core_sync, reply.the_sync, sendable, declared_sync) depth 30 fits 5000
+
+pub board_send : IsSend board.the_row
+board_send = search (parts, sendable, declared_send) depth 30 fits 5000
+
+pub board_sync : IsSync board.the_row
+board_sync = search (parts, sendable, declared_sync) depth 30 fits 5000
