@@ -1,0 +1,114 @@
+use cv_base::{Digest, Kind};
+use cv_desk::TableEntry;
+
+macro_rules! folder {
+    ($path:expr) => {
+        TableEntry {
+            path: $path,
+            kind: Kind::Dir,
+            bytes: b"",
+        }
+    };
+}
+
+macro_rules! file {
+    ($path:expr, $bytes:expr) => {
+        TableEntry {
+            path: $path,
+            kind: Kind::File,
+            bytes: $bytes,
+        }
+    };
+}
+
+/// A Debian system with two packages.
+static DEBIAN: [TableEntry; 6] = [
+    folder!("etc"),
+    file!("etc/os-release", b"ID=debian\nVERSION_ID=12\n"),
+    folder!("var"),
+    folder!("var/lib"),
+    folder!("var/lib/dpkg"),
+    file!(
+        "var/lib/dpkg/status",
+        b"Package: curl\nStatus: install ok installed\nArchitecture: amd64\nVersion: 7.88\n\nPackage: zlib1g\nStatus: install ok installed\nArchitecture: amd64\nSource: zlib\nVersion: 1:1.2\n"
+    ),
+];
+
+/// The packages of the system in other versions.
+static UPGRADE: [TableEntry; 4] = [
+    folder!("var"),
+    folder!("var/lib"),
+    folder!("var/lib/dpkg"),
+    file!(
+        "var/lib/dpkg/status",
+        b"Package: curl\nStatus: install ok installed\nArchitecture: amd64\nVersion: 8.5\n\nPackage: zlib1g\nStatus: install ok installed\nArchitecture: amd64\nSource: zlib\nVersion: 1:1.3\n"
+    ),
+];
+
+/// Two npm packages.
+static MODULES: [TableEntry; 6] = [
+    folder!("app"),
+    folder!("app/node_modules"),
+    folder!("app/node_modules/x"),
+    file!(
+        "app/node_modules/x/package.json",
+        b"{\"name\":\"x\",\"version\":\"1.0.0\"}"
+    ),
+    folder!("app/node_modules/y"),
+    file!(
+        "app/node_modules/y/package.json",
+        b"{\"name\":\"y\",\"version\":\"2.0.0\"}"
+    ),
+];
+
+/// Hides the status file and one of the npm packages of the layers below.
+static WHITEOUTS: [TableEntry; 6] = [
+    folder!("app"),
+    folder!("app/node_modules"),
+    file!("app/node_modules/.wh.x", b""),
+    folder!("var"),
+    folder!("var/lib"),
+    file!("var/lib/.wh.dpkg", b""),
+];
+
+/// A status file whose line 3 has no colon.
+static BAD_STATUS: [TableEntry; 4] = [
+    folder!("var"),
+    folder!("var/lib"),
+    folder!("var/lib/dpkg"),
+    file!(
+        "var/lib/dpkg/status",
+        b"Package: curl\nStatus: install ok installed\nnocolon\n"
+    ),
+];
+
+/// A file whose folder is no entry.
+static BAD_TREE: [TableEntry; 2] = [folder!("etc"), file!("var/lib/dpkg", b"")];
+
+/// A letter for each layer, in ascending order. The layer of `m` is missing.
+pub static LAYERS: [u8; 7] = *b"bdmnsuw";
+
+/// The digest of 32 bytes that are all this letter.
+pub fn digest(letter: u8) -> Digest {
+    Digest::of([letter; 32])
+}
+
+/// The entries of a layer, if there is one of this digest.
+pub fn entries_of(layer: &Digest) -> Option<&'static [TableEntry]> {
+    let [letter, ..] = layer.bytes();
+    match letter {
+        b'd' => Some(&DEBIAN),
+        b'u' => Some(&UPGRADE),
+        b'n' => Some(&MODULES),
+        b'w' => Some(&WHITEOUTS),
+        b's' => Some(&BAD_STATUS),
+        b'b' => Some(&BAD_TREE),
+        _ => None,
+    }
+}
+
+/// The letter of a digest.
+pub fn letter_of(digest: Digest) -> u8 {
+    let [letter, ..] = digest.bytes();
+    letter
+}

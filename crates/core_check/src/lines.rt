@@ -1,0 +1,115 @@
+use cv_base::Reason;
+use std::alloc::Global;
+
+/// What is found for a package: names, versions and ids. `fixed` is `none` if no version has the fix.
+#[derive(Clone, Copy)]
+pub struct Found<'a> {
+    pub package: &'a str,
+    pub version: &'a str,
+    pub feed: &'a str,
+    pub advisory: &'a str,
+    pub fixed: &'a str,
+}
+
+/// The text that the program prints. Once there is no memory for a part of it, it has failed.
+#[derive(Drop)]
+pub struct Lines {
+    alloc: Global,
+    text: String,
+    failed: bool,
+}
+
+impl Lines {
+    pub fn new(alloc: Global) -> Lines {
+        Lines {
+            alloc,
+            text: String::new(alloc),
+            failed: false,
+        }
+    }
+
+    pub fn as_str(&self) -> &str {
+        self.text.as_str()
+    }
+
+    pub fn has_failed(&self) -> bool {
+        self.failed
+    }
+
+    pub fn fail(&mut self) {
+        self.failed = true;
+    }
+
+    pub fn word(&mut self, word: &str) {
+        if self.text.push_str(word).is_err() {
+            self.failed = true;
+        }
+    }
+
+    /// A word, and a number behind it.
+    pub fn number(&mut self, word: &str, number: u64) {
+        match format!(in self.alloc; "{word}{number}") {
+            Ok(text) => self.word(text.as_str()),
+            Err(_) => self.failed = true,
+        }
+    }
+
+    /// A word, and a letter behind it.
+    pub fn letter(&mut self, word: &str, letter: u8) {
+        self.word(word);
+        if self.text.push(char::from(letter)).is_err() {
+            self.failed = true;
+        }
+    }
+
+    /// An image waits for a layer.
+    pub fn pending(&mut self, image: u8, layer: u8) {
+        self.letter(" | ", image);
+        self.letter(" waits for ", layer);
+    }
+
+    pub fn good(&mut self, image: u8, generation: u64) {
+        self.letter(" | ", image);
+        self.number(" good at ", generation);
+    }
+
+    pub fn bad(&mut self, image: u8, why: &str, index: u64) {
+        self.letter(" | ", image);
+        self.number(why, index);
+    }
+
+    pub fn finding(&mut self, found: Found<'_>) {
+        self.word(", ");
+        self.word(found.package);
+        self.word(" ");
+        self.word(found.version);
+        self.word(" ");
+        self.word(found.feed);
+        self.word(" ");
+        self.word(found.advisory);
+        self.word(" fixed in ");
+        self.word(found.fixed);
+    }
+
+    pub fn row(&mut self, image: u8, reason: Reason, found: Found<'_>) {
+        self.letter("; ", image);
+        self.word(match reason {
+            Reason::Added => " added",
+            Reason::Removed => " removed",
+            Reason::Changed => " changed",
+        });
+        self.finding(found);
+    }
+
+    /// The reply to an update.
+    pub fn updated(&mut self, generation: u64, rows: u64) {
+        self.number("updated to ", generation);
+        self.number(" with rows: ", rows);
+    }
+
+    /// A notification, with how many rows it has.
+    pub fn head(&mut self, number: u64, rows: u64) {
+        self.number(" ", number);
+        self.number("/", rows);
+    }
+}

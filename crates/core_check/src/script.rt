@@ -1,0 +1,182 @@
+use crate::lines::Lines;
+use crate::records::{BASE, FEEDS, RECORDS, Record};
+use crate::show::{
+    show_heads, show_page, show_queued, show_reply, show_report, show_state, word_of,
+};
+use crate::step::{Service, Step, Work, apply, restart};
+use cv_base::NoMemory;
+use cv_core::{Limits, MAX_FEEDS, MAX_IMAGES};
+use std::alloc::Global;
+
+/// Does what each line of a script says, and writes the line and what came of it.
+pub fn run_script(alloc: Global, core: &mut Service, script: &str, out: &mut Lines) {
+    for line in script.lines() {
+        out.word(line);
+        run_line(alloc, core, line, out);
+        out.word("\n");
+    }
+}
+
+/// Reads, new cores and headings. All other lines are events.
+fn run_line(alloc: Global, core: &mut Service, line: &str, out: &mut Lines) {
+    let (verb, rest) = line.split_once(' ').unwrap_or((line, ""));
+    match verb {
+        "" | "#" => {}
+        "limits" => run_limits(alloc, core, rest, out),
+        "report" => show_report(out, core, letter_in(rest), " | not registered"),
+        "queued" => show_queued(alloc, out, core),
+        "heads" => show_heads(alloc, out, core.notices()),
+        "page" => run_page(core, rest, out),
+        _ => run_event(alloc, core, step_of(verb, rest), out),
+    }
+}
+
+/// A new core, which may have so many images and feeds.
+fn run_limits(alloc: Global, core: &mut Service, words: &str, out: &mut Lines) {
+    let (images, feeds) = pair_of(words);
+    if images < 1 || images > MAX_IMAGES || feeds < 1 || feeds > MAX_FEEDS {
+        return out.word(" | not such limits");
+    }
+    if restart(alloc, core, Limits { images, feeds }).is_err() {
+        out.fail();
+    }
+}
+
+/// A page by the number of a notification, the size of pages, and the number of the page.
+fn run_page(core: &Service, words: &str, out: &mut Lines) {
+    let (number, rest) = words.split_once(' ').unwrap_or((words, ""));
+    let (size, page) = pair_of(rest);
+    show_page(
+        out,
+        core.notices(),
+        u64::from(number_in(number)),
+        u64::from(size),
+        u64::from(page),
+    )
+}
+
+fn run_event(alloc: Global, core: &mut Service, step: Option<Step<'_>>, out: &mut Lines) {
+    match step {
+        Some(step) => {
+            let _ = tell(alloc, core, step, out);
+        }
+        None => out.word(" | not an event"),
+    }
+}
+
+/// Applies an event, and writes the reply and what is left. It gives the word of the reply.
+pub fn tell(alloc: Global, core: &mut Service, step: Step<'_>, out: &mut Lines) -> &'static str {
+    out.word(" -> ");
+    let word = tell_reply(alloc, core, step, out);
+    show_state(alloc, out, core);
+    word
+}
+
+/// Applies an event, and writes the reply.
+fn tell_reply(alloc: Global, core: &mut Service, step: Step<'_>, out: &mut Lines) -> &'static str {
+    match apply(alloc, core, step) {
+        Ok(Some(reply)) => {
+            show_reply(out, &reply);
+            word_of(&reply)
+        }
+        Ok(None) => {
+            out.word("not an event for a core");
+            ""
+        }
+        Err(NoMemory) => {
+            out.fail();
+            ""
+        }
+    }
+}
+
+/// The event of a line, by its first word and the rest.
+fn step_of<'a>(verb: &str, rest: &'a str) -> Option<Step<'a>> {
+    match verb {
+        "register" => Some(register_of(rest)),
+        "drop" => Some(Step::DropImage(letter_in(rest))),
+        "claim" => Some(Step::Claim(work_of(rest))),
+        "indexed" => Some(Step::Indexed(work_of(rest))),
+        "fault" => Some(Step::Fault(work_of(rest))),
+        "memory" => Some(Step::Memory(work_of(rest))),
+        "update" => update_of(rest),
+        "ack" => Some(Step::Ack(u64::from(number_in(rest)))),
+        _ => None,
+    }
+}
+
+/// An image, and its layers.
+fn register_of(words: &str) -> Step<'_> {
+    let (image, layers) = words.split_once(' ').unwrap_or((words, ""));
+    Step::Register {
+        image: letter_in(image),
+        layers: layers.as_bytes(),
+    }
+}
+
+/// A worker, and a layer.
+fn work_of(words: &str) -> Work {
+    let (worker, layer) = words.split_once(' ').unwrap_or((words, ""));
+    Work {
+        layer: letter_in(layer),
+        worker: number_in(worker),
+    }
+}
+
+/// A feed, and its records.
+fn update_of(words: &str) -> Option<Step<'_>> {
+    let (name, records) = words.split_once(' ').unwrap_or((words, ""));
+    let feed = feed_of(name)?;
+    Some(Step::Update {
+        feed,
+        code: code_of(records),
+    })
+}
+
+/// The number of records, by words as `C-1=8.4`.
+fn code_of(words: &str) -> u32 {
+    let mut code: u32 = 0;
+    for record in RECORDS.iter().rev() {
+        code = code
+            .wrapping_mul(BASE)
+            .wrapping_add(digit_of(record, words));
+    }
+    code
+}
+
+/// The digit of a record.
+fn digit_of(record: &Record, words: &str) -> u32 {
+    for word in words.split(' ') {
+        let (id, fix) = word.split_once('=').unwrap_or((word, ""));
+        if id == record.id {
+            return record.digit(fix);
+        }
+    }
+    0
+}
+
+fn feed_of(name: &str) -> Option<&'static str> {
+    for feed in FEEDS.iter() {
+        if *feed == name {
+            return Some(*feed);
+        }
+    }
+    None
+}
+
+fn pair_of(words: &str) -> (u32, u32) {
+    let (one, other) = words.split_once(' ').unwrap_or((words, ""));
+    (number_in(one), number_in(other))
+}
+
+fn number_in(word: &str) -> u32 {
+    word.parse().unwrap_or(0)
+}
+
+/// The first letter of a word.
+fn letter_in(word: &str) -> u8 {
+    match word.as_bytes() {
+        [letter, ..] => *letter,
+        [] => b'?',
+    }
+}

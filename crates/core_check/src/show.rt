@@ -1,0 +1,147 @@
+use crate::layers::{digest, letter_of};
+use crate::lines::{Found, Lines};
+use crate::step::Service;
+use cv_base::{Digest, Finding, NoMemory, Row};
+use cv_core::{NoticeHead, Notices, PageError, Reply, ReportRefusal};
+use cv_overlay::{ImageFault, TreeFault};
+use std::alloc::Global;
+
+/// The letters of all images.
+pub static IMAGES: [u8; 7] = *b"ABCDEFG";
+
+pub fn show_reply(out: &mut Lines, reply: &Reply) {
+    match reply {
+        Reply::Conflict { kept } => show_layers(out, "conflict, kept", kept.as_slice()),
+        Reply::Updated { generation, rows } => out.updated(*generation, *rows),
+        _ => out.word(word_of(reply)),
+    }
+}
+
+/// The word of a reply.
+pub fn word_of(reply: &Reply) -> &'static str {
+    match reply {
+        Reply::Registered => "registered",
+        Reply::Already => "already",
+        Reply::Conflict { .. } => "conflict",
+        Reply::TooManyImages => "too many images",
+        Reply::Dropped => "dropped",
+        Reply::NotRegistered => "not registered",
+        Reply::Claimed => "claimed",
+        Reply::Taken => "taken",
+        Reply::Unwanted => "unwanted",
+        Reply::Entered => "entered",
+        Reply::Discarded => "discarded",
+        Reply::Requeued => "requeued",
+        Reply::NotClaimed => "not claimed",
+        Reply::Updated { .. } => "updated",
+        Reply::TooManyFeeds => "too many feeds",
+        Reply::Acked => "acked",
+        Reply::NoNotification => "no notification",
+    }
+}
+
+fn show_layers(out: &mut Lines, word: &str, layers: &[Digest]) {
+    out.word(word);
+    for layer in layers {
+        out.letter(" ", letter_of(*layer));
+    }
+}
+
+/// How many events there were, which layers wait for a worker, the notifications, and the reports of all images that are registered.
+pub fn show_state(alloc: Global, out: &mut Lines, core: &Service) {
+    out.number(" | events ", core.count());
+    show_queued(alloc, out, core);
+    show_heads(alloc, out, core.notices());
+    for image in IMAGES.iter() {
+        show_report(out, core, *image, "");
+    }
+}
+
+pub fn show_queued(alloc: Global, out: &mut Lines, core: &Service) {
+    match core.queued(alloc) {
+        Ok(queued) => show_layers(out, " | queued", queued.as_slice()),
+        Err(NoMemory) => out.fail(),
+    }
+}
+
+pub fn show_heads(alloc: Global, out: &mut Lines, notices: &Notices) {
+    out.word(" | notices");
+    match notices.list(alloc) {
+        Ok(heads) => show_all(out, heads.as_slice()),
+        Err(NoMemory) => out.fail(),
+    }
+}
+
+fn show_all(out: &mut Lines, heads: &[NoticeHead]) {
+    for head in heads {
+        out.head(head.number, head.rows);
+    }
+}
+
+/// The report of an image, or a word if it is not registered.
+pub fn show_report(out: &mut Lines, core: &Service, image: u8, absent: &str) {
+    match &core.report(&digest(image)) {
+        Ok(report) => show_good(out, image, report.generation, report.findings.as_slice()),
+        Err(ReportRefusal::Pending(layer)) => out.pending(image, letter_of(*layer)),
+        Err(ReportRefusal::BadImage(fault)) => show_bad(out, image, fault),
+        Err(ReportRefusal::NotRegistered) => out.word(absent),
+    }
+}
+
+fn show_good(out: &mut Lines, image: u8, generation: u64, findings: &[Finding]) {
+    out.good(image, generation);
+    for finding in findings {
+        out.finding(found_of(finding));
+    }
+}
+
+fn found_of(finding: &Finding) -> Found<'_> {
+    Found {
+        package: finding.package.name.as_str(),
+        version: finding.package.version.as_str(),
+        feed: finding.feed.as_str(),
+        advisory: finding.advisory.as_str(),
+        fixed: match &finding.fixed {
+            Some(version) => version.as_str(),
+            None => "none",
+        },
+    }
+}
+
+fn show_bad(out: &mut Lines, image: u8, fault: &ImageFault) {
+    match fault {
+        ImageFault::NoLayer(layer) => out.bad(image, " bad: no layer at ", u64::from(*layer)),
+        ImageFault::BadTree(layer, TreeFault::NoParent(1)) => {
+            out.bad(image, " bad: no good tree at ", u64::from(*layer))
+        }
+        ImageFault::BadTree(_, _) => out.word(" | bad in another way"),
+        ImageFault::BadFile { path, line, .. } => show_bad_file(out, image, path.text(), *line),
+        ImageFault::TooLarge { .. } => out.word(" | bad in another way"),
+    }
+}
+
+fn show_bad_file(out: &mut Lines, image: u8, path: &str, line: u64) {
+    if path != "var/lib/dpkg/status" {
+        return out.word(" | bad in another way");
+    }
+    out.bad(image, " bad: status file at line ", line)
+}
+
+/// A page of a notification.
+pub fn show_page(out: &mut Lines, notices: &Notices, number: u64, size: u64, page: u64) {
+    if size < 1 || page < 1 {
+        return out.word(" | no such page");
+    }
+    match notices.page(number, size, page) {
+        Ok(shown) => show_rows(out, shown.pages, shown.rows),
+        Err(PageError::NoNotification) => out.word(" | no notification"),
+        Err(PageError::NoPage { pages }) => out.number(" | no such page, pages: ", pages),
+    }
+}
+
+fn show_rows(out: &mut Lines, pages: u64, rows: &[Row]) {
+    out.number(" | pages: ", pages);
+    for row in rows {
+        out.row(letter_of(row.image), row.reason, found_of(&row.finding));
+    }
+}
