@@ -14,7 +14,7 @@ use std::sync::ledger::Ledger;
 
 impl<D: Desk + Drop> Core<D> {
     /// Applies an event, and gives the reply. If memory runs out, the event is spent and the core is as it was. What an update
-    /// notifies of is stated if the type of the desks says of each layer what it has; the other events do not depend on that.
+    /// does is stated if the type of the desks says of each layer what it has; the other events do not depend on that.
     pub fn apply<L: Ledger>(
         &mut self,
         alloc: Global,

@@ -28,7 +28,8 @@ pub enum ReportRefusal<'a> {
     /// The first layer of the image that is not indexed.
     #[error("a layer of the image is not indexed")]
     Pending(Digest),
-    #[error("the image has no packages")]
+    /// Why the image is bad.
+    #[error("the image is bad")]
     BadImage(&'a ImageFault),
 }
 
