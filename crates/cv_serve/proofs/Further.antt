@@ -19,7 +19,7 @@ use Rattle.cv_legal.specs.code.Served.{Served}
 use Rattle.cv_legal.specs.declared.limits.TheConstants.{MAX_ROUND_BYTES, MAX_ROUND_LINES}
 use Rattle.cv_legal.specs.declared.taken.Taken.{Taken}
 use Rattle.cv_legal.proofs.Segments.{grants_both}
-use Rattle.cv_legal.proofs.Serving.{ends_round, later, takes_line}
+use Rattle.cv_legal.proofs.Serving.{ends_round, takes_line}
 use Rattle.cv_serve.specs.code.Further.{Further, RoundRun}
 use Rattle.cv_serve.specs.code.Printed.{HasTag}
 

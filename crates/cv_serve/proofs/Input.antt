@@ -1,14 +1,19 @@
 -- What was read of the input, line by line.
-use Rattle.std.specs.Prelude.{◌≡◌, ⊤, ℕ, List, [], ◌∷◌, ◌++◌, Option, Some, None, IfSome, Result, Ok, Err, refl}
-use Rattle.std.proofs.Common.{ap, append_assoc, subst, sym, ◌∙◌}
+use Rattle.std.specs.Prelude.{◌≡◌, ℕ, List, [], ◌∷◌, ◌++◌, Option, Some, None, IfErr, IfSome, Result, Ok, Err, refl}
+use Rattle.std.proofs.Common.{ap, append_assoc, sym, ◌∙◌}
 use Rattle.std.proofs.lemmas.List.{append-nil}
-use Rattle.cv_io.specs.Lines.{Reading, Stop, Finished, LongLine, LongInput, line_then, lines_then, stopped}
-use Rattle.cv_io.specs.Reader.{Reads}
+use Rattle.cv_io.specs.Lines.{Reading, Finished, lines_of, lines_then}
+use Rattle.cv_io.proofs.Readings.{reading_finished}
+use Rattle.cv_io.specs.Reader.{Reads, new_reader, reading}
 use Rattle.cv_io.specs.declared.line.Line.TheVariants.{Text, End}
 use Rattle.cv_io.specs.declared.line.LineError.{LineError}
 use Rattle.cv_io.specs.declared.line.LineError.TheVariants as line
-use Rattle.cv_serve.specs.Ends.{line_stop}
+use Rattle.cv_scan_input.specs.declared.input.TheConstants.{MAX_INPUT, MAX_LINE}
+use Rattle.cv_serve.specs.Ends.{IsWriting, end_of, line_stop}
+use Rattle.cv_serve.specs.Served.{FitsInput}
 use Rattle.cv_serve.specs.code.Reading.{HasRead, HasReadAll, StopsLines}
+use Rattle.cv_serve.specs.declared.end.Stop.{Stop as Stopped}
+use Rattle.cv_serve.specs.declared.end.Stop.TheVariants as stop
 
 pub reads_none : (r : Option Reading) → HasRead r r []
 reads_none None = tt
@@ -40,3 +45,39 @@ reads_stop (Some whole) (Some rest) next texts line.ReadFault h k = tt
 reads_stop (Some whole) (Some rest) next texts line.LineTooLong h k = ap (λ r. r.stop) h ∙ ap (λ r. r.stop) k
 reads_stop (Some whole) (Some rest) next texts line.InputTooLong h k = ap (λ r. r.stop) h ∙ ap (λ r. r.stop) k
 reads_stop (Some whole) (Some rest) next texts line.NoMemory h k = tt
+
+-- ---- the whole input
+
+-- what the lines of a reader say of its input
+pub fits_stops : (remaining : Option (List ℕ)) (r : Result Unit Stopped) → IfSome (reading (new_reader MAX_LINE MAX_INPUT) remaining) (λ whole. StopsLines whole.stop r)
+    → FitsInput remaining (end_of r)
+fits_stops None r h = tt
+fits_stops (Some bytes) (Ok x) h = h
+fits_stops (Some bytes) (Err stop.ReadFault) h = tt
+fits_stops (Some bytes) (Err stop.WriteFault) h = tt
+fits_stops (Some bytes) (Err stop.LineTooLong) h = h
+fits_stops (Some bytes) (Err stop.InputTooLong) h = h
+fits_stops (Some bytes) (Err stop.NoMemory) h = tt
+
+-- a stop at the output or for memory says nothing of the input
+pub fits_writing : (remaining : Option (List ℕ)) (e : Stopped) → IsWriting e → FitsInput remaining (end_of (Err e))
+fits_writing None e h = tt
+fits_writing (Some bytes) stop.WriteFault h = tt
+fits_writing (Some bytes) stop.NoMemory h = tt
+fits_writing (Some bytes) stop.ReadFault h = absurd h
+fits_writing (Some bytes) stop.LineTooLong h = absurd h
+fits_writing (Some bytes) stop.InputTooLong h = absurd h
+
+-- all lines of the input were read
+pub reads_input : (P : List ℕ → Type 0) (remaining : Option (List ℕ)) (texts : List (List ℕ)) → HasReadAll (reading (new_reader MAX_LINE MAX_INPUT) remaining) texts
+    → ((bytes : List ℕ) → lines_of bytes ≡ texts → P bytes) → IfSome remaining P
+reads_input P None texts h k = tt
+reads_input P (Some bytes) texts h k =
+    k bytes (sym (reading_finished MAX_LINE MAX_INPUT bytes (ap (λ (r : Reading). r.stop) h)) ∙ ap (λ (r : Reading). r.lines) h)
+
+-- after all lines were read, a stop is one of writing
+pub fits_last : (remaining : Option (List ℕ)) (r : Result Unit Stopped) → IfErr r IsWriting → IfSome (reading (new_reader MAX_LINE MAX_INPUT) remaining) (λ whole. whole.stop ≡ Finished)
+    → FitsInput remaining (end_of r)
+fits_last remaining (Err e) h k = fits_writing remaining e h
+fits_last None (Ok x) h k = tt
+fits_last (Some bytes) (Ok x) h k = k

@@ -1,4 +1,5 @@
 mod Ending
+mod First
 mod Further
 mod Input
 mod Parts

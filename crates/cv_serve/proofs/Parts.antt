@@ -1,5 +1,5 @@
 -- Parts of a round come one after the other: the requests of a lane, the lanes, and the layers of a worker.
-use Rattle.std.specs.Prelude.{◌≡◌, ◌≢◌, ◌⊎◌, ℕ, zero, suc, ◌+◌, ◌==◌, ◌<◌, Bool, true, false, not, cond, List, [], ◌∷◌, ◌++◌, filter, refl}
+use Rattle.std.specs.Prelude.{◌≡◌, ◌≢◌, ◌⊎◌, ℕ, ◌==◌, ◌<◌, Bool, true, false, not, cond, List, [], ◌∷◌, ◌++◌, filter, refl}
 use Rattle.std.specs.List.{AllByRecursion}
 use Rattle.std.proofs.Common.{ap, append_assoc, arith, inl, inr, subst, sym, ◌∙◌}
 use Rattle.std.proofs.lemmas.Bool.{ne_eqb}
@@ -7,13 +7,11 @@ use Rattle.std.proofs.lemmas.Bool.Decides.{eqb_tells}
 use Rattle.std.proofs.lemmas.List.{append-nil}
 use Rattle.cv_transcript.specs.declared.entry.Entry.{Entry}
 use Rattle.cv_machine.specs.Scans.{Trees}
-use Rattle.cv_legal.specs.Parts.{grants}
 use Rattle.cv_legal.specs.Replay.{Moment}
-use Rattle.cv_legal.specs.code.Segment.{Segment, lane_requests, lanes_from}
+use Rattle.cv_legal.specs.code.Segment.{Segment, lane_requests}
 use Rattle.cv_legal.specs.declared.taken.Requested.{Requested}
-use Rattle.cv_legal.proofs.Segments.{both as segments_both, grants_both, no_entries}
+use Rattle.cv_legal.proofs.Segments.{both as segments_both, no_entries}
 use Rattle.cv_serve.specs.code.Moments.{Answered, of_other_lane}
-use Rattle.cv_serve.specs.code.Work.{Worked}
 
 -- no request was carried out yet
 pub answered_none : (trees : Trees) (workers : ℕ) (now : Moment) (entries : List Entry) → Answered trees workers [] now entries now entries

@@ -1,5 +1,5 @@
 -- What carrying out a request leaves.
-use Rattle.std.specs.Prelude.{◌≡◌, ⊤, ℕ, List, [], ◌∷◌, Option, Some, Result, Ok, Err, IfOk, option_map, refl}
+use Rattle.std.specs.Prelude.{◌≡◌, ℕ, [], ◌∷◌, Some, Result, Ok, Err, IfOk, option_map}
 use Rattle.std.proofs.Common.{ap, inr, subst, sym, ◌∙◌}
 use Rattle.cv_records.specs.declared.read.Answer.{Answer}
 use Rattle.cv_request.specs.declared.request.Act.{Act}

@@ -1,5 +1,5 @@
 -- How a service ends (defined by this project), and what each ending says of the input.
-use Rattle.std.specs.Prelude.{◌≡◌, ⊤, ◌⊎◌, Bool, true, false, Result, Ok, Err}
+use Rattle.std.specs.Prelude.{⊤, Bool, true, false, Result, Ok, Err}
 use Rattle.cv_io.specs.declared.line.LineError.{LineError}
 use Rattle.cv_io.specs.declared.line.LineError.TheVariants as line
 use Rattle.cv_io.specs.declared.write.WriteError.{WriteError}

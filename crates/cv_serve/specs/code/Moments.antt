@@ -1,5 +1,5 @@
 -- Requests and events at their places.
-use Rattle.std.specs.Prelude.{◌≡◌, ⊤, ℕ, ◌==◌, ◌<◌, ◌≤◌, ◌+◌, ◌⊎◌, Bool, not, List, [], ◌∷◌, ◌++◌, Result, Ok, Err}
+use Rattle.std.specs.Prelude.{◌≡◌, ⊤, ℕ, ◌==◌, ◌<◌, ◌≤◌, ◌+◌, ◌⊎◌, Bool, not, List, [], ◌++◌, Result, Ok, Err}
 use Rattle.std.specs.List.{AllByRecursion}
 use Rattle.cv_base.specs.Lines.{Line}
 use Rattle.cv_request.specs.Limits.{IsWithinLimits}

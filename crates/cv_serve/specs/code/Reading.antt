@@ -1,5 +1,5 @@
 -- What was read of an input, and what was done with it.
-use Rattle.std.specs.Prelude.{◌≡◌, ⊤, ℕ, List, [], ◌++◌, length, Option, IfSome, IsSomeAnd, Result, Ok, Err}
+use Rattle.std.specs.Prelude.{◌≡◌, ⊤, ℕ, List, [], length, Option, IfSome, IsSomeAnd, Result, Ok, Err}
 use Rattle.cv_base.specs.Lines.{numbered}
 use Rattle.cv_io.specs.Lines.{Reading, Stop, Finished, LongLine, LongInput, lines_then}
 use Rattle.cv_machine.specs.Scans.{Trees}

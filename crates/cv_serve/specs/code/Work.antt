@@ -1,5 +1,5 @@
 -- What a worker does in a round.
-use Rattle.std.specs.Prelude.{◌≡◌, ℕ, ◌+◌, List, [], ◌++◌, Option, Some}
+use Rattle.std.specs.Prelude.{◌≡◌, ℕ, ◌+◌, List, [], ◌++◌, Some}
 use Rattle.cv_transcript.specs.declared.entry.Entry.{Entry}
 use Rattle.cv_machine.specs.History.{act_name}
 use Rattle.cv_machine.specs.Scans.{Trees}

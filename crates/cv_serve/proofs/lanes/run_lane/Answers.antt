@@ -1,9 +1,9 @@
-use Rattle.std.specs.Prelude.{◌≡◌, ◌≤◌, [], ◌∷◌, ◌++◌, refl}
+use Rattle.std.specs.Prelude.{◌≡◌, refl}
 use Rattle.std.proofs.Common.{arith, rules, subst, ◌∙◌}
 use Rattle.std.proofs.IntoIterSteps.{All-taken}
 use Rattle.cv_machine.specs.Scans.{trees_of}
 use Rattle.cv_serve.specs.code.Moments.{Answered, moment_of}
-use Rattle.cv_serve.proofs.Parts.{answered_none, answered_one}
+use Rattle.cv_serve.proofs.Parts.{answered_one}
 use Rattle.cv_serve.proofs.lanes.run_lane.Goals as goal
 
 pub loop-requested-preserved : goal.loop-requested-preserved

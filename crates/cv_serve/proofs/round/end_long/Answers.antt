@@ -2,7 +2,6 @@ use Rattle.std.proofs.Common.{ap, ◌∙◌}
 use Rattle.std.specs.Prelude.{if◌then◌else◌}
 use Rattle.cv_machine.specs.Scans.{trees_of}
 use Rattle.cv_legal.specs.Rounds.{end_before, end_round, round_limits}
-use Rattle.cv_serve.specs.code.Moments.{moment_of}
 use Rattle.cv_serve.proofs.Further.{before_is, on_ok, runs_to, stays_at}
 use Rattle.cv_serve.proofs.round.end_long.Goals as goal
 

@@ -1,8 +1,7 @@
-use Rattle.std.specs.Prelude.{◌≡◌, map, string_bytes}
+use Rattle.std.specs.Prelude.{string_bytes}
 use Rattle.std.specs.Io.KnownBytes.{Appends}
 use Rattle.std.specs.List.{AllZip, flat_map}
 use Rattle.std.proofs.Common.{ap, subst, sym, ◌∙◌}
-use Rattle.cv_transcript.specs.Entry.{entry_text}
 use Rattle.cv_legal.specs.Taken.{IsTaken}
 use Rattle.cv_serve.proofs.Written.{same_bytes}
 use Rattle.cv_serve.proofs.round.run_round.Goals as goal

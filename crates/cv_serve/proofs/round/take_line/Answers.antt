@@ -1,4 +1,4 @@
-use Rattle.std.specs.Prelude.{◌≡◌, ◌+◌, ◌++◌, refl}
+use Rattle.std.specs.Prelude.{◌+◌, ◌++◌, refl}
 use Rattle.std.proofs.Common.{arith, sym, ◌∙◌}
 use Rattle.cv_machine.specs.Scans.{trees_of}
 use Rattle.cv_legal.specs.Rounds.{cut_line, end_before, put_line, round_limits}

@@ -1,8 +1,6 @@
 -- Those taken so far, apart.
 use Rattle.std.specs.Prelude.{◌≡◌}
-use Rattle.std.specs.List.{AllByRecursion}
 use Rattle.cv_legal.specs.Taken.{refusals, requests}
-use Rattle.cv_serve.specs.code.Moments.{IsSoundRequest}
 use Rattle.cv_serve.proofs.round_entries.part.Given as goal
 
 abbrev pub invariant-loop-line : goal.invariant-loop-line

@@ -1,0 +1,55 @@
+use Rattle.std.specs.Prelude.{◌≡◌, ◌+◌, ℕ, List, [], ◌∷◌, ◌++◌, length, Ok, refl}
+use Rattle.std.proofs.Common.{ap, arith, length-append, subst, sym, ◌∙◌}
+use Rattle.std.proofs.lemmas.Bool.{false≢true}
+use Rattle.cv_base.specs.Lines.{numbered}
+use Rattle.cv_io.specs.Reader.{Narrows, Reads, reading}
+use Rattle.cv_machine.specs.Scans.{trees_of}
+use Rattle.cv_legal.specs.Rounds.{Cut, cut_line, cut_lines, round_limits}
+use Rattle.cv_legal.proofs.Serving.{cut_more, numbered_more}
+use Rattle.cv_serve.specs.code.Moments.{line_at}
+use Rattle.cv_serve.proofs.Further.{further}
+use Rattle.cv_serve.proofs.Input.{reads_more, reads_none}
+use Rattle.cv_serve.proofs.service.read_lines.Goals as goal
+
+pub loop-text-init : goal.loop-text-init
+loop-text-init g c = record {
+  going = c.requires.going;
+  lines = ([], refl, reads_none (reading c.args.reader.now (g.S.Source.remaining c.args.input.now)), λ known workers some begun. begun);
+  seen = λ e. absurd (false≢true (sym c.requires.begins ∙ e));
+  sound = c.requires.sound;
+  room = c.requires.room;
+  space = omega (arith, c.requires.input);
+  read_later = omega arith;
+  write_later = omega arith;
+}
+
+pub loop-text-preserved : goal.loop-text-preserved
+loop-text-preserved g c =
+    let before = c.loop-text.invariant in
+    let texts : List (List ℕ) = before.lines.0 in
+    let text : List ℕ = c.in-Text.text in
+    let number : ℕ = c.loop-text.number + 1 in
+    let was = reading c.loop-text.reader (g.S.Source.remaining c.loop-text.input) in
+    let now = reading c.next.new.self (g.S.Source.remaining c.next.new.input) in
+    let read = subst (λ line. Reads was now (Ok line)) c.in-Text.is c.in_ok-text.ensures.reads in
+    let narrow = subst (λ line. Narrows c.loop-text.reader c.next.new.self (Ok line)) c.in-Text.is c.in_ok-text.ensures.room in
+    let here : number ≡ length texts + 1 = omega (arith, before.lines.1) in
+    let at : 1 + length texts ≡ number = omega (arith, before.lines.1) in
+    let long : length (texts ++ text ∷ []) ≡ number = omega (arith, length-append texts (text ∷ []), before.lines.1) in
+    let cut : Cut = cut_lines round_limits (numbered 1 texts) in
+    let next : cut_lines round_limits (numbered 1 (texts ++ text ∷ [])) ≡ cut_line round_limits cut (line_at number c.as_slice.result.now) =
+        ap (cut_lines round_limits) (numbered_more 1 texts text) ∙ cut_more round_limits (numbered 1 texts) (line_at (1 + length texts) text)
+        ∙ ap (λ n. cut_line round_limits cut (line_at n text)) at ∙ ap (λ t. cut_line round_limits cut (line_at number t)) (sym c.as_slice.ensures) in
+    record {
+      going = c.in_ok-text.ensures.spent;
+      lines = (texts ++ text ∷ [], long, reads_more _ was now texts text before.lines.2 read, λ known workers some begun.
+          let done = before.lines.3 known workers some begun in
+          further (trees_of g.D.Desk.tree) workers cut (cut_line round_limits cut (line_at number c.as_slice.result.now)) _ (length texts) _ number _ _ _ _ [] _ _ _ _ _ _ _ _ done
+          (c.in_ok-take_line.ensures.further known workers some cut (length texts) done.more here done.served) next long);
+      seen = c.next.ensures.step.takes.seen before.seen;
+      sound = c.in_ok-take_line.ensures.sound;
+      room = c.in_ok-take_line.ensures.room;
+      space = omega (arith, before.space, narrow.0);
+      read_later = omega (arith, before.read_later, c.next.ensures.cause.later);
+      write_later = omega (arith, before.write_later, c.take_line.ensures.cause.later);
+    }
