@@ -38,14 +38,19 @@ loop-text-preserved g c =
     let long : length (texts ++ text ∷ []) ≡ number = omega (arith, length-append texts (text ∷ []), before.lines.1) in
     let cut : Cut = cut_lines round_limits (numbered 1 texts) in
     let next : cut_lines round_limits (numbered 1 (texts ++ text ∷ [])) ≡ cut_line round_limits cut (line_at number c.as_slice.result.now) =
-        ap (cut_lines round_limits) (numbered_more 1 texts text) ∙ cut_more round_limits (numbered 1 texts) (line_at (1 + length texts) text)
-        ∙ ap (λ n. cut_line round_limits cut (line_at n text)) at ∙ ap (λ t. cut_line round_limits cut (line_at number t)) (sym c.as_slice.ensures) in
+    ap (cut_lines round_limits) (numbered_more 1 texts text) ∙ cut_more round_limits (numbered 1 texts) (line_at (1 + length texts) text)
+    ∙ ap (λ n. cut_line round_limits cut (line_at n text)) at ∙ ap (λ t. cut_line round_limits cut (line_at number t)) (sym c.as_slice.ensures) in
     record {
       going = c.in_ok-text.ensures.spent;
-      lines = (texts ++ text ∷ [], long, reads_more _ was now texts text before.lines.2 read, λ known workers some begun.
-          let done = before.lines.3 known workers some begun in
-          further (trees_of g.D.Desk.tree) workers cut (cut_line round_limits cut (line_at number c.as_slice.result.now)) _ (length texts) _ number _ _ _ _ [] _ _ _ _ _ _ _ _ done
-          (c.in_ok-take_line.ensures.further known workers some cut (length texts) done.more here done.served) next long);
+      lines = (
+        texts ++ text ∷ [],
+        long,
+        reads_more _ was now texts text before.lines.2 read,
+        λ known workers some begun.
+            let done = before.lines.3 known workers some begun in
+            further (trees_of g.D.Desk.tree) workers cut (cut_line round_limits cut (line_at number c.as_slice.result.now)) _ (length texts) _ number _ _ _ _ [] _ _ _ _ _ _ _ _ done
+            (c.in_ok-take_line.ensures.further known workers some cut (length texts) done.more here done.served) next long,
+      );
       seen = c.next.ensures.step.takes.seen before.seen;
       sound = c.in_ok-take_line.ensures.sound;
       room = c.in_ok-take_line.ensures.room;

@@ -24,15 +24,15 @@ returns-clause-done g c = λ known workers some begin.
     let lines = c.in_ok-read_lines.ensures.lines in
     let texts : List (List ℕ) = lines.0 in
     let start : Done trees workers [] [] 0 (moment_of c.args.machine.now.core) written written listings listings =
-        stays trees workers (cut_lines round_limits []) 0 [] 0 [] (moment_of c.args.machine.now.core) written listings
-        (subst (λ m. Served trees workers (cut_lines round_limits []) 0 [] 0 [] m) (sym begin) (begins trees workers round_limits)) in
+    stays trees workers (cut_lines round_limits []) 0 [] 0 [] (moment_of c.args.machine.now.core) written listings
+    (subst (λ m. Served trees workers (cut_lines round_limits []) 0 [] 0 [] m) (sym begin) (begins trees workers round_limits)) in
     let first = subst (λ taken. Done trees workers [] taken 0 (moment_of c.args.machine.now.core) written written listings listings) (sym c.new-2.ensures.items) start in
     let done = lines.2 known workers some first in
     let ended = c.in_ok-end_last.ensures.further known workers some (cut_lines round_limits (numbered 1 texts)) (length texts) done.more done.served in
     let all = subst (λ r. HasReadAll (reading r remaining) texts) c.in_ok-reader.ensures.value lines.1 in
     on_ok c.end_queued.result
     (λ last. reads_input (λ bytes. IsServed trees workers bytes written (g.K.Sink.contents c.end_queued.new.output) listings (g.D.Desk.listings c.end_queued.new.desk)) remaining texts all
-        (λ bytes e. all_served trees workers bytes texts (length texts) _ _ _ _ _ written _ _ _ listings _ _ _ e done ended last))
+    (λ bytes e. all_served trees workers bytes texts (length texts) _ _ _ _ _ written _ _ _ listings _ _ _ e done ended last))
     (c.end_queued.ensures.further known workers some)
 
 pub returns-clause-input : goal.returns-clause-input
