@@ -36,13 +36,13 @@ IsWriting stop.WriteFault = ⊤
 IsWriting stop.NoMemory = ⊤
 IsWriting _ = ⊥
 
--- the stop blames the output
+-- the stop is a failure of the output
 abbrev pub is_write_stop : {X : Type 0} → Result X Stop → Bool
 is_write_stop (Ok x) = false
 is_write_stop (Err stop.WriteFault) = true
 is_write_stop (Err _) = false
 
--- the stop blames the input
+-- the stop is a failure of the input
 abbrev pub is_read_stop : {X : Type 0} → Result X Stop → Bool
 is_read_stop (Ok x) = false
 is_read_stop (Err stop.ReadFault) = true

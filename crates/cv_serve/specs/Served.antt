@@ -1,5 +1,5 @@
--- What a service does (defined by this project): what it wrote is a legal transcript of what it read, and each granted claim
--- led to one listing of the desk.
+-- What a service did that is done (defined by this project): what it wrote is a legal transcript of what it read, and each
+-- granted claim led to one listing of the desk.
 use Rattle.std.specs.Prelude.{◌≡◌, ⊤, ℕ, ◌+◌, List, ◌∷◌, Option, IfSome}
 use Rattle.std.specs.Io.KnownBytes.{Appends}
 use Rattle.cv_io.specs.Lines.{Stop, Finished, LongLine, LongInput}

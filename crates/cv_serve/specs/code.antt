@@ -1,4 +1,4 @@
--- Words that only retell private functions.
+-- Definitions that only restate private functions.
 pub mod Further
 pub mod Moments
 pub mod Printed

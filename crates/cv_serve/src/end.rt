@@ -10,10 +10,15 @@ use thiserror::Error;
 pub enum ServeEnd {
     /// The input was read to its end, and every round was written.
     Done,
+    /// The input could not be read. The round that had begun was not run.
     ReadFault,
+    /// The output could not be written. Lines of a round may be missing.
     WriteFault,
+    /// A line of the input is longer than 67,108,864 bytes.
     LineTooLong,
+    /// The input has 2^36 bytes or more.
     InputTooLong,
+    /// Memory ran out. Lines of a round, or all of them, may be missing.
     NoMemory,
 }
 

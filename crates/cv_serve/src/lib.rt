@@ -1,6 +1,6 @@
-//! The service: it reads requests, carries them out in rounds, and writes a transcript of what it did. Each round's lines are
-//! written before the input of the next round is read. It stands on the core of `cv_core`; which transcripts are legal is
-//! defined in `cv_legal`.
+//! The service: it reads requests, carries them out in rounds, and writes a transcript of what it did. The lines of a round are
+//! written as soon as it ends, before a further line is taken. It stands on the core of `cv_core`; which transcripts are legal
+//! is defined in `cv_legal`.
 //!
 //! ```text
 //! match serve(alloc, &mut input, &mut output, &mut desks, 1) {

@@ -41,8 +41,8 @@ pub struct Round {
     pub bytes: usize,
 }
 
-/// Takes a line of the input. An empty one ends the round that has begun; any other one comes to it, after the round before
-/// was ended if it would be too long, and a round with as many lines as it may have ends.
+/// Takes a line of the input. An empty one ends the round that has begun; any other line is added to it. If it would make the
+/// round too long, that round is run first; a full round is run at once.
 pub fn take_line<K: Sink, D: Desk + Drop, L: Ledger>(
     alloc: Global,
     machine: &mut Machine<D, L>,

@@ -27,7 +27,8 @@ use std::alloc::Global;
 use std::marker::Brand;
 use std::sync::ledger::{Blank, Ledger};
 
-/// Serves the requests of the input to its end, in rounds, and writes the transcript. The first desk is that of the one worker.
+/// Serves the requests of the input to its end, in rounds, and writes the transcript. Its workers may be so many; one works,
+/// whose desk is the first one.
 pub fn serve<S: Source, K: Sink, D: Desk + Drop>(
     alloc: Global,
     input: &mut S,
@@ -81,7 +82,7 @@ fn serve_one<S: Source, K: Sink, D: Desk + Drop, L: Ledger>(
     serve_by(alloc, &mut machine, desk, input, output)
 }
 
-/// Serves by a core before all events.
+/// Serves with a core that has applied no event.
 fn serve_by<S: Source, K: Sink, D: Desk + Drop, L: Ledger>(
     alloc: Global,
     machine: &mut Machine<D, L>,

@@ -11,7 +11,7 @@ use Rattle.cvwatch.specs.World.{RunWorld, Trees}
 use Rattle.cvwatch.specs.declared.status.Status.{Status}
 use Rattle.cvwatch.specs.declared.status.Status.TheVariants as status
 
--- the status of each end of a service has its name
+-- each end of a service has the status of its name
 abbrev pub status_of : ServeEnd → Status
 status_of end.Done = status.Done
 status_of end.ReadFault = status.ReadFault

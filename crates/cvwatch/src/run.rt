@@ -14,7 +14,7 @@ use cv_desk::Desk;
 use cv_io::{Sink, Source};
 use std::alloc::Global;
 
-/// Runs the command that the arguments name: today `scan`, `serve` with one worker, and `order`.
+/// Runs the command that the arguments name: `scan`, `serve` with one worker, or `order`. Other arguments print the usage line.
 pub fn run<S: Source, K: Sink, D: Desk + Drop>(
     alloc: Global,
     arguments: &[String],

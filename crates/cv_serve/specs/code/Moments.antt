@@ -69,6 +69,6 @@ IsSoundTaken taken = IsSoundAnswer taken.answer
 abbrev pub IsSoundRound : List Taken → ℕ → Type 0
 IsSoundRound taken bytes = AllByRecursion IsSoundTaken taken × (taken ≡ [] → bytes ≡ 0)
 
--- a round has room for so many bytes more, or has none yet
+-- so many bytes more fit into a round, or it has none yet
 abbrev pub IsRoomFor : ℕ → ℕ → Type 0
 IsRoomFor bytes more = (bytes ≡ 0) ⊎ (bytes + more ≤ MAX_ROUND_BYTES)
