@@ -1,4 +1,5 @@
 pub mod Failures
+pub mod GeneratedOrder
 pub mod LoadedLayers
 pub mod PathSets
 pub mod ReadCounts

@@ -2,6 +2,8 @@ pub mod Counts
 pub mod Failing
 pub mod Fault
 pub mod Folder
+pub mod Gate
+pub mod Generated
 pub mod Loaded
 pub mod Row
 pub mod Stored

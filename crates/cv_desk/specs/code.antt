@@ -1,3 +1,6 @@
+pub mod GeneratedDistinct
+pub mod GeneratedEntry
+pub mod GeneratedLaws
 pub mod Listed
 pub mod TableLaws
 pub mod TableRow

@@ -10,6 +10,8 @@ mod desk;
 mod failure;
 mod faulty;
 mod folder;
+mod gate;
+mod generated;
 mod loading;
 mod table;
 #[cfg(test)]
@@ -20,5 +22,7 @@ pub use desk::{Desk, DeskFault, FileRead};
 pub use failure::FolderFailure;
 pub use faulty::Faulty;
 pub use folder::FolderDesk;
+pub use gate::GateDesk;
+pub use generated::GenDesk;
 pub use loading::load;
 pub use table::{Table, TableDesk, TableEntry};

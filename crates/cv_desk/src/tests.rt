@@ -1,8 +1,11 @@
+ghost use Rattle.std.specs.Prelude.{◌≡◌};
 ghost use Rattle.cv_desk.specs.tests.Sample.{sample_rows};
 
 use crate::desk::{Desk, DeskFault, FileRead};
 use crate::faulty::Faulty;
 use crate::folder::FolderDesk;
+use crate::gate::GateDesk;
+use crate::generated::GenDesk;
 use crate::loading::load;
 use crate::table::{Table, TableDesk, TableEntry};
 use cv_base::{Content, Digest, Kind, ListEntry, Node, RelPath, Tree, TreeEntry};
@@ -146,6 +149,8 @@ fn threads_may_share_desks(_rt: HostRuntime) -> Result<(), Fail> {
     is_shared::<TableDesk<Sample>>();
     is_shared::<Faulty<TableDesk<Sample>>>();
     is_shared::<FolderDesk<HostRuntime>>();
+    is_shared::<GateDesk<TableDesk<Sample>>>();
+    is_shared::<GenDesk>();
     is_shared::<DeskFault>();
     is_shared::<FileRead>();
     Ok(())
@@ -164,5 +169,48 @@ fn a_file_that_is_not_there_is_a_failure_with_its_path(rt: HostRuntime) -> Resul
     };
     assert!(rt; failure.path.as_str().starts_with("layers/sha256/1a1a"));
     assert!(rt; failure.path.as_str().ends_with("1a/etc/os-release"));
+    Ok(())
+}
+
+fn sample_desk() -> TableDesk<Sample>
+    ensures { ⟦<TableDesk<Sample> as Desk>⟧.listings result ≡ 0 }
+{
+    TableDesk::new()
+}
+
+#[test]
+fn two_desks_pass_whose_goals_are_reached_in_turn(rt: HostRuntime) -> Result<(), Fail> {
+    let alloc = rt.alloc();
+    let layer = Digest::of([0; 32]);
+    let (mut first, mut second) = GateDesk::pair(alloc, sample_desk(), sample_desk(), 1, 2)?;
+    assert_eq!(rt; first.list(alloc, &layer), Ok(Some(entries(alloc)?)));
+    assert_eq!(rt; second.list(alloc, &layer), Ok(Some(entries(alloc)?)));
+    assert!(rt; first.passed());
+    assert!(rt; second.passed());
+    Ok(())
+}
+
+#[test]
+fn a_desk_that_made_no_listing_has_not_passed(rt: HostRuntime) -> Result<(), Fail> {
+    let alloc = rt.alloc();
+    let layer = Digest::of([0; 32]);
+    let path = RelPath::read(alloc, "notes")?;
+    let (mut first, mut second) = GateDesk::pair(alloc, sample_desk(), sample_desk(), 1, 0)?;
+    first.list(alloc, &layer)?;
+    let found = second.read(alloc, &layer, &path, 4)?;
+    assert_eq!(rt; found, bytes(alloc, "four")?);
+    assert!(rt; !second.passed());
+    Ok(())
+}
+
+#[test]
+fn a_desk_has_not_passed_once_a_listing_missed_its_goal(rt: HostRuntime) -> Result<(), Fail> {
+    let alloc = rt.alloc();
+    let layer = Digest::of([0; 32]);
+    let (mut alone, _) = GateDesk::pair(alloc, sample_desk(), sample_desk(), 2, 2)?;
+    assert_eq!(rt; alone.list(alloc, &layer), Ok(Some(entries(alloc)?)));
+    assert!(rt; !alone.passed());
+    alone.list(alloc, &layer)?;
+    assert!(rt; !alone.passed());
     Ok(())
 }
