@@ -14,6 +14,7 @@ use Rattle.cv_request.specs.declared.error.RequestError.{RequestError}
 use Rattle.cv_request.specs.declared.request.Request.{Request}
 use Rattle.cv_transcript.specs.declared.entry.Entry.{Entry}
 use Rattle.cv_transcript.specs.declared.entry.Entry.TheVariants as entry
+use Rattle.cv_transcript.proofs.OrderLemmas.{all_weaker}
 use Rattle.cv_machine.specs.Layers.{queued}
 use Rattle.cv_machine.specs.Scans.{Trees}
 use Rattle.cv_legal.specs.Parts.{line_by, lines_answered, times}
@@ -26,11 +27,6 @@ use Rattle.cv_legal.specs.declared.taken.Requested.{Requested}
 use Rattle.cv_legal.specs.declared.taken.Taken.{Taken}
 
 -- ---- what holds of all items of a list
-
--- what follows of each item
-all_weaker : {X : Type 0} (P Q : X → Type 0) (xs : List X) → ((x : X) → P x → Q x) → AllByRecursion P xs → AllByRecursion Q xs
-all_weaker P Q [] f h = tt
-all_weaker P Q (x ∷ xs) f h = (f x h.0, all_weaker P Q xs f h.1)
 
 all_both : {X : Type 0} (P : X → Type 0) (xs ys : List X) → AllByRecursion P xs → AllByRecursion P ys → AllByRecursion P (xs ++ ys)
 all_both P [] ys h k = k
@@ -97,14 +93,14 @@ found_after : (first : Requested) (rest some : List Requested) → AllByRecursio
 found_after first rest [] low found = tt
 found_after first rest (r ∷ some) low found = (found_next first rest r low.0 found.0, found_after first rest some low.1 found.1)
 
-all_found : (asked : List Requested) → AsksRise asked → AllByRecursion (IsFound asked) asked
+pub all_found : (asked : List Requested) → AsksRise asked → AllByRecursion (IsFound asked) asked
 all_found [] h = tt
 all_found (first ∷ rest) h = (found_first first rest, found_after first rest rest h.0 (all_found rest h.1))
 
 -- ---- lanes, one after the other
 
 -- what holds of all requests holds of those of a lane
-in_lane : (P : Requested → Type 0) (lane : ℕ) (asked : List Requested) → AllByRecursion P asked → AllByRecursion P (lane_requests lane asked)
+pub in_lane : (P : Requested → Type 0) (lane : ℕ) (asked : List Requested) → AllByRecursion P asked → AllByRecursion P (lane_requests lane asked)
 in_lane P lane [] h = tt
 in_lane P lane (r ∷ asked) h = all_cond P (r.request.lane == lane) r (lane_requests lane asked) (λ same. h.0) (in_lane P lane asked h.1)
 
@@ -115,7 +111,7 @@ in_lanes P lane (suc count) asked h =
     all_both P (lane_requests lane asked) (lanes_from (lane + 1) count asked) (in_lane P lane asked h) (in_lanes P (lane + 1) count asked h)
 
 -- the requests of a lane are of it
-of_lane : (lane : ℕ) (asked : List Requested) → AllByRecursion (λ r. r.request.lane ≡ lane) (lane_requests lane asked)
+pub of_lane : (lane : ℕ) (asked : List Requested) → AllByRecursion (λ r. r.request.lane ≡ lane) (lane_requests lane asked)
 of_lane lane [] = tt
 of_lane lane (r ∷ asked) =
     all_cond (λ (x : Requested). x.request.lane ≡ lane) (r.request.lane == lane) r (lane_requests lane asked) (eqb-true r.request.lane lane) (of_lane lane asked)

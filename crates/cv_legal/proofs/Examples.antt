@@ -37,6 +37,7 @@ use Rattle.cv_request.specs.declared.request.Act.TheVariants as request
 use Rattle.cv_request.specs.declared.request.Request.{Request}
 use Rattle.cv_transcript.specs.Entry.{entry_json, entry_text}
 use Rattle.cv_transcript.specs.Line.{line_text}
+use Rattle.cv_transcript.specs.Order.{events_of}
 use Rattle.cv_transcript.specs.Tag.{entry_tag, tag_of_json}
 use Rattle.cv_transcript.specs.declared.entry.Entry.{Entry}
 use Rattle.cv_transcript.specs.declared.entry.Entry.TheVariants as entry
@@ -50,7 +51,7 @@ use Rattle.cv_machine.specs.Scans.{Trees}
 use Rattle.cv_machine.specs.declared.act.WholeAct.{WholeAct}
 use Rattle.cv_machine.specs.declared.act.WholeAct.TheVariants as whole
 use Rattle.cv_legal.specs.Legal.{AreLast, AreLegal, IsLegal}
-use Rattle.cv_legal.specs.Parts.{claim_in, claims_of, event_by, events_by, events_of, lines_answered, times}
+use Rattle.cv_legal.specs.Parts.{claim_in, claims_of, event_by, events_by, lines_answered, times}
 use Rattle.cv_legal.specs.Replay.{Moment, Replays, beginning, moment_after, read_of, submitted}
 use Rattle.cv_legal.specs.Round.{AreReadsOrdered, IsLegalRound}
 use Rattle.cv_legal.specs.Rounds.{Round, RoundLimits, round_limits, rounds_of}

@@ -5,6 +5,7 @@ use Rattle.std.proofs.Common.{ap, arith, subst, sym, ◌∙◌}
 use Rattle.cv_records.specs.declared.event.EventEntry.{EventEntry}
 use Rattle.cv_request.specs.declared.error.RequestError.{RequestError}
 use Rattle.cv_request.specs.declared.request.Request.{Request}
+use Rattle.cv_transcript.specs.Order.{event_in, events_of}
 use Rattle.cv_transcript.specs.declared.entry.Entry.{Entry}
 use Rattle.cv_transcript.specs.declared.entry.Entry.TheVariants as entry
 use Rattle.cv_machine.specs.History.{event_entry}
@@ -13,7 +14,6 @@ use Rattle.cv_machine.specs.Step.{step}
 use Rattle.cv_machine.specs.declared.act.WholeAct.{WholeAct}
 use Rattle.cv_legal.specs.Laws.{IsHistory}
 use Rattle.cv_legal.specs.Legal.{AreLast, AreLegal, AreLegalRounds}
-use Rattle.cv_legal.specs.Parts.{event_in, events_of}
 use Rattle.cv_legal.specs.Replay.{Moment, Replays, moment_after}
 use Rattle.cv_legal.specs.Round.{IsLegalRound}
 use Rattle.cv_legal.specs.Rounds.{Round}

@@ -4,6 +4,7 @@ mod Examples
 mod Generations
 mod History
 pub mod Joined
+pub mod Order
 pub mod Segments
 pub mod Serving
 mod Unique

@@ -19,6 +19,7 @@ use Rattle.cv_request.specs.declared.error.RequestError.{RequestError}
 use Rattle.cv_request.specs.declared.request.Act.{Act as RequestAct}
 use Rattle.cv_request.specs.declared.request.Act.TheVariants as request
 use Rattle.cv_request.specs.declared.request.Request.{Request}
+use Rattle.cv_transcript.specs.Order.{event_in, events_of}
 use Rattle.cv_transcript.specs.declared.entry.Entry.{Entry}
 use Rattle.cv_transcript.specs.declared.entry.Entry.TheVariants as entry
 use Rattle.cv_machine.specs.Answer.{answer_to}
@@ -27,7 +28,7 @@ use Rattle.cv_machine.specs.Scans.{Trees}
 use Rattle.cv_machine.specs.Step.{step}
 use Rattle.cv_machine.specs.declared.act.WholeAct.{WholeAct}
 use Rattle.cv_machine.specs.declared.act.WholeAct.TheVariants as whole
-use Rattle.cv_legal.specs.Parts.{claim_in, claims_of, event_by, event_in, events_by, events_of, grants, is_grant}
+use Rattle.cv_legal.specs.Parts.{claim_in, claims_of, event_by, events_by, grants, is_grant}
 use Rattle.cv_legal.specs.Replay.{Moment, Replays, event_of, moment_after, read_of, worker_event}
 use Rattle.cv_legal.specs.Taken.{refusal_at, refusals}
 use Rattle.cv_legal.specs.Turns.{ClaimsBelow, FitsWork, Works, work_after}

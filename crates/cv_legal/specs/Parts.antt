@@ -8,18 +8,9 @@ use Rattle.cv_records.specs.declared.event.By.TheVariants as by
 use Rattle.cv_records.specs.declared.event.EventEntry.{EventEntry}
 use Rattle.cv_records.specs.declared.reply.Reply.{Reply}
 use Rattle.cv_records.specs.declared.reply.Reply.TheVariants as reply
+use Rattle.cv_transcript.specs.Order.{events_of}
 use Rattle.cv_transcript.specs.declared.entry.Entry.{Entry}
 use Rattle.cv_transcript.specs.declared.entry.Entry.TheVariants as entry
-
--- the event of an entry
-abbrev pub event_in : Entry → Option EventEntry
-event_in (entry.Refused line error) = None
-event_in (entry.Event event) = Some event
-event_in (entry.Read read) = None
-
--- the events of entries
-abbrev pub events_of : List Entry → List EventEntry
-events_of entries = filter_map event_in entries
 
 -- ---- lanes
 

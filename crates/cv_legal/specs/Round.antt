@@ -1,12 +1,13 @@
 -- The entries of one round (defined by this project).
-use Rattle.std.specs.Prelude.{◌≡◌, ⊤, ℕ, ◌<◌, ◌⊎◌, List, [], ◌∷◌, ◌++◌, None}
+use Rattle.std.specs.Prelude.{◌≡◌, ⊤, ℕ, List, [], ◌∷◌, ◌++◌, None}
 use Rattle.std.specs.List.{AllByRecursion, AllZip}
 use Rattle.cv_records.specs.declared.read.ReadEntry.{ReadEntry}
+use Rattle.cv_transcript.specs.Order.{PrecedesByLane, events_of}
 use Rattle.cv_transcript.specs.declared.entry.Entry.{Entry}
 use Rattle.cv_transcript.specs.declared.entry.Entry.TheVariants as entry
 use Rattle.cv_machine.specs.Layers.{queued}
 use Rattle.cv_machine.specs.Scans.{Trees}
-use Rattle.cv_legal.specs.Parts.{claims_of, events_by, events_of, lines_answered, times}
+use Rattle.cv_legal.specs.Parts.{claims_of, events_by, lines_answered, times}
 use Rattle.cv_legal.specs.Replay.{Moment, Replays}
 use Rattle.cv_legal.specs.Rounds.{Round}
 use Rattle.cv_legal.specs.Taken.{IsTaken, lines_asked, refusals, requests}
@@ -15,8 +16,7 @@ use Rattle.cv_legal.specs.Turns.{ClaimsBelow, Works}
 
 -- of two reads with one front the one of the lower lane stands first, and of one lane that of the lower line
 abbrev pub ReadsBefore : ReadEntry → ReadEntry → Type 0
-ReadsBefore first second =
-    first.front ≡ second.front → (first.lane < second.lane) ⊎ ((first.lane ≡ second.lane) × (first.line < second.line))
+ReadsBefore first second = first.front ≡ second.front → PrecedesByLane first second
 
 -- one entry stands before another
 abbrev pub StandsBefore : Entry → Entry → Type 0

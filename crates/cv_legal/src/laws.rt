@@ -1,12 +1,12 @@
 ghost use Rattle.std.specs.Prelude.{◌≡◌, ◌<◌, ℕ, Bool, true, List, filter, flat_map};
 ghost use Rattle.std.specs.List.{AllByRecursion};
 ghost use Rattle.cv_base.specs.Lines.{Line};
+ghost use Rattle.cv_transcript.specs.Order.{events_of};
 ghost use Rattle.cv_transcript.specs.declared.entry.Entry.{Entry};
 ghost use Rattle.cv_machine.specs.Scans.{Trees};
 ghost use Rattle.cv_legal.specs.Division.{AreRounds, IsShort};
 ghost use Rattle.cv_legal.specs.Laws.{IsHistory, NeverFall, generations, has_text};
 ghost use Rattle.cv_legal.specs.Legal.{AreLegal};
-ghost use Rattle.cv_legal.specs.Parts.{events_of};
 ghost use Rattle.cv_legal.specs.Replay.{Moment};
 ghost use Rattle.cv_legal.specs.Rounds.{Round, RoundLimits, cut_lines, input_lines, rounds_of};
 

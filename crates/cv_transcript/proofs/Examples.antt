@@ -1,15 +1,19 @@
--- Examples of lines and their tags.
-use Rattle.std.proofs.Common.{◌≡◌, ℕ, List, false, true, Some, refl}
+-- Examples of lines, of their tags, and of their order.
+use Rattle.std.proofs.Common.{◌≡◌, ℕ, List, [], ◌∷◌, arith, inl, inr, true, Some, refl}
 use Rattle.std.specs.Prelude.{codes}
 use Rattle.serde_json.specs.Data.{member, no_members, number, object, string, unsigned}
 use Rattle.cv_base.specs.Digest.{digest_text}
 use Rattle.cv_records.specs.declared.event.Act.TheVariants as act
 use Rattle.cv_records.specs.declared.event.By.TheVariants as by
+use Rattle.cv_records.specs.declared.event.EventEntry.{EventEntry}
 use Rattle.cv_records.specs.declared.read.Answer.TheVariants as answer
+use Rattle.cv_records.specs.declared.read.ReadEntry.{ReadEntry}
 use Rattle.cv_records.specs.declared.reply.Reply.TheVariants as reply
 use Rattle.cv_transcript.specs.Event.{event_data}
+use Rattle.cv_transcript.specs.Order.{AreAscending, Precedes, reads_by, reads_of}
 use Rattle.cv_transcript.specs.Read.{read_data}
 use Rattle.cv_transcript.specs.Tag.{LaneEvent, LaneRead, tag_of}
+use Rattle.cv_transcript.specs.declared.entry.Entry.TheVariants as entry
 
 -- the members of an event stand in the order of their names
 claim : (layer : List ℕ) → event_data (record { number = 2; by = by.Worker 0; act = act.Claim layer; reply = reply.Claimed })
@@ -29,3 +33,30 @@ no_memory_tag = refl
 -- an event of a lane has the tag of its number, the lane and the line
 ack_tag : tag_of (event_data (record { number = 5; by = by.Lane 0 11; act = act.Ack 1; reply = reply.Acked })) ≡ Some (LaneEvent 5 0 11)
 ack_tag = refl
+
+-- an event of a worker, and a read that ran out of memory
+abbrev event_at : ℕ → EventEntry
+event_at at = record { number = at; by = by.Worker 0; act = act.Ack at; reply = reply.Acked }
+
+abbrev read_at : ℕ → ℕ → ℕ → ReadEntry
+read_at front lane line = record { front = front; lane = lane; line = line; answer = answer.NoMemory }
+
+-- reads stand after the event of their front, those of the lower lane first, also where their lines are higher
+in_order : AreAscending (entry.Event (event_at 1) ∷ entry.Read (read_at 1 0 4) ∷ entry.Read (read_at 1 1 2) ∷ entry.Event (event_at 2) ∷ [])
+in_order = (
+  tt,
+  (omega arith, (omega arith, (omega arith, tt))),
+  (tt, (inr (refl, inl (omega arith)), (omega arith, tt)), (tt, (omega arith, tt), (tt, tt, tt))),
+)
+
+-- a read does not stand before the event of its front
+not_before : Precedes (entry.Read (read_at 1 0 4)) (entry.Event (event_at 1)) → ⊥
+not_before h = omega (arith, h)
+
+-- with one front, a read of a higher lane does not stand before one of a lower lane
+not_by_line : Precedes (entry.Read (read_at 1 1 2)) (entry.Read (read_at 1 0 4)) → ⊥
+not_by_line h = grind arith
+
+-- the reads of a lane are those of its number
+lane_reads : reads_by 1 (reads_of (entry.Event (event_at 1) ∷ entry.Read (read_at 1 0 4) ∷ entry.Read (read_at 1 1 2) ∷ [])) ≡ read_at 1 1 2 ∷ []
+lane_reads = refl

@@ -1,4 +1,5 @@
 mod Examples
 pub mod Floats
+pub mod OrderLemmas
 pub mod Plain
 pub mod Tags

@@ -5,6 +5,7 @@ pub mod Finding
 pub mod Line
 pub mod Members
 pub mod Names
+pub mod Order
 pub mod Read
 pub mod Refusal
 pub mod Rows

@@ -4,13 +4,14 @@ use Rattle.std.specs.Prelude.{◌≡◌, ℕ, zero, suc, ◌==◌, ◌+◌, List
 use Rattle.std.specs.List.{AllByRecursion}
 use Rattle.cv_records.specs.declared.event.By.{By}
 use Rattle.cv_records.specs.declared.event.By.TheVariants as by
+use Rattle.cv_transcript.specs.Order.{events_of}
 use Rattle.cv_transcript.specs.declared.entry.Entry.{Entry}
 use Rattle.cv_transcript.specs.declared.entry.Entry.TheVariants as entry
 use Rattle.cv_machine.specs.History.{event_entry}
 use Rattle.cv_machine.specs.Scans.{Trees}
 use Rattle.cv_machine.specs.Step.{step}
 use Rattle.cv_machine.specs.declared.act.WholeAct.{WholeAct}
-use Rattle.cv_legal.specs.Parts.{claims_of, events_by, events_of}
+use Rattle.cv_legal.specs.Parts.{claims_of, events_by}
 use Rattle.cv_legal.specs.Replay.{Moment, Replays, asked_at}
 use Rattle.cv_legal.specs.Turns.{ClaimsBelow, Works}
 use Rattle.cv_legal.specs.declared.taken.Requested.{Requested}
