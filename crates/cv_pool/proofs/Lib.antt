@@ -1,0 +1,9 @@
+mod Examples
+pub mod AccountLemmas
+pub mod Crossing
+pub mod FillLemmas
+pub mod GatherLemmas
+pub mod HandLemmas
+pub mod LawLemmas
+pub mod SeatLemmas
+pub mod TaskLemmas

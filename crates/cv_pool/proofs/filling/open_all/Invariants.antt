@@ -1,0 +1,7 @@
+use Rattle.std.proofs.Common.{◌≡◌, length}
+use Rattle.cv_pool.specs.Filling.{AreOwners}
+use Rattle.cv_pool.proofs.filling.open_all.Given as goal
+
+-- so many deques were made, all empty
+abbrev pub invariant-loop : goal.invariant-loop
+invariant-loop l = AreOwners 0 9 0 l.owners.items × (length l.owners.items ≡ l.counter)
