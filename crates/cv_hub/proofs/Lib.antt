@@ -1,0 +1,9 @@
+pub mod Crossing
+pub mod Adding
+pub mod Comparing
+pub mod Fresh
+pub mod Listed
+pub mod Made
+pub mod Prefixes
+pub mod Receipts
+pub mod Replays

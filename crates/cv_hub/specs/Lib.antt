@@ -1,0 +1,4 @@
+pub mod Events
+pub mod Seats
+pub mod code
+pub mod tests

@@ -1,0 +1,3 @@
+pub mod Audit
+pub mod Book
+pub mod Locked

@@ -1,0 +1,246 @@
+ghost use Rattle.std.specs.Prelude.{◌≡◌, ◌+◌, ◌≤◌, ◌<◌, ◌^◌, List, [], drop, true, length, IfOk, OnErr};
+ghost use Rattle.std.specs.List.{AllByRecursion};
+ghost use mathlib.Core.List.{IsPrefix};
+ghost use Rattle.cv_machine.specs.Layers.{queued};
+ghost use Rattle.cv_machine.specs.Scans.{IsKnown, trees_of};
+ghost use Rattle.cv_core.specs.Core.{IsSound, act_of, opened};
+ghost use Rattle.cv_hub.specs.Events.{IsReplayed, entries_from, state_of};
+ghost use Rattle.cv_hub.specs.Seats.{AreAllReceipts, AreFresh, AreNumbered, HaveSeen, IsApplied, seat_of};
+ghost use Rattle.cv_hub.specs.declared.submission.Submission.{Submission};
+
+use crate::blank::{Blank, Parts};
+use crate::events::EventList;
+use crate::front::Front;
+use crate::held::Held;
+use crate::identity::Identity;
+use crate::locked::{Locked, Receipt};
+use crate::note::Note;
+use crate::seat::Seat;
+use cv_base::Digest;
+use cv_core::{Core, Event};
+use cv_desk::Desk;
+use cv_records::{By, EventEntry};
+use cv_seq::{NoMemory, Seq};
+use std::alloc::Global;
+use std::marker::Model;
+use std::sync::ledger::Share;
+use std::sync::{Mutex, Wait};
+
+/// How many events a hub applies at most: their numbers have 64 bits.
+const MOST_EVENTS: u64 = 1 << 63;
+
+/// A core that threads share, with the one list of its events. Contracts see the list up to the last taking.
+#[derive(Drop)]
+pub struct Hub<D: Desk, L: Identity> {
+    locked: Mutex<Option<Locked<D, L>>>,
+    taken: Front<D, L>,
+}
+
+impl<D: Desk, L: Identity> Model for Hub<D, L> {
+    ghost use Rattle.std.specs.Prelude.{List};
+    ghost use Rattle.cv_hub.specs.declared.submission.Submission.{Submission};
+
+    ghost Value = { List Submission };
+
+    ghost view = { λ h. h.taken };
+}
+
+impl<D: Desk + Drop, L: Identity> Hub<D, L> {
+    /// A hub of a core that has applied no event, with so many seats.
+    pub fn start(
+        alloc: Global,
+        blank: Blank,
+        core: Core<D>,
+        seats: u32,
+    ) -> Result<(Hub<D, L>, Vec<Seat<D, L>>), NoMemory>
+        requires name { blank.name ≡ L.name }
+        requires parts { blank.parts ≡ L.parts }
+        requires book { blank.book ≡ L.book }
+        requires seats { (1 ≤ seats) × (seats ≤ 64) × (L.parts ≡ seats) }
+        requires core { core ≡ opened L.limits }
+        ensures hub { IfOk result (λ started. started.0 ≡ []) }
+        ensures seats { IfOk result (λ started. (length started.1.items ≡ seats) × AreFresh 0 started.1.items) }
+    {
+        let Parts {
+            head,
+            front,
+            book,
+            share,
+        } = blank.open::<D, L>();
+        let taken = front.again();
+        let seats = fresh_seats(alloc, &taken, share, seats)?;
+        let events = EventList {
+            head,
+            front,
+            entries: Vec::new(alloc),
+            taken: 0,
+            book,
+        };
+        let locked = Mutex::new(Some(Locked { core, events }));
+        Ok((Hub { locked, taken }, seats))
+    }
+
+    /// Applies an event of a seat in a name. The receipt has its number in the list, the machine's reply there and a note of the list
+    /// up to it, which the seat has then seen. If memory runs out, the event is spent, the seat is as before, and the list has no event
+    /// of this call, as the next taking shows. It waits for the lock, and if 2^63 events were applied it does not return.
+    pub fn submit<W: Wait>(
+        &self,
+        rt: &W,
+        alloc: Global,
+        seat: &mut Seat<D, L>,
+        by: By,
+        event: Event<D>,
+    ) -> Result<Receipt<D, L>, NoMemory>
+        requires sound { IsSound (act_of event) }
+        ensures applied { IfOk result (λ receipt. (list : List Submission) × IsPrefix self.now list
+            × IsApplied D.tree L.limits list seat.old by (act_of event) receipt.number receipt.reply receipt.note seat.new) }
+        ensures err { OnErr result (seat.new ≡ seat.old) }
+    {
+        let mut held = self.hold_with_room(rt, &seat.front);
+        held.submit(rt, alloc, seat, by, event)
+    }
+
+    /// A note of the list, with at least all events that were taken. It waits for the lock.
+    pub fn note<W: Wait>(&self, rt: &W) -> Note<D, L>
+        ensures { IsPrefix self.now result }
+    {
+        let held = self.hold(rt, &self.taken);
+        Note {
+            front: held.seen().again(),
+        }
+    }
+
+    /// A view, with at least all events that the seat has seen; the seat has then seen those of the view. It waits for the lock, and
+    /// holds it.
+    pub fn view<W: Wait>(&self, rt: &W, seat: &mut Seat<D, L>) -> Held<'_, D, L>
+        ensures taken { IsPrefix self.now result }
+        ensures seen { IsPrefix seat.old.list result }
+        ensures seat { seat.new ≡ seat_of seat.old.index result seat.old.count }
+    {
+        let held = self.hold(rt, &seat.front);
+        seat.see(held.seen());
+        held
+    }
+
+    /// The layers that are queued after exactly the events that were taken, in ascending order. It waits for the lock, and if an event
+    /// came after the last taking it does not return.
+    pub fn queued<W: Wait>(&self, rt: &W, alloc: Global) -> Result<Seq<Digest>, NoMemory>
+        ensures { IsKnown D.tree → IfOk result (λ layers. layers ≡ queued (state_of (trees_of D.tree) L.limits self.now).layers) }
+    {
+        for _ in rt.forever() {
+            let held = self.hold(rt, &self.taken);
+            if held.front() == self.taken.len() {
+                return held.queued(alloc);
+            }
+        }
+        unreachable!()
+    }
+
+    /// The entries of the events since the last taking, in order, by all seats of the hub: up to a number that is at least what any of
+    /// them has seen. The seats stay as they are. It takes no memory, and waits for the lock.
+    pub fn take_events<W: Wait>(&mut self, rt: &W, seats: &mut [Seat<D, L>]) -> Vec<EventEntry>
+        requires all { length seats.old ≡ L.parts }
+        requires some { 0 < length seats.old }
+        requires numbered { AreNumbered 0 seats.old }
+        ensures more { IsPrefix self.old self.new }
+        ensures replayed { IsReplayed D.tree L.limits self.new }
+        ensures entries { result.items ≡ entries_from (length self.old + 1) (drop (length self.old) self.new) }
+        ensures seen { HaveSeen self.new seats.old }
+        ensures receipts { AreAllReceipts self.new seats.old }
+        ensures of_seats { AllByRecursion (λ event. event.seat < length seats.old) self.new }
+        ensures seats { seats.new ≡ seats.old }
+    {
+        let (taken, entries) = self.take(rt, seats);
+        self.taken = taken;
+        entries
+    }
+
+    /// Ends the hub and its seats. It takes no memory.
+    pub fn end(self, seats: Vec<Seat<D, L>>) {
+        let _ = (self, seats);
+    }
+
+    /// The list with the entries since the last taking.
+    fn take<W: Wait>(&self, rt: &W, seats: &mut [Seat<D, L>]) -> (Front<D, L>, Vec<EventEntry>)
+        requires all { length seats.old ≡ L.parts }
+        requires some { 0 < length seats.old }
+        requires numbered { AreNumbered 0 seats.old }
+        ensures more { IsPrefix self.now result.0 }
+        ensures entries { result.1.items ≡ entries_from (length self.now + 1) (drop (length self.now) result.0) }
+        ensures seen { HaveSeen result.0 seats.old }
+        ensures receipts { AreAllReceipts result.0 seats.old }
+        ensures seats { seats.new ≡ seats.old }
+    {
+        for _ in rt.forever() {
+            let mut held = self.hold(rt, &self.taken);
+            if have_seen(held.seen(), seats) {
+                if let Some(entries) = held.take(self.taken.len(), seats) {
+                    return (held.seen().again(), entries);
+                }
+            }
+        }
+        unreachable!()
+    }
+
+    /// Holds the lock, with room for one more event.
+    fn hold_with_room<W: Wait>(&self, rt: &W, seen: &Front<D, L>) -> Held<'_, D, L>
+        ensures seen { IsPrefix seen.now result }
+        ensures taken { IsPrefix self.now result }
+        ensures few { length result < 2 ^ 63 }
+    {
+        for _ in rt.forever() {
+            let held = self.hold(rt, seen);
+            if held.front() < MOST_EVENTS {
+                return held;
+            }
+        }
+        unreachable!()
+    }
+
+    /// Holds the lock. A hold that finds fewer events than were seen or taken is given up and tried again.
+    fn hold<W: Wait>(&self, rt: &W, seen: &Front<D, L>) -> Held<'_, D, L>
+        ensures seen { IsPrefix seen.now result }
+        ensures taken { IsPrefix self.now result }
+    {
+        for _ in rt.forever() {
+            if let Some(held) = Held::of(self.locked.lock(rt)) {
+                if seen.begins(held.seen()) && self.taken.begins(held.seen()) {
+                    return held;
+                }
+            }
+        }
+        unreachable!()
+    }
+}
+
+/// Whether each seat has seen no more than a beginning of the list.
+fn have_seen<D: Desk, L: Identity>(front: &Front<D, L>, seats: &[Seat<D, L>]) -> bool
+    ensures { result ≡ true → HaveSeen front.now seats.now }
+{
+    match seats.split_first() {
+        None => true,
+        Some((first, rest)) => first.front.begins(front) && have_seen(front, rest),
+    }
+}
+
+/// So many seats, which share the parts of the ledger.
+fn fresh_seats<D: Desk, L: Identity>(
+    alloc: Global,
+    front: &Front<D, L>,
+    mut share: Share<L>,
+    seats: u32,
+) -> Result<Vec<Seat<D, L>>, NoMemory>
+    requires front { front.now ≡ [] }
+    requires parts { share.parts ≡ L.parts }
+    requires amount { share.amount ≡ 0 }
+    requires seats { L.parts ≡ seats }
+    ensures count { IfOk result (λ made. length made.items ≡ seats) }
+    ensures fresh { IfOk result (λ made. AreFresh 0 made.items) }
+{
+    let mut made = Vec::new(alloc);
+    for index in 0..seats {
+        let part = share.split_off(1, 0);
+        made.push(Seat::fresh(u64::from(index), front, part))?;
+    }
+    Ok(made)
+}

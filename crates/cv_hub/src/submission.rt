@@ -1,0 +1,12 @@
+use cv_machine::WholeAct;
+use cv_records::{By, Reply};
+
+/// An event of a hub's list: the seat that submitted it, in whose name, all that the machine needs of it, and the reply. It is used
+/// in contracts only.
+#[derive(Debug, Drop)]
+pub struct Submission {
+    pub seat: u64,
+    pub by: By,
+    pub act: WholeAct,
+    pub reply: Reply,
+}
