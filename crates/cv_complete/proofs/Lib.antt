@@ -1,0 +1,7 @@
+mod Ended
+mod Examples
+mod Pending
+mod Settled
+mod Steps
+mod Stood
+mod Work
