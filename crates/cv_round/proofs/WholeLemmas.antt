@@ -1,0 +1,213 @@
+-- A round, from what its calls told.
+use Rattle.std.specs.Prelude.{IfOk, OnOk}
+use Rattle.std.proofs.Common.{◌≡◌, ℕ, zero, suc, ◌+◌, ◌<◌, ◌≤◌, ◌⊎◌, inl, inr, Result, Ok, Err, List, [], ◌∷◌, ◌++◌, drop, get_or, length, map, take, refl, ap, sym, subst, ◌∙◌, arith}
+use Rattle.std.specs.List.{AllByRecursion, AllZip}
+use Rattle.std.proofs.lemmas.Bool.{cases_lt}
+use Rattle.std.proofs.lemmas.List.{get_or_past}
+use mathlib.Core.List.{IsPrefix}
+use Rattle.cv_base.specs.Lines.{Line}
+use Rattle.cv_records.specs.declared.event.EventEntry.{EventEntry}
+use Rattle.cv_records.specs.declared.read.ReadEntry.{ReadEntry}
+use Rattle.cv_transcript.specs.Order.{AreAscending, AreByLane, AreOfLane, Precedes, events_of, reads_by, reads_of}
+use Rattle.cv_transcript.specs.declared.entry.Entry.{Entry}
+use Rattle.cv_transcript.specs.declared.entry.Entry.TheVariants as entry
+use Rattle.cv_machine.specs.History.{event_entry}
+use Rattle.cv_machine.specs.Layers.{queued}
+use Rattle.cv_machine.specs.Scans.{IsKnown, trees_of}
+use Rattle.cv_machine.specs.declared.limits.Limits.{Limits}
+use Rattle.cv_hub.specs.Events.{DeskTrees, IsReplayed, entries_from, state_of}
+use Rattle.cv_hub.specs.Seats.{AreAllReceipts, AreNumbered, HaveSeen, SeatView}
+use Rattle.cv_hub.specs.declared.submission.Submission.{Submission}
+use Rattle.cv_legal.specs.Round.{IsLegalRound}
+use Rattle.cv_legal.specs.Taken.{IsTaken, refusals, requests}
+use Rattle.cv_legal.specs.code.Segment.{lane_requests}
+use Rattle.cv_legal.specs.code.Served.{LinesRise}
+use Rattle.cv_legal.specs.declared.taken.Requested.{Requested}
+use Rattle.cv_legal.specs.declared.taken.Taken.{Taken}
+use Rattle.cv_legal.proofs.Assembled.{AsksRise, asks_rise}
+use Rattle.cv_pool.specs.Hands.{HandState, lists_of}
+use Rattle.cv_pool.specs.Jobs.{lists_weigh, weigh_below}
+use Rattle.cv_round.specs.Round.{DesksTold, IsSoundRequest, moment_of}
+use Rattle.cv_round.specs.code.Lane.{LanesDid}
+use Rattle.cv_round.specs.code.Ran.{RoundRan}
+use Rattle.cv_round.specs.code.Sound.{AreDealt, AreEnded, AreRefreshed}
+use Rattle.cv_round.specs.code.Told.{LaneTold, WorkerTold}
+use Rattle.cv_round.specs.code.Worker.{WorkersDid, layers_of}
+use Rattle.cv_round.specs.declared.lane.Lane.{Lane}
+use Rattle.cv_round.proofs.LaneLineLemmas.{asks_of_lane, reads_in_lane}
+use Rattle.cv_round.proofs.LegalRoundLemmas.{round_fits, round_legal}
+use Rattle.cv_round.proofs.WalkLemmas.{begun, begun_drop, begun_take, desks_told, each_lane_told, each_worker_told, ended, ended_drop, ended_take, numbered_all, numbered_lanes, numbered_workers}
+
+-- ---- lists
+
+pub took_many : {A : Type 0} (k m : ℕ) (xs : List A) → length xs ≡ k + m → length (take k xs) ≡ k
+took_many zero m xs is = refl
+took_many (suc k) m [] is = absurd (omega (arith, is))
+took_many (suc k) m (x ∷ xs) is = ap suc (took_many k m xs (omega (arith, is)))
+
+pub whole_of : {A : Type 0} (xs ys : List A) → IsPrefix xs ys → ys ≡ xs ++ drop (length xs) ys
+whole_of [] ys begins = refl
+whole_of (x ∷ xs) [] begins = absurd (cc (begins.1))
+whole_of (x ∷ xs) (y ∷ ys) begins =
+    let tail = whole_of xs ys (begins.0, cc (begins.1)) in
+    let first : y ≡ x = cc (begins.1) in
+    ap (λ z. z ∷ ys) first ∙ ap (λ zs. x ∷ zs) tail
+
+all_behind : {A : Type 0} (P : A → Type 0) (xs ys : List A) → AllByRecursion P (xs ++ ys) → AllByRecursion P ys
+all_behind P [] ys h = h
+all_behind P (x ∷ xs) ys h = all_behind P xs ys h.1
+
+many_of : {A B : Type 0} (f : A → B) (xs : List A) → length (map f xs) ≡ length xs
+many_of f [] = refl
+many_of f (x ∷ xs) = ap suc (many_of f xs)
+
+-- what was written back over a list of the same length
+pub front_is : {A : Type 0} (n : ℕ) (xs ys : List A) → n ≡ length xs → take n (xs ++ ys) ≡ xs
+front_is zero [] ys is = refl
+front_is (suc n) [] ys is = absurd (omega (arith, is))
+front_is zero (x ∷ xs) ys is = absurd (omega (arith, is))
+front_is (suc n) (x ∷ xs) ys is = ap (λ zs. x ∷ zs) (front_is n xs ys (omega (arith, is)))
+
+-- ---- the lanes and the workers
+
+module _ {D : Type 0} (listings faults : D → ℕ) (tree : DeskTrees) (limits : Limits) (before : List Submission) (asked : List Requested) (queue : List (List ℕ)) (olds mids ends : List SeatView) (lanes lanes_after : List Lane) (hands : List HandState) (ds es : List D) where
+  -- what the calls told up to the taking of the events
+  pub record Worked : Type 0 where
+    pub seats : length olds ≡ 8 + length ds
+    pub numbered : AreNumbered 0 olds
+    pub receipts : AreAllReceipts before olds
+    pub fresh : AreRefreshed before olds mids
+    pub mids_many : length mids ≡ length olds
+    pub ends_many : length ends ≡ length mids
+    pub eight : length lanes ≡ 8
+    pub dealt : AreDealt 0 asked lanes
+    pub lanes_many : length lanes_after ≡ length lanes
+    pub lanes_did : LanesDid tree limits (take (length lanes) mids) (take (length lanes) ends) lanes lanes_after
+    pub workers_did : WorkersDid listings faults queue 0 hands (drop (length lanes) mids) (drop (length lanes) ends) ds es
+    pub hands_many : length hands ≡ length ds
+
+  pub ends_numbered : Worked → AreNumbered 0 ends
+  ends_numbered w =
+      let start = begun before 0 olds mids w.numbered w.receipts w.fresh in
+      let k = length lanes in
+      let mids_are : length mids ≡ k + length ds = omega (arith, w.mids_many, w.seats, w.eight) in
+      let ends_are : length ends ≡ k + length ds = omega (arith, w.ends_many, mids_are) in
+      numbered_all k 0 ends
+      (numbered_lanes tree limits before 0 (take k mids) (take k ends) lanes lanes_after (begun_take before k 0 mids start) (took_many k (length ds) ends ends_are) (took_many k (length ds) mids mids_are)
+      w.lanes_many w.lanes_did)
+      (numbered_workers listings faults queue before (0 + k) 0 hands (drop k mids) (drop k ends) ds es (begun_drop before k 0 mids start) w.workers_did)
+
+  pub ran_of : (whole : List Submission) (jobs : List (List ℕ)) (events : List EventEntry) → Worked → jobs ≡ lists_of hands → ((h : ℕ → ℕ) → lists_weigh h jobs ≡ weigh_below h (length queue))
+      → IsPrefix before whole → IsReplayed tree limits whole → events ≡ entries_from (length before + 1) (drop (length before) whole) → HaveSeen whole ends → AreAllReceipts whole ends
+      → AllByRecursion (λ (e : Submission). e.seat < length ends) whole → RoundRan tree limits listings faults before whole asked queue ds es events lanes_after
+  ran_of whole jobs events w jobs_are weights begins replayed events_are seen receipts below =
+      let later = drop (length before) whole in
+      let is : whole ≡ before ++ later = whole_of before whole begins in
+      let start = begun before 0 olds mids w.numbered w.receipts w.fresh in
+      let end : AreEnded (before ++ later) ends = subst (λ (list : List Submission). AreEnded list ends) is (ended whole ends seen receipts) in
+      let k = length lanes in
+      let eight : k ≡ 8 = w.eight in
+      let mids_are : length mids ≡ k + length ds = omega (arith, w.mids_many, w.seats, w.eight) in
+      let ends_are : length ends ≡ k + length ds = omega (arith, w.ends_many, mids_are) in
+      let seats_are : length ends ≡ 8 + length ds = omega (arith, ends_are, eight) in
+      let place : 0 + k ≡ 8 + 0 = omega (arith, eight) in
+      let low : AllByRecursion (λ (e : Submission). e.seat < 8 + length ds) later =
+      subst (λ (n : ℕ). AllByRecursion (λ (e : Submission). e.seat < n) later) seats_are
+      (all_behind (λ (e : Submission). e.seat < length ends) before later (subst (AllByRecursion (λ (e : Submission). e.seat < length ends)) is below)) in
+      let lanes_at = each_lane_told tree limits before later asked 0 (take k mids) (take k ends) lanes lanes_after (begun_take before k 0 mids start) (ended_take (before ++ later) k ends end) w.dealt
+      (took_many k (length ds) ends ends_are) (took_many k (length ds) mids mids_are) w.lanes_many w.lanes_did in
+      let lanes_told : (lane : ℕ) → lane < 8 → LaneTold tree limits before later asked lane (get_or (map (λ (l : Lane). l.reads.items) lanes_after) lane []) =
+      λ lane less. subst (λ (i : ℕ). LaneTold tree limits before later asked i (get_or (map (λ (l : Lane). l.reads.items) lanes_after) lane [])) (omega arith) (lanes_at lane (omega (arith, less, eight))) in
+      let workers_at = each_worker_told listings faults queue before later (0 + k) 0 hands (drop k mids) (drop k ends) ds es place (begun_drop before k 0 mids start) (ended_drop (before ++ later) k ends end) w.workers_did in
+      let workers_told : (worker : ℕ) → worker < length ds → WorkerTold before later worker (layers_of queue (get_or jobs worker [])) =
+      λ worker less. subst (λ (js : List (List ℕ)). WorkerTold before later worker (layers_of queue (get_or js worker []))) (sym jobs_are)
+      (subst (λ (i : ℕ). WorkerTold before later i (layers_of queue (get_or (lists_of hands) worker []))) (omega arith) (workers_at worker (let many = w.hands_many in omega (arith, less, many)))) in
+      let fits = round_fits tree limits before later asked (length ds) (λ lane. get_or (map (λ (l : Lane). l.reads.items) lanes_after) lane []) (λ worker. layers_of queue (get_or jobs worker [])) low lanes_told workers_told in
+      record {
+        later = later;
+        whole_is = is;
+        replayed = subst (IsReplayed tree limits) is replayed;
+        below = low;
+        lanes_told = lanes_told;
+        eight = w.lanes_many ∙ eight;
+        jobs = jobs;
+        workers_told = workers_told;
+        many = ap length jobs_are ∙ (many_of (λ (h : HandState). h.list) hands ∙ w.hands_many);
+        weights = weights;
+        events_are = events_are;
+        desks_told = λ others taken is_events.
+            desks_told listings faults queue before later others taken (0 + k) 0 hands (drop k mids) (drop k ends) ds es place (begun_drop before k 0 mids start) (ended_drop (before ++ later) k ends end)
+            w.workers_did is_events fits;
+      }
+
+-- ---- the entries
+
+-- the lanes' reads, by lane
+reads_by_lane : (tree : DeskTrees) (limits : Limits) (before later : List Submission) (asked : List Requested) (reads : List (List ReadEntry)) → AsksRise asked → length reads ≡ 8
+    → ((lane : ℕ) → lane < 8 → LaneTold tree limits before later asked lane (get_or reads lane [])) → AreByLane reads
+reads_by_lane tree limits before later asked reads rise eight lanes lane = by_order (cases_lt lane 8) where
+  by_order : (lane < 8) ⊎ (8 ≤ lane) → AreOfLane lane (get_or reads lane [])
+  by_order (inl low) =
+      let told = lanes lane low in
+      subst (AreOfLane lane) (sym told.reads_are) (reads_in_lane lane tree limits (before ++ later) (lane_requests lane asked) told.steps (asks_of_lane lane asked rise) told.answers told.in_turn)
+  by_order (inr high) = subst (AreOfLane lane) (sym (get_or_past reads lane [] (omega (arith, eight, high)))) (record { lanes = tt; ascending = tt })
+
+numbers_above : (first : EventEntry) (m : ℕ) (list : List Submission) → first.number < m → AllByRecursion (Precedes (entry.Event first)) (map entry.Event (entries_from m list))
+numbers_above first m [] less = tt
+numbers_above first m (e ∷ list) less = (less, numbers_above first (m + 1) list (omega (arith, less)))
+
+-- events stand by their numbers
+events_ascend : (m : ℕ) (list : List Submission) → AreAscending (map entry.Event (entries_from m list))
+events_ascend m [] = tt
+events_ascend m (e ∷ list) = (tt, numbers_above (event_entry m e.by e.act e.reply) (m + 1) list (omega arith), events_ascend (m + 1) list)
+
+low_lanes : (taken : List Requested) → AllByRecursion IsSoundRequest taken → AllByRecursion (λ (r : Requested). r.request.lane < 8) taken
+low_lanes [] h = tt
+low_lanes (r ∷ rs) h = (h.0.0, low_lanes rs h.1)
+
+module _ {D : Type 0} (listings faults : D → ℕ) (tree : DeskTrees) (limits : Limits) (before whole : List Submission) (taken : List Taken) (asked : List Requested) (queue : List (List ℕ)) (ds es : List D) (events : List EventEntry) (lanes : List Lane) (reads : List (List ReadEntry)) (refused others all : List Entry) where
+  -- what the calls told of a round
+  pub record Joined : Type 0 where
+    pub ran : RoundRan tree limits listings faults before whole asked queue ds es events lanes
+    pub asked_is : asked ≡ requests taken
+    pub sound : AllByRecursion IsSoundRequest asked
+    pub queue_is : IsKnown tree → queue ≡ queued (state_of (trees_of tree) limits before).layers
+    pub reads_are : reads ≡ map (λ (l : Lane). l.reads.items) lanes
+    pub events_are : events_of others ≡ events
+    pub by_lane : AreByLane reads → (lane : ℕ) → reads_by lane (reads_of others) ≡ get_or reads lane []
+    pub order : AreAscending (map entry.Event events) → AreByLane reads → AreAscending others
+    pub refused_is : refused ≡ refusals taken
+    pub all_is : all ≡ refused ++ others
+
+  joined_is : Joined → all ≡ refusals taken ++ others
+  joined_is j = j.all_is ∙ ap (λ rs. rs ++ others) j.refused_is
+
+  pub joined_desks : Joined → DesksTold listings faults 0 ds es all
+  joined_desks j = subst (DesksTold listings faults 0 ds es) (sym (joined_is j)) (j.ran.desks_told others taken (j.events_are ∙ j.ran.events_are))
+
+  pub joined_legal : Joined → IsKnown tree → (lines : List Line) (last : ℕ) → AllZip IsTaken lines taken → LinesRise lines last
+      → IsLegalRound (trees_of tree) (length ds) (moment_of (trees_of tree) limits before) lines all (moment_of (trees_of tree) limits whole)
+  joined_legal j known lines last read rise =
+      let ran = j.ran in
+      let later = ran.later in
+      let eight : length reads ≡ 8 = ap length j.reads_are ∙ (many_of (λ (l : Lane). l.reads.items) lanes ∙ ran.eight) in
+      let few : AllByRecursion (λ (r : Requested). r.request.lane < 8) (requests taken) = subst (AllByRecursion (λ (r : Requested). r.request.lane < 8)) j.asked_is (low_lanes asked j.sound) in
+      let lanes_told : (lane : ℕ) → lane < 8 → LaneTold tree limits before later (requests taken) lane (get_or reads lane []) =
+      λ lane low. subst (λ (rs : List (List ReadEntry)). LaneTold tree limits before later (requests taken) lane (get_or rs lane [])) (sym j.reads_are)
+      (subst (λ (qs : List Requested). LaneTold tree limits before later qs lane (get_or (map (λ (l : Lane). l.reads.items) lanes) lane [])) j.asked_is (ran.lanes_told lane low)) in
+      let by = reads_by_lane tree limits before later (requests taken) reads (asks_rise lines last taken read rise) eight lanes_told in
+      let order = j.order (subst (λ (vs : List EventEntry). AreAscending (map entry.Event vs)) (sym ran.events_are) (events_ascend (length before + 1) later)) by in
+      subst (λ (es : List Entry). IsLegalRound (trees_of tree) (length ds) (moment_of (trees_of tree) limits before) lines es (moment_of (trees_of tree) limits whole)) (sym (joined_is j))
+      (subst (λ (list : List Submission). IsLegalRound (trees_of tree) (length ds) (moment_of (trees_of tree) limits before) lines (refusals taken ++ others) (moment_of (trees_of tree) limits list)) (sym ran.whole_is)
+      (round_legal tree limits before later lines last taken others (length ds) reads queue ran.jobs known read rise few ran.replayed ran.below lanes_told eight ran.workers_told ran.many ran.weights (j.queue_is known)
+      (j.events_are ∙ ran.events_are) (j.by_lane by) order))
+
+-- ---- answers
+
+pub if_ok : {X E : Type 0} {P Q : X → Type 0} (r : Result X E) → IfOk r P → ((x : X) → P x → Q x) → IfOk r Q
+if_ok (Ok x) h f = f x h
+if_ok (Err e) h f = tt
+
+pub ok_of : {X E : Type 0} {P : Type 0} (r : Result X E) → P → OnOk r P
+ok_of (Ok x) h = h
+ok_of (Err e) h = tt

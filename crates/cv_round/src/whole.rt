@@ -1,0 +1,132 @@
+ghost use Rattle.std.specs.Prelude.{◌≡◌, ℕ, ◌+◌, ◌≤◌, ◌^◌, ◌++◌, List, length, map, IfOk, OnOk};
+ghost use Rattle.std.specs.List.{AllByRecursion, AllZip};
+ghost use Rattle.cv_machine.specs.Scans.{IsKnown, trees_of};
+ghost use Rattle.cv_base.specs.Lines.{Line};
+ghost use Rattle.cv_legal.specs.Round.{IsLegalRound};
+ghost use Rattle.cv_legal.specs.Taken.{IsTaken};
+ghost use Rattle.cv_legal.specs.code.Served.{LinesRise};
+ghost use Rattle.cv_pool.specs.Hands.{IsNewFill};
+ghost use Rattle.cv_round.specs.Round.{AreRoundSeats, DesksTold, IsSoundRequest, IsSoundTaken, moment_of};
+ghost use Rattle.cv_round.specs.code.Ran.{RoundRan};
+ghost use Rattle.cv_round.specs.declared.lane.Lane.{Lane};
+
+use crate::dealing::{lanes_of, part};
+use crate::lane::Lane;
+use crate::learning::refresh;
+use crate::round::run_all;
+use cv_base::Digest;
+use cv_desk::Desk;
+use cv_hub::{Hub, Identity, Seat};
+use cv_legal::{Requested, Taken};
+use cv_merge::merge;
+use cv_pool::{Hand, fill, gather, hand_laws};
+use cv_records::{EventEntry, ReadEntry};
+use cv_seq::{NoMemory, Seq};
+use cv_transcript::Entry;
+use std::alloc::Global;
+use std::sync::Wait;
+use std::thread::Threads;
+
+/// Runs a round: the lanes beside each other, each with its requests in order, and beside them the workers, each with a desk of its
+/// own, which index the layers that were queued as the round began. The entries are those of the refused lines, and then the events and
+/// the reads in the transcript's order. If memory runs out, a part of the round may be carried out, and no further round may be run.
+pub fn run_round<D: Desk + Drop + Send + Sync, L: Identity + Send + Sync, W: Threads + Wait + Sync>(
+    rt: &W,
+    alloc: Global,
+    hub: &mut Hub<D, L>,
+    seats: &mut [Seat<D, L>],
+    desks: &mut [D],
+    taken: Vec<Taken>,
+) -> Result<Vec<Entry>, NoMemory>
+    requires workers { (1 ≤ length desks.old) × (length desks.old ≤ 8) }
+    requires seats { AreRoundSeats L.parts (length desks.old) hub.old seats.old }
+    requires sound { AllByRecursion IsSoundTaken taken.items }
+    requires room { AllByRecursion (λ desk. D.listings desk ≤ 2 ^ 62 + length hub.old) desks.old }
+    ensures legal { IsKnown D.tree → (lines : List Line) (last : ℕ) → AllZip IsTaken lines taken.items → LinesRise lines last
+        → IfOk result (λ entries. IsLegalRound (trees_of D.tree) (length desks.old) (moment_of (trees_of D.tree) L.limits hub.old) lines entries.items (moment_of (trees_of D.tree) L.limits hub.new)) }
+    ensures desks { IfOk result (λ entries. DesksTold D.listings D.faults 0 desks.old desks.new entries.items) }
+    ensures seats { OnOk result (AreRoundSeats L.parts (length desks.new) hub.new seats.new) }
+    ensures room { OnOk result (AllByRecursion (λ desk. D.listings desk ≤ 2 ^ 62 + length hub.new) desks.new) }
+{
+    let queue = hub.queued(rt, alloc)?;
+    let (refused, asked) = part(alloc, taken)?;
+    let (events, lanes) = run_parts(rt, alloc, hub, queue.as_slice(), asked, seats, desks)?;
+    let reads = reads_of(alloc, lanes)?;
+    let others = merge(alloc, Seq::of(events), reads)?;
+    joined(refused, others.into_vec())
+}
+
+/// Runs the lanes of some requests beside the workers, and takes the events.
+fn run_parts<D: Desk + Drop + Send + Sync, L: Identity + Send + Sync, W: Threads + Wait + Sync>(
+    rt: &W,
+    alloc: Global,
+    hub: &mut Hub<D, L>,
+    queue: &[Digest],
+    asked: Vec<Requested>,
+    seats: &mut [Seat<D, L>],
+    desks: &mut [D],
+) -> Result<(Vec<EventEntry>, Vec<Lane>), NoMemory>
+    requires workers { (1 ≤ length desks.old) × (length desks.old ≤ 8) }
+    requires seats { AreRoundSeats L.parts (length desks.old) hub.old seats.old }
+    requires sound { AllByRecursion IsSoundRequest asked.items }
+    requires room { AllByRecursion (λ desk. D.listings desk ≤ 2 ^ 62 + length hub.old) desks.old }
+    ensures ran { IfOk result (λ ran. RoundRan D.tree L.limits D.listings D.faults hub.old hub.new asked.items queue.now desks.old desks.new ran.0.items ran.1.items) }
+    ensures seats { OnOk result (AreRoundSeats L.parts (length desks.new) hub.new seats.new) }
+    ensures room { OnOk result (AllByRecursion (λ desk. D.listings desk ≤ 2 ^ 62 + length hub.new) desks.new) }
+{
+    let mut lanes = lanes_of(alloc, asked)?;
+    let mut hands = hands_of(alloc, queue.len(), desks.len())?;
+    refresh(rt, hub, seats);
+    run_all(
+        rt,
+        alloc,
+        hub,
+        queue,
+        lanes.as_mut_slice(),
+        hands.as_mut_slice(),
+        seats,
+        desks,
+    )?;
+    hand_laws();
+    let _took = gather(hands);
+    let events = hub.take_events(rt, seats);
+    Ok((events, lanes))
+}
+
+/// A hand of each worker, for so many jobs.
+fn hands_of(alloc: Global, jobs: usize, workers: usize) -> Result<Vec<Hand>, NoMemory>
+    requires { (1 ≤ workers) × (workers ≤ 8) }
+    ensures { IfOk result (λ hands. IsNewFill jobs workers hands.items) }
+{
+    let Ok(jobs) = u32::try_from(jobs) else {
+        return Err(NoMemory);
+    };
+    fill(alloc, jobs, workers as u32)
+}
+
+/// The reads of each lane.
+fn reads_of(alloc: Global, lanes: Vec<Lane>) -> Result<Seq<Seq<ReadEntry>>, NoMemory>
+    ensures { IfOk result (λ reads. reads ≡ map (λ (lane : Lane). lane.reads.items) lanes.items) }
+{
+    let mut all = Vec::new(alloc);
+    for lane in lanes {
+        let Lane {
+            number: _,
+            asked: _,
+            reads,
+        } = lane;
+        all.push(Seq::of(reads))?;
+    }
+    Ok(Seq::of(all))
+}
+
+/// Entries and then others.
+fn joined(entries: Vec<Entry>, others: Vec<Entry>) -> Result<Vec<Entry>, NoMemory>
+    ensures { IfOk result (λ all. all.items ≡ entries.items ++ others.items) }
+{
+    let mut all = entries;
+    for entry in others {
+        all.push(entry)?;
+    }
+    Ok(all)
+}
