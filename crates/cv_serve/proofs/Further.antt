@@ -2,7 +2,7 @@
 use Rattle.std.specs.Prelude.{◌≡◌, ℕ, suc, ◌+◌, Bool, true, false, ◌&&◌, nat_le, nat_lt, if◌then◌else◌, List, [], ◌∷◌, ◌++◌, length, Option, Result, Ok, Err, OnOk, refl}
 use Rattle.std.specs.Io.KnownBytes.{Appends}
 use Rattle.std.specs.List.{AllByRecursion, AllZip, flat_map}
-use Rattle.std.proofs.Common.{ap, append_assoc, arith, subst, sym, ◌∙◌}
+use Rattle.std.proofs.Common.{ap, append_assoc, subst, sym, ◌∙◌}
 use Rattle.std.proofs.KnownBytes.{Appends-nil, Appends-trans}
 use Rattle.std.proofs.lemmas.Grind.{flat_map-append}
 use Rattle.std.proofs.lemmas.List.{append-nil}
@@ -11,17 +11,17 @@ use Rattle.cv_base.specs.Texts.{is_cons, is_nil}
 use Rattle.cv_transcript.specs.Entry.{entry_text}
 use Rattle.cv_transcript.specs.declared.entry.Entry.{Entry}
 use Rattle.cv_machine.specs.Scans.{Trees}
-use Rattle.cv_legal.specs.Parts.{grants}
 use Rattle.cv_legal.specs.Replay.{Moment}
 use Rattle.cv_legal.specs.Rounds.{Cut, cut_line, end_before, end_full, end_round, put_line, round_limits, size_of}
 use Rattle.cv_legal.specs.Taken.{IsTaken}
 use Rattle.cv_legal.specs.code.Served.{Served}
 use Rattle.cv_legal.specs.declared.limits.TheConstants.{MAX_ROUND_BYTES, MAX_ROUND_LINES}
 use Rattle.cv_legal.specs.declared.taken.Taken.{Taken}
-use Rattle.cv_legal.proofs.Segments.{grants_both}
 use Rattle.cv_legal.proofs.Serving.{ends_round, takes_line}
+use Rattle.cv_round.specs.Round.{DesksTold}
 use Rattle.cv_serve.specs.code.Further.{Further, RoundRun}
 use Rattle.cv_serve.specs.code.Printed.{HasTag}
+use Rattle.cv_serve.proofs.Told.{told_both, told_none}
 
 pub tags_both : (xs ys : List Entry) → AllByRecursion HasTag xs → AllByRecursion HasTag ys → AllByRecursion HasTag (xs ++ ys)
 tags_both [] ys h k = k
@@ -31,43 +31,40 @@ tags_both (x ∷ xs) ys h k = (h.0, tags_both xs ys h.1 k)
 pub lines_both : (w m v : Option (List ℕ)) (xs ys : List Entry) → Appends w m (flat_map entry_text xs) → Appends m v (flat_map entry_text ys) → Appends w v (flat_map entry_text (xs ++ ys))
 lines_both w m v xs ys h k = subst (Appends w v) (sym (flat_map-append entry_text xs ys)) (Appends-trans w m v _ _ h k)
 
-pub listed_both : (l m n : ℕ) (xs ys : List Entry) → m ≡ l + grants 0 xs → n ≡ m + grants 0 ys → n ≡ l + grants 0 (xs ++ ys)
-listed_both l m n xs ys h k = omega (arith, h, k, grants_both 0 xs ys)
-
 -- nothing was done yet
-pub stays : (trees : Trees) (workers : ℕ) (cut : Cut) (last : ℕ) (taken : List Taken) (bytes : ℕ) (entries : List Entry) (now : Moment) (w : Option (List ℕ)) (l : ℕ)
-    → Served trees workers cut last taken bytes entries now → Further trees workers cut last taken bytes entries now w w l l
-stays trees workers cut last taken bytes entries now w l h = record {
+pub stays : {D : Type 0} (trees : Trees) (workers : ℕ) (listings faults : D → ℕ) (cut : Cut) (last : ℕ) (taken : List Taken) (bytes : ℕ) (entries : List Entry) (now : Moment) (w : Option (List ℕ)) (l : List D)
+    → Served trees workers cut last taken bytes entries now → Further trees workers listings faults cut last taken bytes entries now w w l l
+stays trees workers listings faults cut last taken bytes entries now w l h = record {
   more = [];
   served = subst (λ es. Served trees workers cut last taken bytes es now) (sym (append-nil entries)) h;
   lines = Appends-nil w;
   tags = tt;
-  listed = omega arith;
+  told = told_none listings faults 0 l;
 }
 
 -- a round was run
-pub runs : (trees : Trees) (workers : ℕ) (cut : Cut) (last : ℕ) (taken : List Taken) (bytes : ℕ) (entries : List Entry) (now after : Moment) (w v : Option (List ℕ)) (l m : ℕ)
-    → Served trees workers cut last taken bytes entries now → RoundRun trees workers cut.begun now after w v l m
-    → Further trees workers (end_round cut) last [] 0 entries after w v l m
-runs trees workers cut last taken bytes entries now after w v l m h r = record {
+pub runs : {D : Type 0} (trees : Trees) (workers : ℕ) (listings faults : D → ℕ) (cut : Cut) (last : ℕ) (taken : List Taken) (bytes : ℕ) (entries : List Entry) (now after : Moment) (w v : Option (List ℕ)) (l m : List D)
+    → Served trees workers cut last taken bytes entries now → RoundRun trees workers listings faults cut.begun now after w v l m
+    → Further trees workers listings faults (end_round cut) last [] 0 entries after w v l m
+runs trees workers listings faults cut last taken bytes entries now after w v l m h r = record {
   more = r.entries;
   served = ends_round trees workers cut last taken bytes entries now r.entries after h r.legal;
   lines = r.appended;
   tags = r.tags;
-  listed = r.listed;
+  told = r.told;
 }
 
 -- one thing after the other
-pub both : (trees : Trees) (workers : ℕ) (cut : Cut) (last : ℕ) (taken : List Taken) (bytes : ℕ) (entries first : List Entry) (now : Moment) (w m v : Option (List ℕ)) (l k n : ℕ)
-    → Appends w m (flat_map entry_text first) → AllByRecursion HasTag first → k ≡ l + grants 0 first
-    → Further trees workers cut last taken bytes (entries ++ first) now m v k n
-    → Further trees workers cut last taken bytes entries now w v l n
-both trees workers cut last taken bytes entries first now w m v l k n lines tags listed g = record {
+pub both : {D : Type 0} (trees : Trees) (workers : ℕ) (listings faults : D → ℕ) (cut : Cut) (last : ℕ) (taken : List Taken) (bytes : ℕ) (entries first : List Entry) (now : Moment) (w m v : Option (List ℕ)) (l k n : List D)
+    → Appends w m (flat_map entry_text first) → AllByRecursion HasTag first → DesksTold listings faults 0 l k first
+    → Further trees workers listings faults cut last taken bytes (entries ++ first) now m v k n
+    → Further trees workers listings faults cut last taken bytes entries now w v l n
+both trees workers listings faults cut last taken bytes entries first now w m v l k n lines tags told g = record {
   more = first ++ g.more;
   served = subst (λ es. Served trees workers cut last taken bytes es now) (append_assoc entries first g.more) g.served;
   lines = lines_both w m v first g.more lines g.lines;
   tags = tags_both first g.more tags g.tags;
-  listed = listed_both l k n first g.more listed g.listed;
+  told = told_both listings faults 0 l k n first g.more told g.told;
 }
 
 -- a line came to the round that has begun
@@ -98,19 +95,19 @@ same_length [] (t ∷ ts) h = absurd h
 same_length (line ∷ lines) [] h = absurd h
 
 -- a round was run, and this is the one that has begun now
-pub runs_to : (trees : Trees) (workers : ℕ) (cut to : Cut) (last : ℕ) (taken begun : List Taken) (bytes none : ℕ) (entries : List Entry) (now after : Moment) (w v : Option (List ℕ)) (l m : ℕ)
-    → Served trees workers cut last taken bytes entries now → RoundRun trees workers cut.begun now after w v l m → to ≡ end_round cut → begun ≡ [] → none ≡ 0
-    → Further trees workers to last begun none entries after w v l m
-runs_to trees workers cut to last taken begun bytes none entries now after w v l m h r to_is begun_is none_is =
-    subst (λ c. Further trees workers c last begun none entries after w v l m) (sym to_is)
-    (subst (λ ts. Further trees workers (end_round cut) last ts none entries after w v l m) (sym begun_is)
-    (subst (λ n. Further trees workers (end_round cut) last [] n entries after w v l m) (sym none_is)
-    (runs trees workers cut last taken bytes entries now after w v l m h r)))
+pub runs_to : {D : Type 0} (trees : Trees) (workers : ℕ) (listings faults : D → ℕ) (cut to : Cut) (last : ℕ) (taken begun : List Taken) (bytes none : ℕ) (entries : List Entry) (now after : Moment) (w v : Option (List ℕ)) (l m : List D)
+    → Served trees workers cut last taken bytes entries now → RoundRun trees workers listings faults cut.begun now after w v l m → to ≡ end_round cut → begun ≡ [] → none ≡ 0
+    → Further trees workers listings faults to last begun none entries after w v l m
+runs_to trees workers listings faults cut to last taken begun bytes none entries now after w v l m h r to_is begun_is none_is =
+    subst (λ c. Further trees workers listings faults c last begun none entries after w v l m) (sym to_is)
+    (subst (λ ts. Further trees workers listings faults (end_round cut) last ts none entries after w v l m) (sym begun_is)
+    (subst (λ n. Further trees workers listings faults (end_round cut) last [] n entries after w v l m) (sym none_is)
+    (runs trees workers listings faults cut last taken bytes entries now after w v l m h r)))
 
-pub stays_at : (trees : Trees) (workers : ℕ) (cut to : Cut) (last : ℕ) (taken : List Taken) (bytes : ℕ) (entries : List Entry) (now : Moment) (w : Option (List ℕ)) (l : ℕ)
-    → Served trees workers cut last taken bytes entries now → to ≡ cut → Further trees workers to last taken bytes entries now w w l l
-stays_at trees workers cut to last taken bytes entries now w l h is =
-    subst (λ c. Further trees workers c last taken bytes entries now w w l l) (sym is) (stays trees workers cut last taken bytes entries now w l h)
+pub stays_at : {D : Type 0} (trees : Trees) (workers : ℕ) (listings faults : D → ℕ) (cut to : Cut) (last : ℕ) (taken : List Taken) (bytes : ℕ) (entries : List Entry) (now : Moment) (w : Option (List ℕ)) (l : List D)
+    → Served trees workers cut last taken bytes entries now → to ≡ cut → Further trees workers listings faults to last taken bytes entries now w w l l
+stays_at trees workers listings faults cut to last taken bytes entries now w l h is =
+    subst (λ c. Further trees workers listings faults c last taken bytes entries now w w l l) (sym is) (stays trees workers listings faults cut last taken bytes entries now w l h)
 
 -- whether a line would make the round too long
 pub before_is : (trees : Trees) (workers : ℕ) (cut : Cut) (last : ℕ) (taken : List Taken) (bytes more : ℕ) (entries : List Entry) (now : Moment) (line : Line) (b : Bool)
@@ -138,11 +135,11 @@ pub filled : (cut : Cut) (line : Line) → is_nil line.text ≡ false → cut_li
 filled cut line h = ap (λ b. if b then end_round cut else end_full round_limits (put_line line (end_before round_limits line cut))) h
 
 -- one thing after the other, up to a line
-pub further : (trees : Trees) (workers : ℕ) (first next to : Cut) (last number at : ℕ) (taken begun : List Taken) (bytes more : ℕ) (entries : List Entry) (now after : Moment)
-    (w m v : Option (List ℕ)) (l k n : ℕ) → (f : Further trees workers first last taken bytes entries now w m l k)
-    → Further trees workers next at begun more (entries ++ f.more) after m v k n → to ≡ next → number ≡ at
-    → Further trees workers to number begun more entries after w v l n
-further trees workers first next to last number at taken begun bytes more entries now after w m v l k n f g to_is number_is =
-    subst (λ c. Further trees workers c number begun more entries after w v l n) (sym to_is)
-    (subst (λ i. Further trees workers next i begun more entries after w v l n) (sym number_is)
-    (both trees workers next at begun more entries f.more after w m v l k n f.lines f.tags f.listed g))
+pub further : {D : Type 0} (trees : Trees) (workers : ℕ) (listings faults : D → ℕ) (first next to : Cut) (last number at : ℕ) (taken begun : List Taken) (bytes more : ℕ) (entries : List Entry) (now after : Moment)
+    (w m v : Option (List ℕ)) (l k n : List D) → (f : Further trees workers listings faults first last taken bytes entries now w m l k)
+    → Further trees workers listings faults next at begun more (entries ++ f.more) after m v k n → to ≡ next → number ≡ at
+    → Further trees workers listings faults to number begun more entries after w v l n
+further trees workers listings faults first next to last number at taken begun bytes more entries now after w m v l k n f g to_is number_is =
+    subst (λ c. Further trees workers listings faults c number begun more entries after w v l n) (sym to_is)
+    (subst (λ i. Further trees workers listings faults next i begun more entries after w v l n) (sym number_is)
+    (both trees workers listings faults next at begun more entries f.more after w m v l k n f.lines f.tags f.told g))

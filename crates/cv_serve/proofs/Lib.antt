@@ -1,9 +1,7 @@
 mod Ending
-mod First
 mod Further
 mod Input
-mod Parts
-mod Requests
-mod Rounds
-mod Working
+mod Quiet
+mod Seats
+mod Told
 mod Written

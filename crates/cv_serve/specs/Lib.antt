@@ -1,3 +1,4 @@
 pub mod Ends
+pub mod Quiet
 pub mod Served
 pub mod code

@@ -1,6 +1,5 @@
 -- Definitions that only restate private functions.
+pub mod Begun
 pub mod Further
-pub mod Moments
 pub mod Printed
 pub mod Reading
-pub mod Work

@@ -1,7 +1,8 @@
 ghost use Rattle.std.specs.Prelude.{◌≡◌};
 ghost use Rattle.cv_base.specs.Lines.{Line};
 ghost use Rattle.cv_legal.specs.Taken.{IsTaken};
-ghost use Rattle.cv_serve.specs.code.Moments.{IsSoundTaken, line_at};
+ghost use Rattle.cv_round.specs.Round.{IsSoundTaken};
+ghost use Rattle.cv_serve.specs.code.Begun.{line_at};
 
 use cv_legal::Taken;
 use cv_request::read_request;

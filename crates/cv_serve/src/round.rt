@@ -9,29 +9,30 @@ ghost use Rattle.cv_legal.specs.Rounds.{Cut, Round as Lines, cut_line, end_befor
 ghost use Rattle.cv_legal.specs.Taken.{IsTaken};
 ghost use Rattle.cv_legal.specs.code.Served.{LinesRise, Served};
 ghost use Rattle.cv_legal.specs.declared.limits.TheConstants.{MAX_ROUND_BYTES, MAX_ROUND_LINES};
+ghost use Rattle.cv_round.specs.Round.{IsSoundTaken, moment_of};
 ghost use Rattle.cv_serve.specs.Ends.{IsWriting, is_write_stop};
+ghost use Rattle.cv_serve.specs.code.Begun.{IsPrepared, IsRoomFor, IsSoundRound, line_at};
 ghost use Rattle.cv_serve.specs.code.Further.{Further, LegalTexts, RoundRun};
-ghost use Rattle.cv_serve.specs.code.Moments.{IsRoomFor, IsSoundRound, IsSoundTaken, line_at, moment_of};
 
 use crate::end::Stop;
 use crate::lines::take;
 use crate::print::{lines_of, write_lines};
-use crate::round_entries::round_entries;
-use cv_base::Steps;
-use cv_core::Core;
 use cv_desk::Desk;
+use cv_hub::{Hub, Identity, Seat};
 use cv_io::Sink;
 use cv_legal::{MAX_ROUND_BYTES, MAX_ROUND_LINES, Taken};
+use cv_round::run_round;
 use cv_seq::NoMemory;
 use std::alloc::Global;
 use std::mem;
-use std::sync::ledger::Ledger;
+use std::sync::Wait;
+use std::thread::Threads;
 
-/// The core of a service, with the count of its steps.
+/// The core that the lanes and the workers of a service share, and a seat of each of them.
 #[derive(Drop)]
-pub struct Machine<D: Desk, L: Ledger> {
-    pub core: Core<D>,
-    pub steps: Steps<L>,
+pub struct Service<D: Desk, L: Identity> {
+    pub hub: Hub<D, L>,
+    pub seats: Vec<Seat<D, L>>,
 }
 
 /// A round that has begun: what became of its lines, and how many bytes they have.
@@ -43,127 +44,152 @@ pub struct Round {
 
 /// Takes a line of the input. An empty one ends the round that has begun; any other line is added to it. If it would make the
 /// round too long, that round is run first; a full round is run at once.
-pub fn take_line<K: Sink, D: Desk + Drop, L: Ledger>(
+pub fn take_line<
+    K: Sink,
+    D: Desk + Drop + Send + Sync,
+    L: Identity + Send + Sync,
+    W: Threads + Wait + Sync,
+>(
+    rt: &W,
     alloc: Global,
-    machine: &mut Machine<D, L>,
-    desk: &mut D,
+    service: &mut Service<D, L>,
+    desks: &mut [D],
     output: &mut K,
     round: &mut Round,
     number: u64,
     text: &[u8],
 ) -> Result<(), Stop>
     requires sound { IsSoundRound round.old.taken.items round.old.bytes }
-    requires room { D.listings desk.old ≤ 2 ^ 62 + machine.old.core.count }
-    ensures further { IsKnown D.tree → (workers : ℕ) → 0 < workers → (cut : Cut) (last : ℕ) (entries : List Entry) → number ≡ last + 1
-        → Served (trees_of D.tree) workers cut last round.old.taken.items round.old.bytes entries (moment_of machine.old.core)
-        → OnOk result (Further (trees_of D.tree) workers (cut_line round_limits cut (line_at number text.now)) number round.new.taken.items round.new.bytes entries (moment_of machine.new.core)
-        (K.contents output.old) (K.contents output.new) (D.listings desk.old) (D.listings desk.new)) }
+    requires prepared { IsPrepared D.listings L.parts service.old.hub service.old.seats.items desks.old }
+    ensures further { IsKnown D.tree → (workers : ℕ) → length desks.old ≡ workers → (cut : Cut) (last : ℕ) (entries : List Entry) → number ≡ last + 1
+        → Served (trees_of D.tree) workers cut last round.old.taken.items round.old.bytes entries (moment_of (trees_of D.tree) L.limits service.old.hub)
+        → OnOk result (Further (trees_of D.tree) workers D.listings D.faults (cut_line round_limits cut (line_at number text.now)) number round.new.taken.items round.new.bytes entries (moment_of (trees_of D.tree) L.limits service.new.hub)
+        (K.contents output.old) (K.contents output.new) desks.old desks.new) }
     ensures sound { OnOk result (IsSoundRound round.new.taken.items round.new.bytes) }
-    ensures room { OnOk result (D.listings desk.new ≤ 2 ^ 62 + machine.new.core.count) }
+    ensures prepared { OnOk result (IsPrepared D.listings L.parts service.new.hub service.new.seats.items desks.new) }
     ensures stops { IfErr result IsWriting }
     ensures cause { CausedBy (K.faults output.old) (K.faults output.new) (is_write_stop result) }
 {
     if is_blank(text) {
-        return run_round(alloc, machine, desk, output, round);
+        return write_round(rt, alloc, service, desks, output, round);
     }
-    end_long(alloc, machine, desk, output, round, text.len())?;
+    end_long(rt, alloc, service, desks, output, round, text.len())?;
     put(round, take(alloc, number, text), text.len())?;
-    end_whole(alloc, machine, desk, output, round)
+    end_whole(rt, alloc, service, desks, output, round)
 }
 
 /// Ends the round that has begun before a line of so many bytes that would make it too long.
-fn end_long<K: Sink, D: Desk + Drop, L: Ledger>(
+fn end_long<
+    K: Sink,
+    D: Desk + Drop + Send + Sync,
+    L: Identity + Send + Sync,
+    W: Threads + Wait + Sync,
+>(
+    rt: &W,
     alloc: Global,
-    machine: &mut Machine<D, L>,
-    desk: &mut D,
+    service: &mut Service<D, L>,
+    desks: &mut [D],
     output: &mut K,
     round: &mut Round,
     bytes: usize,
 ) -> Result<(), Stop>
     requires sound { IsSoundRound round.old.taken.items round.old.bytes }
-    requires room { D.listings desk.old ≤ 2 ^ 62 + machine.old.core.count }
+    requires prepared { IsPrepared D.listings L.parts service.old.hub service.old.seats.items desks.old }
     requires text { 0 < bytes }
-    ensures further { IsKnown D.tree → (workers : ℕ) → 0 < workers → (cut : Cut) (last : ℕ) (entries : List Entry) (line : Line) → length line.text ≡ bytes
-        → Served (trees_of D.tree) workers cut last round.old.taken.items round.old.bytes entries (moment_of machine.old.core)
-        → OnOk result (Further (trees_of D.tree) workers (end_before round_limits line cut) last round.new.taken.items round.new.bytes entries (moment_of machine.new.core)
-        (K.contents output.old) (K.contents output.new) (D.listings desk.old) (D.listings desk.new)) }
+    ensures further { IsKnown D.tree → (workers : ℕ) → length desks.old ≡ workers → (cut : Cut) (last : ℕ) (entries : List Entry) (line : Line) → length line.text ≡ bytes
+        → Served (trees_of D.tree) workers cut last round.old.taken.items round.old.bytes entries (moment_of (trees_of D.tree) L.limits service.old.hub)
+        → OnOk result (Further (trees_of D.tree) workers D.listings D.faults (end_before round_limits line cut) last round.new.taken.items round.new.bytes entries (moment_of (trees_of D.tree) L.limits service.new.hub)
+        (K.contents output.old) (K.contents output.new) desks.old desks.new) }
     ensures sound { OnOk result (IsSoundRound round.new.taken.items round.new.bytes) }
     ensures fits { OnOk result (IsRoomFor round.new.bytes bytes) }
-    ensures room { OnOk result (D.listings desk.new ≤ 2 ^ 62 + machine.new.core.count) }
+    ensures prepared { OnOk result (IsPrepared D.listings L.parts service.new.hub service.new.seats.items desks.new) }
     ensures stops { IfErr result IsWriting }
     ensures cause { CausedBy (K.faults output.old) (K.faults output.new) (is_write_stop result) }
 {
     if is_too_long(round, bytes) {
-        return run_round(alloc, machine, desk, output, round);
+        return write_round(rt, alloc, service, desks, output, round);
     }
     Ok(())
 }
 
 /// Ends a round that has as many lines as it may have.
-fn end_whole<K: Sink, D: Desk + Drop, L: Ledger>(
+fn end_whole<
+    K: Sink,
+    D: Desk + Drop + Send + Sync,
+    L: Identity + Send + Sync,
+    W: Threads + Wait + Sync,
+>(
+    rt: &W,
     alloc: Global,
-    machine: &mut Machine<D, L>,
-    desk: &mut D,
+    service: &mut Service<D, L>,
+    desks: &mut [D],
     output: &mut K,
     round: &mut Round,
 ) -> Result<(), Stop>
     requires sound { IsSoundRound round.old.taken.items round.old.bytes }
-    requires room { D.listings desk.old ≤ 2 ^ 62 + machine.old.core.count }
-    ensures further { IsKnown D.tree → (workers : ℕ) → 0 < workers → (cut : Cut) (last : ℕ) (entries : List Entry)
-        → Served (trees_of D.tree) workers cut last round.old.taken.items round.old.bytes entries (moment_of machine.old.core)
-        → OnOk result (Further (trees_of D.tree) workers (end_full round_limits cut) last round.new.taken.items round.new.bytes entries (moment_of machine.new.core)
-        (K.contents output.old) (K.contents output.new) (D.listings desk.old) (D.listings desk.new)) }
+    requires prepared { IsPrepared D.listings L.parts service.old.hub service.old.seats.items desks.old }
+    ensures further { IsKnown D.tree → (workers : ℕ) → length desks.old ≡ workers → (cut : Cut) (last : ℕ) (entries : List Entry)
+        → Served (trees_of D.tree) workers cut last round.old.taken.items round.old.bytes entries (moment_of (trees_of D.tree) L.limits service.old.hub)
+        → OnOk result (Further (trees_of D.tree) workers D.listings D.faults (end_full round_limits cut) last round.new.taken.items round.new.bytes entries (moment_of (trees_of D.tree) L.limits service.new.hub)
+        (K.contents output.old) (K.contents output.new) desks.old desks.new) }
     ensures sound { OnOk result (IsSoundRound round.new.taken.items round.new.bytes) }
-    ensures room { OnOk result (D.listings desk.new ≤ 2 ^ 62 + machine.new.core.count) }
+    ensures prepared { OnOk result (IsPrepared D.listings L.parts service.new.hub service.new.seats.items desks.new) }
     ensures stops { IfErr result IsWriting }
     ensures cause { CausedBy (K.faults output.old) (K.faults output.new) (is_write_stop result) }
 {
     if is_full(round) {
-        return run_round(alloc, machine, desk, output, round);
+        return write_round(rt, alloc, service, desks, output, round);
     }
     Ok(())
 }
 
 /// Runs the round that has begun, and writes its lines. The next round has no lines yet.
-pub fn run_round<K: Sink, D: Desk + Drop, L: Ledger>(
+pub fn write_round<
+    K: Sink,
+    D: Desk + Drop + Send + Sync,
+    L: Identity + Send + Sync,
+    W: Threads + Wait + Sync,
+>(
+    rt: &W,
     alloc: Global,
-    machine: &mut Machine<D, L>,
-    desk: &mut D,
+    service: &mut Service<D, L>,
+    desks: &mut [D],
     output: &mut K,
     round: &mut Round,
 ) -> Result<(), Stop>
     requires sound { AllByRecursion IsSoundTaken round.old.taken.items }
-    requires room { D.listings desk.old ≤ 2 ^ 62 + machine.old.core.count }
-    ensures ran { IsKnown D.tree → (workers : ℕ) → 0 < workers → (lines : Lines) (last : ℕ) → AllZip IsTaken lines round.old.taken.items → LinesRise lines last
-        → OnOk result (RoundRun (trees_of D.tree) workers lines (moment_of machine.old.core) (moment_of machine.new.core)
-        (K.contents output.old) (K.contents output.new) (D.listings desk.old) (D.listings desk.new)) }
+    requires prepared { IsPrepared D.listings L.parts service.old.hub service.old.seats.items desks.old }
+    ensures ran { IsKnown D.tree → (workers : ℕ) → length desks.old ≡ workers → (lines : Lines) (last : ℕ) → AllZip IsTaken lines round.old.taken.items → LinesRise lines last
+        → OnOk result (RoundRun (trees_of D.tree) workers D.listings D.faults lines (moment_of (trees_of D.tree) L.limits service.old.hub) (moment_of (trees_of D.tree) L.limits service.new.hub)
+        (K.contents output.old) (K.contents output.new) desks.old desks.new) }
     ensures begins { round.new.taken.items ≡ [] }
     ensures bytes { round.new.bytes ≡ 0 }
-    ensures room { OnOk result (D.listings desk.new ≤ 2 ^ 62 + machine.new.core.count) }
+    ensures prepared { OnOk result (IsPrepared D.listings L.parts service.new.hub service.new.seats.items desks.new) }
     ensures stops { IfErr result IsWriting }
     ensures cause { CausedBy (K.faults output.old) (K.faults output.new) (is_write_stop result) }
 {
     let taken = mem::replace(&mut round.taken, Vec::new(alloc));
     round.bytes = 0;
-    let lines = round_lines(alloc, machine, desk, taken)?;
+    let lines = round_lines(rt, alloc, service, desks, taken)?;
     Ok(write_lines(output, lines.as_slice())?)
 }
 
 /// The lines of a round that is carried out.
-fn round_lines<D: Desk + Drop, L: Ledger>(
+fn round_lines<D: Desk + Drop + Send + Sync, L: Identity + Send + Sync, W: Threads + Wait + Sync>(
+    rt: &W,
     alloc: Global,
-    machine: &mut Machine<D, L>,
-    desk: &mut D,
+    service: &mut Service<D, L>,
+    desks: &mut [D],
     taken: Vec<Taken>,
 ) -> Result<Vec<String>, NoMemory>
     requires sound { AllByRecursion IsSoundTaken taken.items }
-    requires room { D.listings desk.old ≤ 2 ^ 62 + machine.old.core.count }
-    ensures legal { IsKnown D.tree → (workers : ℕ) → 0 < workers → (lines : Lines) (last : ℕ) → AllZip IsTaken lines taken.items → LinesRise lines last
-        → IfOk result (λ texts. LegalTexts (trees_of D.tree) workers lines (moment_of machine.old.core) (D.listings desk.old) (map (λ text. string_bytes text) texts.items) (moment_of machine.new.core) (D.listings desk.new)) }
-    ensures room { OnOk result (D.listings desk.new ≤ 2 ^ 62 + machine.new.core.count) }
+    requires prepared { IsPrepared D.listings L.parts service.old.hub service.old.seats.items desks.old }
+    ensures legal { IsKnown D.tree → (workers : ℕ) → length desks.old ≡ workers → (lines : Lines) (last : ℕ) → AllZip IsTaken lines taken.items → LinesRise lines last
+        → IfOk result (λ texts. LegalTexts (trees_of D.tree) workers D.listings D.faults lines (moment_of (trees_of D.tree) L.limits service.old.hub) desks.old (map (λ text. string_bytes text) texts.items) (moment_of (trees_of D.tree) L.limits service.new.hub) desks.new) }
+    ensures prepared { OnOk result (IsPrepared D.listings L.parts service.new.hub service.new.seats.items desks.new) }
 {
-    let core = &mut machine.core;
-    let entries = round_entries(alloc, core, &mut machine.steps, desk, taken)?;
+    let seats = service.seats.as_mut_slice();
+    let entries = run_round(rt, alloc, &mut service.hub, seats, desks, taken)?;
     lines_of(alloc, entries.as_slice())
 }
 

@@ -26,6 +26,6 @@ StopsLines how (Err stop.InputTooLong) = how ≡ LongInput
 StopsLines how (Err _) = ⊤
 
 -- what was done with these lines
-abbrev pub Done : Trees → ℕ → List (List ℕ) → List Taken → ℕ → Moment → Option (List ℕ) → Option (List ℕ) → ℕ → ℕ → Type 0
-Done trees workers texts taken bytes now written written_now listings listings_now =
-    Further trees workers (cut_lines round_limits (numbered 1 texts)) (length texts) taken bytes [] now written written_now listings listings_now
+abbrev pub Done : {D : Type 0} → Trees → ℕ → (D → ℕ) → (D → ℕ) → List (List ℕ) → List Taken → ℕ → Moment → Option (List ℕ) → Option (List ℕ) → List D → List D → Type 0
+Done trees workers listings faults texts taken bytes now written written_now desks desks_now =
+    Further trees workers listings faults (cut_lines round_limits (numbered 1 texts)) (length texts) taken bytes [] now written written_now desks desks_now

@@ -6,7 +6,7 @@ use Rattle.cv_io.specs.Reader.{Narrows, Reads, reading}
 use Rattle.cv_machine.specs.Scans.{trees_of}
 use Rattle.cv_legal.specs.Rounds.{Cut, cut_line, cut_lines, round_limits}
 use Rattle.cv_legal.proofs.Serving.{cut_more, numbered_more}
-use Rattle.cv_serve.specs.code.Moments.{line_at}
+use Rattle.cv_serve.specs.code.Begun.{line_at}
 use Rattle.cv_serve.proofs.Further.{further}
 use Rattle.cv_serve.proofs.Input.{reads_more, reads_none}
 use Rattle.cv_serve.proofs.service.read_lines.Goals as goal
@@ -14,10 +14,11 @@ use Rattle.cv_serve.proofs.service.read_lines.Goals as goal
 pub loop-text-init : goal.loop-text-init
 loop-text-init g c = record {
   going = c.requires.going;
-  lines = ([], refl, reads_none (reading c.args.reader.now (g.S.Source.remaining c.args.input.now)), λ known workers some begun. begun);
+  lines = ([], refl, reads_none (reading c.args.reader.now (g.S.Source.remaining c.args.input.now)), λ known workers many begun. begun);
   seen = λ e. absurd (false≢true (sym c.requires.begins ∙ e));
   sound = c.requires.sound;
-  room = c.requires.room;
+  prepared = c.requires.prepared;
+  count = refl;
   space = omega (arith, c.requires.input);
   read_later = omega arith;
   write_later = omega arith;
@@ -46,14 +47,15 @@ loop-text-preserved g c =
         texts ++ text ∷ [],
         long,
         reads_more _ was now texts text before.lines.2 read,
-        λ known workers some begun.
-            let done = before.lines.3 known workers some begun in
-            further (trees_of g.D.Desk.tree) workers cut (cut_line round_limits cut (line_at number c.as_slice.result.now)) _ (length texts) _ number _ _ _ _ [] _ _ _ _ _ _ _ _ done
-            (c.in_ok-take_line.ensures.further known workers some cut (length texts) done.more here done.served) next long,
+        λ known workers many begun.
+            let done = before.lines.3 known workers many begun in
+            further (trees_of g.D.Desk.tree) workers g.D.Desk.listings g.D.Desk.faults cut (cut_line round_limits cut (line_at number c.as_slice.result.now)) _ (length texts) _ number _ _ _ _ [] _ _ _ _ _ _ _ _ done
+            (c.in_ok-take_line.ensures.further known workers (before.count ∙ many) cut (length texts) done.more here done.served) next long,
       );
       seen = c.next.ensures.step.takes.seen before.seen;
       sound = c.in_ok-take_line.ensures.sound;
-      room = c.in_ok-take_line.ensures.room;
+      prepared = c.in_ok-take_line.ensures.prepared;
+      count = c.take_line.auto.desks ∙ before.count;
       space = omega (arith, before.space, narrow.0);
       read_later = omega (arith, before.read_later, c.next.ensures.cause.later);
       write_later = omega (arith, before.write_later, c.take_line.ensures.cause.later);

@@ -1,39 +1,51 @@
-use Rattle.std.specs.Prelude.{◌≡◌, ℕ, List, [], length, IfSome}
-use Rattle.std.proofs.Common.{subst, sym}
+use Rattle.std.specs.Prelude.{◌≡◌, ℕ, List, [], length, IfSome, refl}
+use Rattle.std.proofs.Common.{ap, subst, sym, ◌∙◌}
 use Rattle.cv_io.specs.Lines.{Finished}
 use Rattle.cv_io.specs.Reader.{reading}
 use Rattle.cv_base.specs.Lines.{numbered}
 use Rattle.cv_machine.specs.Scans.{trees_of}
+use Rattle.cv_legal.specs.Replay.{beginning}
 use Rattle.cv_legal.specs.Rounds.{cut_lines, round_limits}
 use Rattle.cv_legal.specs.code.Served.{Served}
 use Rattle.cv_legal.proofs.Serving.{begins}
+use Rattle.cv_round.specs.Round.{moment_of}
 use Rattle.cv_serve.specs.Served.{IsServed}
-use Rattle.cv_serve.specs.code.Moments.{moment_of}
 use Rattle.cv_serve.specs.code.Reading.{Done, HasReadAll}
 use Rattle.cv_serve.proofs.Ending.{all_served}
 use Rattle.cv_serve.proofs.Further.{on_ok, stays}
 use Rattle.cv_serve.proofs.Input.{fits_last, reads_input}
+use Rattle.cv_serve.proofs.Quiet.{Laws}
 use Rattle.cv_serve.proofs.service.serve_by.Goals as goal
 
 pub returns-clause-done : goal.returns-clause-done
-returns-clause-done g c = λ known workers some begin.
+returns-clause-done g c = λ known.
     let trees = trees_of g.D.Desk.tree in
+    let workers : ℕ = length c.args.desks.now in
+    let listings = g.D.Desk.listings in
+    let faults = g.D.Desk.faults in
     let remaining = g.S.Source.remaining c.args.input.now in
     let written = g.K.Sink.contents c.args.output.now in
-    let listings = g.D.Desk.listings c.args.desk.now in
+    let desks = c.args.desks.now in
+    let now = moment_of trees g.L.Identity.limits c.args.service.now.hub in
+    let begin : now ≡ beginning = ap (λ list. moment_of trees g.L.Identity.limits list) c.requires.hub ∙ ap (λ limits. moment_of trees limits []) c.requires.limits in
     let lines = c.in_ok-read_lines.ensures.lines in
     let texts : List (List ℕ) = lines.0 in
-    let start : Done trees workers [] [] 0 (moment_of c.args.machine.now.core) written written listings listings =
-    stays trees workers (cut_lines round_limits []) 0 [] 0 [] (moment_of c.args.machine.now.core) written listings
+    let start : Done trees workers listings faults [] [] 0 now written written desks desks =
+    stays trees workers listings faults (cut_lines round_limits []) 0 [] 0 [] now written desks
     (subst (λ m. Served trees workers (cut_lines round_limits []) 0 [] 0 [] m) (sym begin) (begins trees workers round_limits)) in
-    let first = subst (λ taken. Done trees workers [] taken 0 (moment_of c.args.machine.now.core) written written listings listings) (sym c.new-2.ensures.items) start in
-    let done = lines.2 known workers some first in
-    let ended = c.in_ok-end_last.ensures.further known workers some (cut_lines round_limits (numbered 1 texts)) (length texts) done.more done.served in
+    let first = subst (λ taken. Done trees workers listings faults [] taken 0 now written written desks desks) (sym c.new-2.ensures.items) start in
+    let done = lines.2 known workers refl first in
+    let ended = c.in_ok-end_last.ensures.further known workers c.read_lines.auto.desks (cut_lines round_limits (numbered 1 texts)) (length texts) done.more done.served in
     let all = subst (λ r. HasReadAll (reading r remaining) texts) c.in_ok-reader.ensures.value lines.1 in
+    let laws : Laws = record {
+      indexed = c.completeness_laws.ensures.indexed;
+      divided = c.completeness_laws.ensures.divided;
+      pending = c.completeness_laws.ensures.pending;
+    } in
     on_ok c.end_queued.result
-    (λ last. reads_input (λ bytes. IsServed trees workers bytes written (g.K.Sink.contents c.end_queued.new.output) listings (g.D.Desk.listings c.end_queued.new.desk)) remaining texts all
-    (λ bytes e. all_served trees workers bytes texts (length texts) _ _ _ _ _ written _ _ _ listings _ _ _ e done ended last))
-    (c.end_queued.ensures.further known workers some)
+    (λ last. reads_input (λ bytes. IsServed trees workers listings faults bytes written (g.K.Sink.contents c.end_queued.new.output) desks c.end_queued.new.desks) remaining texts all
+    (λ bytes e. all_served laws trees workers listings faults bytes texts (length texts) _ _ _ _ _ written _ _ _ desks _ _ _ e refl done ended last))
+    (c.end_queued.ensures.further known workers (c.end_last.auto.desks ∙ c.read_lines.auto.desks))
 
 pub returns-clause-input : goal.returns-clause-input
 returns-clause-input g c =
