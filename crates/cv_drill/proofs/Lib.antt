@@ -1,0 +1,7 @@
+mod Examples
+mod Floats
+mod Items
+mod Lists
+mod Numbers
+mod Reports
+mod Sizes

@@ -1,0 +1,6 @@
+pub mod Images
+pub mod Lines
+pub mod Records
+pub mod Script
+pub mod Summary
+pub mod Transcript
