@@ -1,0 +1,23 @@
+//! Reads the arguments after the name of a command, with one simple command of clap each. What it answers is clap's published
+//! meaning of these commands.
+//!
+//! ```text
+//! match workers_of(alloc, arguments)? {
+//!     Some(workers) => serve(workers),
+//!     None => print_usage(),
+//! }
+//! ```
+#![tactic(auto)]
+
+mod drill;
+mod order;
+mod scan;
+mod serve;
+mod simple;
+#[cfg(test)]
+mod tests;
+
+pub use drill::seed_of;
+pub use order::{Versions, versions_of};
+pub use scan::takes_scan;
+pub use serve::workers_of;
