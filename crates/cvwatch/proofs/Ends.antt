@@ -16,7 +16,9 @@ use Rattle.cv_scan_input.specs.declared.error.InputError.TheVariants as input
 use Rattle.cv_transcript.specs.Refusal.{refusal_text}
 use Rattle.cvwatch.specs.Command.{AnswersRequest, IsAnswered, IsCutShort, IsIdle, IsRequestOf, ScanEnds}
 use Rattle.cvwatch.specs.Outcome.{Complete, Failed, Outcome, SaysOutcome, outcome_printed}
-use Rattle.cvwatch.specs.Order.{compared_as, compared_status, kind_of, order_of, order_printed}
+use Rattle.cvwatch.specs.Order.{compared_as, compared_status, kind_of, order_of, order_printed, texts_printed}
+use Rattle.cv_arguments.specs.Forms.{Texts, texts_of}
+use Rattle.std.specs.Option.{option_map_or}
 use Rattle.cvwatch.specs.Printed.{IsPrinted, Printed, usage}
 use Rattle.cvwatch.specs.Arguments.{command_line}
 use Rattle.cvwatch.specs.World.{Trees, World}
@@ -107,7 +109,7 @@ pub text_printed : (line text : List ℕ) (end : Status) (before now : Option (L
     → IsPrinted (record { text = line; ended = end }) before now ended
 text_printed line text end before now ended e p = subst (λ t. IsPrinted (record { text = t; ended = end }) before now ended) e p
 
--- Arguments other than a scan never end as one whose desk failed.
+-- A line that follows from the arguments alone never says that a desk failed.
 
 usage_ends : status.Usage ≡ status.DeskFault → ⊥
 usage_ends h = cc
@@ -121,12 +123,12 @@ kind_ends : (kind : Option PackageKind) (first second : List ℕ) → (order_pri
 kind_ends None first second h = usage_ends h
 kind_ends (Some kind) first second h = compared_ends (compared_as kind first second) h
 
+texts_end : (texts : Option Texts) → (option_map_or texts_printed texts usage).ended ≡ status.DeskFault → ⊥
+texts_end None h = usage_ends h
+texts_end (Some texts) h = kind_ends (kind_of texts.packages) texts.first texts.second h
+
 order_ends : (arguments : List (List ℕ)) → (order_of arguments).ended ≡ status.DeskFault → ⊥
-order_ends [] h = usage_ends h
-order_ends (a ∷ []) h = usage_ends h
-order_ends (a ∷ b ∷ []) h = usage_ends h
-order_ends (a ∷ b ∷ c ∷ []) h = kind_ends (kind_of a) b c h
-order_ends (a ∷ b ∷ c ∷ d ∷ ds) h = usage_ends h
+order_ends arguments h = texts_end (texts_of arguments) h
 
 command_by : (b : Bool) (arguments : List (List ℕ)) → (if b then order_of arguments else usage).ended ≡ status.DeskFault → ⊥
 command_by true arguments h = order_ends arguments h

@@ -1,4 +1,7 @@
-pub mod Items
+pub mod DrillLemmas
 pub mod Ends
+pub mod FaultLines
 pub mod OutcomeLemmas
+pub mod ShortInput
+pub mod Unread
 pub mod Versions

@@ -1,39 +1,39 @@
--- What the arguments of the program name (defined by this project): a scan, the service, or a line that is printed.
-use Rattle.std.specs.Prelude.{ℕ, if◌then◌else◌, List, [], ◌∷◌, codes, ◌&&◌}
+-- What the arguments of the program name (defined by this project): a command, or a line that is printed. The first argument is the
+-- name of the command, and a simple command of clap reads those after it.
+use Rattle.std.specs.Prelude.{ℕ, if◌then◌else◌, List, [], ◌∷◌, codes}
+use Rattle.std.specs.Option.{option_map_or}
+use Rattle.cv_arguments.specs.Forms.{seed_of, takes_scan, workers_of}
 use Rattle.cv_base.specs.Texts.{same}
 use Rattle.cvwatch.specs.Order.{order_of}
 use Rattle.cvwatch.specs.Printed.{Printed, usage}
 use Rattle.cvwatch.specs.declared.arguments.Command.{Command}
-use Rattle.cvwatch.specs.declared.arguments.Command.TheVariants.{Scan, Serve, Print}
+use Rattle.cvwatch.specs.declared.arguments.Command.TheVariants.{Scan, Serve, Drill, Print}
 
--- the argument `scan` stands alone
+-- a scan, if its arguments are taken
 abbrev pub scan_with : List (List ℕ) → Command
-scan_with [] = Scan
-scan_with (option ∷ options) = Print
+scan_with options = if takes_scan options then Scan else Print
 
--- the one option of the service is `--workers`, and the only number of workers that is implemented is 1
-abbrev pub workers_by : List ℕ → List ℕ → Command
-workers_by name value = if same name (codes "--workers") && same value (codes "1") then Serve else Print
-
--- the argument `serve` stands alone, or with its option; one worker is the default
+-- the service, if its arguments are taken
 abbrev pub serve_with : List (List ℕ) → Command
-serve_with [] = Serve
-serve_with (name ∷ []) = Print
-serve_with (name ∷ value ∷ []) = workers_by name value
-serve_with (name ∷ value ∷ option ∷ options) = Print
+serve_with options = option_map_or Serve (workers_of options) Print
+
+-- a drill, if its arguments are taken
+abbrev pub drill_with : List (List ℕ) → Command
+drill_with options = option_map_or Drill (seed_of options) Print
 
 -- the command of this name, with the arguments after it
 abbrev pub named : List ℕ → List (List ℕ) → Command
 named name options =
     if same name (codes "scan") then scan_with options
-    else (if same name (codes "serve") then serve_with options else Print)
+    else (if same name (codes "serve") then serve_with options
+    else (if same name (codes "drill") then drill_with options else Print))
 
 -- the command that the arguments name
 abbrev pub command_of : List (List ℕ) → Command
 command_of [] = Print
 command_of (name ∷ options) = named name options
 
--- the line of arguments that name neither a scan nor the service
+-- the line of arguments that name none of these commands
 abbrev pub command_line : List (List ℕ) → Printed
 command_line [] = usage
 command_line (name ∷ arguments) = if same name (codes "order") then order_of arguments else usage

@@ -1,5 +1,6 @@
 pub mod Arguments
 pub mod Command
+pub mod Drill
 pub mod Order
 pub mod Outcome
 pub mod Printed

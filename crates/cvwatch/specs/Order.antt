@@ -1,7 +1,9 @@
 -- What the command `order` prints (defined by this project): how two versions compare, by the order of Debian, of Alpine or
 -- of semantic versions, or which of the two is not a valid version.
-use Rattle.std.specs.Prelude.{ℕ, if◌then◌else◌, List, [], ◌∷◌, codes, Option, Some, None}
+use Rattle.std.specs.Prelude.{ℕ, if◌then◌else◌, List, codes, Option, Some, None}
+use Rattle.std.specs.Option.{option_map_or}
 use Rattle.std.specs.declared.cmp.Ordering.TheVariants.{Less, Equal, Greater}
+use Rattle.cv_arguments.specs.Forms.{Texts, texts_of}
 use Rattle.cv_base.specs.Texts.{same}
 use Rattle.cv_base.specs.declared.«package».PackageKind.{PackageKind}
 use Rattle.cv_base.specs.declared.«package».PackageKind.TheVariants.{Deb, Apk, Npm}
@@ -48,7 +50,10 @@ abbrev pub order_printed : Option PackageKind → List ℕ → List ℕ → Prin
 order_printed None first second = usage
 order_printed (Some kind) first second = compared_printed (compared_as kind first second)
 
--- what is printed for the arguments: a kind and two texts are compared, and all other arguments print the usage line
+-- what is printed for the texts of the arguments
+abbrev pub texts_printed : Texts → Printed
+texts_printed texts = order_printed (kind_of texts.packages) texts.first texts.second
+
+-- what is printed for the arguments: if they are taken, the texts are compared, and all other arguments print the usage line
 abbrev pub order_of : List (List ℕ) → Printed
-order_of (name ∷ first ∷ second ∷ []) = order_printed (kind_of name) first second
-order_of _ = usage
+order_of arguments = option_map_or texts_printed (texts_of arguments) usage

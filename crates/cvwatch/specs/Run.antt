@@ -1,14 +1,15 @@
--- What the program does (defined by this project): the one argument `scan` runs that command over the first desk, the
--- argument `serve` runs the service with one worker, whose desk is the first one, and all other arguments print a line.
-use Rattle.std.specs.Prelude.{◌≡◌, ℕ, List, ◌∷◌, Option}
+-- What the program does (defined by this project): `scan` scans an image over the first desk, `serve` runs the service over the
+-- desks of its workers, `drill` runs a service of its own, and all other arguments print a line.
+use Rattle.std.specs.Prelude.{◌≡◌, ℕ, List, ◌∷◌, length, Option}
 use Rattle.cv_seq.specs.Cause.{Rose}
 use Rattle.cvwatch.specs.Arguments.{command_line, command_of}
 use Rattle.cvwatch.specs.Command.{ScanEnds}
+use Rattle.cvwatch.specs.Drill.{DrillEnds}
 use Rattle.cvwatch.specs.Printed.{IsPrinted}
-use Rattle.cvwatch.specs.Service.{ServeEnds}
+use Rattle.cvwatch.specs.Service.{ServiceEnds, worker_count}
 use Rattle.cvwatch.specs.World.{Counts, RunWorld, Trees, counts_of, world_of}
 use Rattle.cvwatch.specs.declared.arguments.Command.{Command}
-use Rattle.cvwatch.specs.declared.arguments.Command.TheVariants.{Scan, Serve, Print}
+use Rattle.cvwatch.specs.declared.arguments.Command.TheVariants.{Scan, Serve, Drill, Print}
 use Rattle.cvwatch.specs.declared.status.Status.{Status}
 
 -- the count of the first desk rose
@@ -31,7 +32,10 @@ PrintsLine arguments before now ended =
 abbrev pub RunsAs : {S D : Type 0} → Command → Trees → (S → Option (List ℕ)) → (D → ℕ) → (D → ℕ) → List (List ℕ) → RunWorld S D → RunWorld S D → Status → Type 0
 RunsAs Scan trees remaining listings faults arguments before now ended =
     FirstScans trees remaining (counts_of listings faults) before now before.desks now.desks ended
-RunsAs Serve trees remaining listings faults arguments before now ended = ServeEnds trees remaining listings before now ended
+RunsAs (Serve workers) trees remaining listings faults arguments before now ended =
+    ServiceEnds trees remaining listings faults (worker_count workers (length before.desks)) before now ended
+RunsAs (Drill seed) trees remaining listings faults arguments before now ended =
+    DrillEnds seed before.written now.written ended × (now.input ≡ before.input) × (now.desks ≡ before.desks)
 RunsAs Print trees remaining listings faults arguments before now ended = PrintsLine arguments before now ended
 
 -- how a run ends, by its arguments

@@ -1,2 +1,3 @@
 -- Words that only retell private functions.
+pub mod Drilled
 pub mod Printing

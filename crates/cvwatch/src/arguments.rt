@@ -1,64 +1,65 @@
-ghost use Rattle.std.specs.Prelude.{◌≡◌, map, string_bytes};
-ghost use Rattle.cvwatch.specs.Arguments.{command_of, named, scan_with, serve_with, workers_by};
+ghost use Rattle.std.specs.Prelude.{◌≡◌, map, string_bytes, IfOk};
+ghost use Rattle.cvwatch.specs.Arguments.{command_of, drill_with, named, scan_with, serve_with};
+
+use cv_arguments::{seed_of, takes_scan, workers_of};
+use cv_base::NoMemory;
+use std::alloc::Global;
 
 /// What the arguments of the program name.
 #[derive(Clone, Copy, Debug, PartialEq, Eq)]
 pub enum Command {
     /// The scan of an image.
     Scan,
-    /// The service, with one worker.
-    Serve,
+    /// The service, with the number of workers that was asked for.
+    Serve(Option<u32>),
+    /// A large run of the service that this seed determines.
+    Drill(u32),
     /// A line that follows from the arguments alone: how two versions compare, or the usage line.
     Print,
 }
 
 /// The command that the arguments name.
-pub fn command_of(arguments: &[String]) -> Command
-    ensures { result ≡ command_of (map (λ argument. string_bytes argument) arguments.now) }
+pub fn command_of(alloc: Global, arguments: &[String]) -> Result<Command, NoMemory>
+    ensures { IfOk result (λ command. command ≡ command_of (map (λ argument. string_bytes argument) arguments.now)) }
 {
     let [name, options @ ..] = arguments else {
-        return Command::Print;
+        return Ok(Command::Print);
     };
-    named(name.as_str(), options)
+    named(alloc, name.as_str(), options)
 }
 
-fn named(name: &str, options: &[String]) -> Command
-    ensures { result ≡ named name.now (map (λ option. string_bytes option) options.now) }
+fn named(alloc: Global, name: &str, options: &[String]) -> Result<Command, NoMemory>
+    ensures { IfOk result (λ command. command ≡ named name.now (map (λ option. string_bytes option) options.now)) }
 {
     match name {
-        "scan" => scan_with(options),
-        "serve" => serve_with(options),
-        _ => Command::Print,
+        "scan" => scan_with(alloc, options),
+        "serve" => serve_with(alloc, options),
+        "drill" => drill_with(alloc, options),
+        _ => Ok(Command::Print),
     }
 }
 
-/// A scan has no options.
-fn scan_with(options: &[String]) -> Command
-    ensures { result ≡ scan_with (map (λ option. string_bytes option) options.now) }
+fn scan_with(alloc: Global, options: &[String]) -> Result<Command, NoMemory>
+    ensures { IfOk result (λ command. command ≡ scan_with (map (λ option. string_bytes option) options.now)) }
 {
-    match options {
-        [] => Command::Scan,
-        _ => Command::Print,
+    let taken = takes_scan(alloc, options)?;
+    Ok(if taken { Command::Scan } else { Command::Print })
+}
+
+fn serve_with(alloc: Global, options: &[String]) -> Result<Command, NoMemory>
+    ensures { IfOk result (λ command. command ≡ serve_with (map (λ option. string_bytes option) options.now)) }
+{
+    match workers_of(alloc, options)? {
+        Some(workers) => Ok(Command::Serve(workers)),
+        None => Ok(Command::Print),
     }
 }
 
-/// A service may say how many workers it has.
-fn serve_with(options: &[String]) -> Command
-    ensures { result ≡ serve_with (map (λ option. string_bytes option) options.now) }
+fn drill_with(alloc: Global, options: &[String]) -> Result<Command, NoMemory>
+    ensures { IfOk result (λ command. command ≡ drill_with (map (λ option. string_bytes option) options.now)) }
 {
-    match options {
-        [] => Command::Serve,
-        [name, value] => workers_by(name.as_str(), value.as_str()),
-        _ => Command::Print,
-    }
-}
-
-/// A service by the option that says how many workers it has. Only one is implemented.
-fn workers_by(name: &str, value: &str) -> Command
-    ensures { result ≡ workers_by name.now value.now }
-{
-    match (name, value) {
-        ("--workers", "1") => Command::Serve,
-        _ => Command::Print,
+    match seed_of(alloc, options)? {
+        Some(seed) => Ok(Command::Drill(seed)),
+        None => Ok(Command::Print),
     }
 }

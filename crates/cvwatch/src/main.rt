@@ -11,6 +11,7 @@ ghost use Rattle.std.specs.Prelude.{◌≡◌, ◌+◌, ◌^◌, ◌<◌, length
 
 mod arguments;
 mod command;
+mod drill;
 mod order;
 mod print;
 mod run;
@@ -28,21 +29,24 @@ use cv_io::{StdSink, StdSource};
 use std::env;
 use std::io::{self, ErrorKind};
 use std::process::ExitCode;
+use std::sync::Wait;
+use std::thread::Threads;
 
 /// As many desks as a service may have workers.
 const DESKS: usize = 8;
 
 fn main(rt: HostRuntime) -> ExitCode {
-    start(&rt).unwrap_or(Status::NoMemory).exit_code()
+    start(&rt, &rt).unwrap_or(Status::NoMemory).exit_code()
 }
 
-/// Runs the arguments of the command line over real folders and the standard streams.
-fn start(rt: &HostRuntime) -> io::Result<Status> {
+/// Runs the arguments of the command line over real folders and the standard streams. Threads are started by a handle of their own.
+fn start<W: Threads + Wait + Sync>(rt: &HostRuntime, threads: &W) -> io::Result<Status> {
     let arguments = arguments_of(rt)?;
     let mut desks = make_desks(rt)?;
     let mut input = StdSource::new(rt.reader());
     let mut output = StdSink::new(io::writer(rt));
     let status = run(
+        threads,
         rt.alloc(),
         arguments.as_slice(),
         &mut input,
@@ -50,14 +54,46 @@ fn start(rt: &HostRuntime) -> io::Result<Status> {
         &mut desks,
     );
     match status {
-        Status::ReadFault => explain(rt, "standard input", input.last_error()),
-        Status::WriteFault => explain(rt, "standard output", output.last_error()),
+        Status::Usage => say_commands(rt),
+        Status::ReadFault => explain(rt, "standard input could not be read", input.last_error()),
+        Status::WriteFault => explain(
+            rt,
+            "standard output could not be written",
+            output.last_error(),
+        ),
         Status::LineTooLong => say(rt, "a line of the input has more than 67,108,864 bytes"),
         Status::InputTooLong => say(rt, "the input has 2^36 bytes or more"),
         Status::NoMemory => say(rt, "out of memory"),
-        _ => explain_desk(rt, &desks),
+        _ => explain_desks(rt, &desks),
     }
     Ok(status)
+}
+
+/// The commands, for those whose arguments are not one.
+const COMMANDS: &str = "\
+Tells which container images hold packages with known vulnerabilities.
+
+  cvwatch scan
+      Scans one image. Line 1 of standard input is its manifest, and each further line an OSV record.
+      The layers are folders below ./layers.
+      Example: cd examples/first-scan && cvwatch scan <input.jsonl
+
+  cvwatch serve [--workers N]
+      Serves requests, one JSON object a line; an empty line ends a round. N is from 1 to 8; without it, 4.
+      Example: cd examples/service && cvwatch serve --workers 2 <input.jsonl
+
+  cvwatch order deb|apk|semver A B
+      Compares two versions, and prints <, = or >.
+      Example: cvwatch order deb 1.0~rc1 1.0
+
+  cvwatch drill N
+      Serves a large generated input, which N, from 0 to 4294967295, determines, and prints a summary.
+      Example: cvwatch drill 7
+";
+
+/// Says on standard error which commands there are. A failure to say it is ignored.
+fn say_commands(rt: &HostRuntime) {
+    let _ = eprint!(rt; "{COMMANDS}");
 }
 
 /// Says on standard error why a command ended. A failure to say it is ignored.
@@ -66,15 +102,18 @@ fn say(rt: &HostRuntime, reason: &str) {
 }
 
 /// Says on standard error why a stream failed. A failure to say it is ignored.
-fn explain(rt: &HostRuntime, name: &str, error: Option<io::Error>) {
-    if let Some(error) = error {
-        let _ = eprintln!(rt; "cvwatch: {name}: {error}");
+fn explain(rt: &HostRuntime, reason: &str, error: Option<io::Error>) {
+    match error {
+        Some(error) => {
+            let _ = eprintln!(rt; "cvwatch: {reason}: {error}");
+        }
+        None => say(rt, reason),
     }
 }
 
-/// Says on standard error why the first desk failed the last time, if it did: a scan ends there, and a service goes on.
-fn explain_desk(rt: &HostRuntime, desks: &[FolderDesk<HostRuntime>]) {
-    if let Some(failure) = desks.first().and_then(FolderDesk::last_failure) {
+/// Says on standard error why a desk failed the last time, of each that did: a scan ends there, and a service goes on.
+fn explain_desks(rt: &HostRuntime, desks: &[FolderDesk<HostRuntime>]) {
+    for failure in desks.iter().filter_map(FolderDesk::last_failure) {
         let _ = eprintln!(rt; "cvwatch: {failure}");
     }
 }

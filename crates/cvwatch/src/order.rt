@@ -1,13 +1,15 @@
 ghost use Rattle.std.specs.Prelude.{◌≡◌, true, IfOk, map, string_bytes};
+ghost use Rattle.cv_arguments.specs.Versions.{texts};
 ghost use Rattle.cv_base.specs.declared.«package».PackageKind.TheVariants as kind;
 ghost use Rattle.cv_match.specs.Order.{version_in};
 ghost use Rattle.cv_seq.specs.Cause.{Rose};
-ghost use Rattle.cvwatch.specs.Order.{compared_as, compared_printed, compared_status, compared_text, kind_of, order_of, order_printed};
+ghost use Rattle.cvwatch.specs.Order.{compared_as, compared_printed, compared_status, compared_text, kind_of, order_of, texts_printed};
 ghost use Rattle.cvwatch.specs.Printed.{IsPrinted, is_end};
 
 use crate::print::print;
 use crate::status::Status;
 use crate::usage::print_usage;
+use cv_arguments::{Versions, versions_of};
 use cv_base::{NoMemory, PackageKind, Text};
 use cv_io::Sink;
 use cv_match::SemanticVersion;
@@ -30,30 +32,22 @@ pub fn order_command<K: Sink>(alloc: Global, arguments: &[String], output: &mut 
     ensures printed { IsPrinted (order_of (map (λ argument. string_bytes argument) arguments.now)) (K.contents output.old) (K.contents output.new) result }
     ensures write_fault { result ≡ Status.WriteFault → Rose (K.faults output.old) (K.faults output.new) }
 {
-    match arguments {
-        [name, first, second] => {
-            let (name, first, second) = (name.as_str(), first.as_str(), second.as_str());
-            print_order(alloc, name, first, second, output)
-        }
-        _ => print_usage(output),
+    match versions_of(alloc, arguments) {
+        Ok(Some(versions)) => print_order(alloc, versions, output),
+        Ok(None) => print_usage(output),
+        Err(NoMemory) => Status::NoMemory,
     }
 }
 
 /// Prints how two texts compare as versions of the packages with this name.
-fn print_order<K: Sink>(
-    alloc: Global,
-    name: &str,
-    first: &str,
-    second: &str,
-    output: &mut K,
-) -> Status
-    ensures printed { IsPrinted (order_printed (kind_of name.now) first.now second.now) (K.contents output.old) (K.contents output.new) result }
+fn print_order<K: Sink>(alloc: Global, versions: Versions, output: &mut K) -> Status
+    ensures printed { IsPrinted (texts_printed (texts versions.entry)) (K.contents output.old) (K.contents output.new) result }
     ensures write_fault { result ≡ Status.WriteFault → Rose (K.faults output.old) (K.faults output.new) }
 {
-    let Some(kind) = kind_of(name) else {
+    let Some(kind) = kind_of(versions.packages) else {
         return print_usage(output);
     };
-    match compare_as(alloc, kind, first, second) {
+    match compare_as(alloc, kind, versions.first, versions.second) {
         Ok(compared) => print_compared(output, compared),
         Err(NoMemory) => Status::NoMemory,
     }

@@ -1,20 +1,26 @@
+ghost use Rattle.std.specs.Prelude.{◌<◌, ◌≤◌, ◌^◌, length, All};
+
+mod drills;
 mod failures;
 mod layers;
 mod scans;
 mod services;
 mod texts;
 mod versions;
+mod workers;
 
 use crate::run::run;
 use crate::status::Status;
 use crate::tests::layers::Layers;
 use crate::tests::texts::expand;
 use cv_base::Seq;
-use cv_desk::{Faulty, TableDesk};
+use cv_desk::{Desk, Faulty, TableDesk};
 use cv_io::{MemSink, MemSource};
 use std::alloc::Global;
 use std::process::Abort;
+use std::sync::Wait;
 use std::test::Fail;
+use std::thread::Threads;
 
 /// The line for arguments that are not a command.
 const USAGE: &str = "usage: cvwatch serve|scan|order|drill\n";
@@ -45,39 +51,59 @@ const CALM: Outside = Outside {
 };
 
 /// Tries each of these runs, where nothing fails.
-fn try_all(rt: &impl Abort, alloc: Global, cases: &[Case]) -> Result<(), Fail> {
+fn try_all<R: Abort + Threads + Wait + Sync>(
+    rt: &R,
+    alloc: Global,
+    cases: &[Case],
+) -> Result<(), Fail> {
     for case in cases {
         try_one(rt, alloc, case, &CALM)?;
     }
     Ok(())
 }
 
-/// Tries a run, and compares what it prints.
-fn try_one(rt: &impl Abort, alloc: Global, case: &Case, outside: &Outside) -> Result<(), Fail> {
+/// Tries a run over one desk, and compares what it prints.
+fn try_one<R: Abort + Threads + Wait + Sync>(
+    rt: &R,
+    alloc: Global,
+    case: &Case,
+    outside: &Outside,
+) -> Result<(), Fail> {
     let want = expand(alloc, case.output)?;
     let mut sink = MemSink::new(alloc, outside.piece.max(1), listed(alloc, outside.writes)?);
-    let status = run_case(alloc, case, outside, &mut sink)?;
+    let desk = Faulty::new(TableDesk::<Layers>::new(), listed(alloc, outside.desk)?);
+    let mut desks = vec![in alloc; desk]?;
+    let status = run_over(
+        rt,
+        alloc,
+        case.arguments,
+        case.input,
+        outside.reads,
+        &mut sink,
+        &mut desks,
+    )?;
     assert_eq!(rt; status, case.status, "{:?}", case.arguments);
     assert_eq!(rt; sink.bytes(), want.as_bytes(), "{want}");
     Ok(())
 }
 
-/// Runs the program over the layers of the tests.
-fn run_case(
+/// Runs the program over these desks. Some reads of the input fail, numbered from 1.
+fn run_over<R: Threads + Wait + Sync, D: Desk + Drop + Send + Sync>(
+    rt: &R,
     alloc: Global,
-    case: &Case,
-    outside: &Outside,
+    arguments: &[&str],
+    input: &str,
+    reads: &[u64],
     sink: &mut MemSink,
-) -> Result<Status, Fail> {
-    let mut source = MemSource::new(
-        bytes_of(alloc, case.input)?,
-        100,
-        listed(alloc, outside.reads)?,
-    );
-    let arguments = arguments_of(alloc, case.arguments)?;
-    let desk = Faulty::new(TableDesk::<Layers>::new(), listed(alloc, outside.desk)?);
-    let mut desks = vec![in alloc; desk]?;
-    Ok(run(alloc, arguments.as_slice(), &mut source, sink, &mut desks))
+    desks: &mut Vec<D>,
+) -> Result<Status, Fail>
+    requires has_desks { 1 ≤ length desks.old.items }
+    requires at_most_8_desks { length desks.old.items ≤ 8 }
+    requires room { All (λ desk. D.listings desk < 2 ^ 62) desks.old.items }
+{
+    let mut source = MemSource::new(bytes_of(alloc, input)?, 100, listed(alloc, reads)?);
+    let arguments = arguments_of(alloc, arguments)?;
+    Ok(run(rt, alloc, arguments.as_slice(), &mut source, sink, desks))
 }
 
 fn bytes_of(alloc: Global, text: &str) -> Result<Seq<u8>, Fail> {

@@ -2,7 +2,7 @@ use crate::status::Status;
 use crate::tests::Case;
 
 /// Sessions of the service, and their transcripts.
-pub static CASES: [Case; 8] = [
+pub static CASES: [Case; 9] = [
     // an input without a line
     Case {
         arguments: &["serve"],
@@ -13,6 +13,13 @@ pub static CASES: [Case; 8] = [
     // an input without a line
     Case {
         arguments: &["serve", "--workers", "1"],
+        input: "",
+        status: Status::Done,
+        output: "",
+    },
+    // the number of workers in the same argument
+    Case {
+        arguments: &["serve", "--workers=1"],
         input: "",
         status: Status::Done,
         output: "",

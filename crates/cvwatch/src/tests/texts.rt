@@ -2,7 +2,7 @@ use std::alloc::Global;
 use std::test::Fail;
 
 /// Texts that stand in the tests for their names.
-static TEXTS: [(&str, &str); 6] = [
+static TEXTS: [(&str, &str); 7] = [
     // Debian's source package openssl, fixed in 3.0.11-1
     (
         "openssl",
@@ -26,6 +26,11 @@ static TEXTS: [(&str, &str); 6] = [
     (
         "module-y-found",
         r#"{"advisory":"N-2","arch":"","ecosystem":"npm","feed":"scan","fixed":null,"kind":"npm","name":"y","path":"srv/node_modules/y/package.json","source":"y","source_version":"1.0.0","version":"1.0.0"}"#,
+    ),
+    // a finding of openssl by a feed of a service
+    (
+        "openssl-in-deb",
+        r#"{"advisory":"X-1","arch":"amd64","ecosystem":"Debian:12","feed":"deb","fixed":"3.0.11-1","kind":"deb","name":"libssl3","path":"var/lib/dpkg/status","source":"openssl","source_version":"3.0.9-1","version":"3.0.9-1+b1"}"#,
     ),
     // a finding of openssl by a scan
     (

@@ -2,7 +2,7 @@ use crate::status::Status;
 use crate::tests::{Case, USAGE};
 
 /// Comparisons of versions, and arguments that are not a command.
-pub static CASES: [Case; 22] = [
+pub static CASES: [Case; 26] = [
     Case {
         arguments: &["order", "deb", "1.0~rc1", "1.0"],
         input: "",
@@ -130,6 +130,33 @@ pub static CASES: [Case; 22] = [
     },
     Case {
         arguments: &["serve", "1"],
+        input: "",
+        status: Status::Usage,
+        output: USAGE,
+    },
+    // more workers than desks
+    Case {
+        arguments: &["serve", "--workers", "2"],
+        input: "",
+        status: Status::Usage,
+        output: USAGE,
+    },
+    // an option that is given twice
+    Case {
+        arguments: &["serve", "--workers", "1", "--workers", "1"],
+        input: "",
+        status: Status::Usage,
+        output: USAGE,
+    },
+    // help
+    Case {
+        arguments: &["serve", "--help"],
+        input: "",
+        status: Status::Usage,
+        output: USAGE,
+    },
+    Case {
+        arguments: &["--help"],
         input: "",
         status: Status::Usage,
         output: USAGE,

@@ -1,7 +1,8 @@
 use Rattle.std.specs.Prelude.{map, string_bytes}
-use Rattle.cvwatch.proofs.Ends.{commands_blame_none}
+use Rattle.cvwatch.proofs.Unread.{unread_ends}
+use Rattle.cvwatch.specs.Arguments.{command_of}
 use Rattle.cvwatch.proofs.run.run.Goals as goal
 
-pub returns-in-Print-clause-desk_fault : goal.returns-in-Print-clause-desk_fault
-returns-in-Print-clause-desk_fault g c h =
-    absurd (commands_blame_none (map (λ argument. string_bytes argument) c.args.arguments.now) _ _ c.print_command.result c.print_command.ensures.printed h)
+pub returns-in-Err-clause-outcome : goal.returns-in-Err-clause-outcome
+returns-in-Err-clause-outcome g c =
+    unread_ends g.D.Desk.tree g.S.Source.remaining g.D.Desk.listings g.D.Desk.faults _ (command_of (map (λ argument. string_bytes argument) c.args.arguments.now)) _ c.requires.has_desks
