@@ -48,7 +48,7 @@ pub fn add(
 }
 
 /// The nanoseconds of processor time that the process has taken, or 0 if the system does not say it.
-pub fn processor_time(rt: &HostRuntime) -> u64 {
+pub fn processor_time<R: CpuClock>(rt: &R) -> u64 {
     match rt.process_cpu_time() {
         Ok(time) => time
             .as_secs()

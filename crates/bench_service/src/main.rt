@@ -2,26 +2,33 @@
 //!
 //! ```text
 //! bench_service core [IMAGES [TIMES [UPDATES]]]  registers images, indexes their layers and applies further events of each kind
+//! bench_service hub [IMAGES [TIMES]]             submits events and looks up reports at a hub of so many images, by 1, 2, 4 and 8 threads
 //! bench_service requests                         counts the requests among the lines of standard input
 //! bench_service json                             counts the JSON values among the lines of standard input, which it drops
 //! bench_service lines [LINES]                    makes lines of the transcript, and counts their bytes
 //! ```
 //!
 //! It prints the work and a count of what came of it. For `core` these are the kinds of events with how many of each were applied
-//! and, after the arguments, the nanoseconds of processor time for one. Without arguments it does a little of each but `core`.
+//! and, after the arguments, the nanoseconds of processor time for one; for `hub` they are the kind of work, the threads, how often
+//! all of them did it, how often in a second, and the nanoseconds of processor time for one. Without arguments it does a little of each
+//! but `core` and `hub`.
 #![tactic(auto)]
 
 mod cost;
+mod hub;
 mod images;
 mod input;
+mod lanes;
 mod layers;
 mod lines;
 mod records;
 mod service;
+mod speed;
 
 use crate::cost::Cost;
 use crate::input::Reading;
 use crate::service::Plan;
+use crate::speed::Speed;
 use cv_base::NoMemory;
 use std::{env, io};
 
@@ -33,6 +40,11 @@ fn main(rt: HostRuntime) -> io::Result<()> {
         arguments.push(argument)?;
     }
     match arguments.as_slice().split_first() {
+        Some((work, rest)) if work.as_str() == "hub" => {
+            let images = number(rest, 0, 10);
+            let speeds = hub::speeds_of(&rt, rt.alloc(), images, number(rest, 1, 100));
+            print_speeds(&rt, speeds)
+        }
         Some((work, rest)) => report(&rt, work.as_str(), rest),
         None => report_all(&rt),
     }
@@ -76,6 +88,27 @@ fn report_core(rt: &HostRuntime, arguments: &[String]) -> io::Result<()> {
         Ok(costs) => print_costs(rt, &costs, !arguments.is_empty()),
         Err(NoMemory) => println!(rt; "core: out of memory"),
     }
+}
+
+/// A line for each kind of work and number of threads.
+fn print_speeds(rt: &HostRuntime, speeds: Result<Vec<Speed>, NoMemory>) -> io::Result<()> {
+    let Ok(speeds) = speeds else {
+        return println!(rt; "hub: out of memory");
+    };
+    for work in speeds {
+        let Speed {
+            name,
+            threads,
+            count,
+            ..
+        } = work;
+        println!(rt;
+            "hub {name} {threads} {count} {} {}",
+            work.each_second(),
+            work.each()
+        )?;
+    }
+    Ok(())
 }
 
 /// A line for each kind of work: how often it was done, how many rows came of it, and if it is timed the nanoseconds for one.
