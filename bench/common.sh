@@ -62,13 +62,15 @@ progress() {
     done
 }
 
-# runs the command $2 of cvwatch, or `scan`, in the folder of examples/ that the script $1 stands in: the layers lie under
-# layers/sha256, and input.jsonl has the input. The answer has to be expected.jsonl, which is then printed
+# runs cvwatch with the arguments after $1, or with `scan`, in the folder of examples/ that the script $1 stands in: the layers lie
+# under layers/sha256, and input.jsonl has the input. The answer has to be expected.jsonl, which is then printed
 example() {
     local program
     program=$(build cvwatch)
     cd "$(dirname "$1")" || return
-    "$program" "${2:-scan}" <input.jsonl | diff - expected.jsonl
+    shift
+    [ $# -gt 0 ] || set -- scan
+    "$program" "$@" <input.jsonl | diff - expected.jsonl
     echo "the answer is expected.jsonl:"
     cat expected.jsonl
 }

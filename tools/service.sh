@@ -90,7 +90,7 @@ EOT
 
 # the input is a pipe that stays open: the answers of a round have to come while it does
 mkfifo pipe
-"$program" serve <pipe >answer &
+"$program" serve --workers 1 <pipe >answer &
 served=$!
 exec 3>pipe
 printf '%s\n\n\n' "$register" | whole >&3
@@ -128,10 +128,9 @@ mkdir -p layers/sha256
 : >"$layer"
 serve <<<"$register
 
-$report"
+"
 expect 'a layer that cannot be listed' "$(cat status)" 0 <<EOT
 $registered
-{"at":1,"image":"<1>","lane":0,"layer":"<a>","line":3,"read":"report","reply":"pending"}
 {"at":2,"event":"claim","layer":"<a>","reply":"claimed","worker":0}
 {"at":3,"event":"fault","layer":"<a>","reply":"requeued","worker":0}
 {"at":4,"event":"claim","layer":"<a>","reply":"claimed","worker":0}
