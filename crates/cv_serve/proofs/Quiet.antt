@@ -261,9 +261,8 @@ pub complete_of : {D : Type 0} (laws : Laws) (trees : Trees) (workers : ℕ) (li
     → IsComplete trees workers rounds entries after
 complete_of laws trees workers listings faults ds es rounds entries after h told many quiet none =
     let kept : HasNoFault entries = legal_quiet trees workers beginning rounds entries after h (all_free trees workers listings faults ds es rounds entries after h told many quiet) none in
-    let division = laws.divided trees workers beginning rounds entries after h in
     record {
       indexed = laws.indexed trees workers rounds entries after h kept;
-      division = division;
-      pending = laws.pending trees workers rounds entries after division kept;
+      divided = laws.divided trees workers beginning rounds entries after h;
+      pending = λ division. laws.pending trees workers rounds entries after division kept;
     }

@@ -30,9 +30,9 @@ is_memory_line (entry.Read read) = false
 abbrev pub HasNoMemoryLine : List Entry → Type 0
 HasNoMemoryLine entries = list_any is_memory_line entries ≡ false
 
--- each layer of each registered image is Indexed after these entries, and a report among them is pending only for an image that is
--- registered before it, in its round or in the round before
+-- Each layer of each registered image is Indexed after these entries. The entries are divided into those of the rounds, and however
+-- they are so divided, a report is pending only for an image that is registered before it, in its round or in the round before.
 pub record IsComplete (trees : Trees) (workers : ℕ) (rounds : List Round) (entries : List Entry) (after : Moment) : Type 0 where
   pub indexed : AreAllIndexed after.state
-  pub division : AreDivided trees workers beginning rounds entries after
-  pub pending : ArePendingRecent [] division.parts
+  pub divided : AreDivided trees workers beginning rounds entries after
+  pub pending : (division : AreDivided trees workers beginning rounds entries after) → ArePendingRecent [] division.parts
