@@ -13,13 +13,17 @@ pub trait Crew<H, S, K> {
     /// What was done.
     ghost did: { Self → ℕ → H → H → S → S → K → K → Type 0 };
 
+    /// Whether so little work is there that threads are not worth it.
+    fn is_idle(&self) -> bool;
+
     /// Does the work of one number.
     fn run(&self, number: u32, hand: &mut H, seat: &mut S, desk: &mut K) -> Result<(), NoMemory>
         requires { ready self.now number hand.old seat.old desk.old }
         ensures { OnOk result (did self.now number hand.old hand.new seat.old seat.new desk.old desk.new) };
 }
 
-/// Does the work of all numbers from one on, beside each other, as far as all slices go.
+/// Does the work of all numbers from one on, beside each other, as far as all slices go. The last one has no thread of its own, and
+/// none has if the crew is idle.
 #[cycle(crew)]
 pub fn run_crew<H: Send, S: Send, K: Send, T: Crew<H, S, K> + Sync, W: Threads + Sync>(
     rt: &W,
@@ -42,6 +46,10 @@ pub fn run_crew<H: Send, S: Send, K: Send, T: Crew<H, S, K> + Sync, W: Threads +
     let Some((desk, desks)) = desks.split_first_mut() else {
         return Ok(());
     };
+    if desks.is_empty() || crew.is_idle() {
+        crew.run(number, hand, seat, desk)?;
+        return run_crew(rt, crew, number + 1, hands, seats, desks);
+    }
     crew_beside(rt, crew, number, hand, hands, seat, seats, desk, desks)
 }
 

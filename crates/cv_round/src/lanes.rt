@@ -22,6 +22,10 @@ impl<'a, D: Desk + Drop, L: Identity, W: Wait> Team<Seat<D, L>, Lane> for LaneTe
 
     ghost did = { λ _ before after lane lane_after. LaneAt D.tree L.limits before after lane lane_after };
 
+    fn is_idle(&self, lane: &Lane) -> bool {
+        lane.asked.is_empty()
+    }
+
     fn run(&self, seat: &mut Seat<D, L>, lane: &mut Lane) -> Result<(), NoMemory> {
         run_lane(self.rt, self.hub, seat, lane)
     }

@@ -7,7 +7,7 @@ use crate::team::{Team, run_team};
 use cv_seq::NoMemory;
 use std::thread::{Threads, join_mut};
 
-/// Does the work of a team beside that of a crew. The first seats are the team's, as many as it has parts, and the others the crew's.
+/// Does the work of a team beside that of a crew, or before it, if the crew is idle. The first seats are the team's, as many as it has parts, and the others the crew's.
 pub fn run_sides<
     S: Send,
     P: Send,
@@ -33,6 +33,10 @@ pub fn run_sides<
     ensures crew { OnOk result (EachDidFrom (C.did crew.now) 0 hands.old hands.new (drop (length parts.old) seats.old) (drop (length parts.old) seats.new) desks.old desks.new) }
 {
     let (front, back) = seats.split_at_mut(parts.len());
+    if crew.is_idle() {
+        run_team(rt, team, front, parts)?;
+        return run_crew(rt, crew, 0, hands, back, desks);
+    }
     let (team_end, crew_end) = join_mut(
         rt,
         &mut || -> Result<(), NoMemory>

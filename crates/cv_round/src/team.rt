@@ -13,13 +13,17 @@ pub trait Team<S, P> {
     /// What was done.
     ghost did: { Self → S → S → P → P → Type 0 };
 
+    /// Whether so little work is at a part that a thread of its own is not worth it.
+    fn is_idle(&self, part: &P) -> bool;
+
     /// Does the work of one place.
     fn run(&self, seat: &mut S, part: &mut P) -> Result<(), NoMemory>
         requires { ready self.now seat.old part.old }
         ensures { OnOk result (did self.now seat.old seat.new part.old part.new) };
 }
 
-/// Does the work of all places, beside each other, as far as both slices go.
+/// Does the work of all places, beside each other, as far as both slices go. Idle places have no thread of their own, and neither has
+/// the last place.
 pub fn run_team<S: Send, P: Send, T: Team<S, P> + Sync, W: Threads + Sync>(
     rt: &W,
     team: &T,
@@ -35,6 +39,10 @@ pub fn run_team<S: Send, P: Send, T: Team<S, P> + Sync, W: Threads + Sync>(
     let Some((part, parts)) = parts.split_first_mut() else {
         return Ok(());
     };
+    if parts.is_empty() || team.is_idle(part) {
+        team.run(seat, part)?;
+        return run_team(rt, team, seats, parts);
+    }
     let (first, others) = join_mut(
         rt,
         &mut || -> Result<(), NoMemory>

@@ -26,6 +26,10 @@ impl<'a, D: Desk + Drop, L: Identity, W: Wait> Crew<Hand, Seat<D, L>, D>
 
     ghost did = { λ crew worker hand hand_after seat seat_after desk desk_after. HandDid D.listings D.faults crew.queue.now worker hand hand_after seat seat_after desk desk_after };
 
+    fn is_idle(&self) -> bool {
+        self.queue.is_empty()
+    }
+
     fn run(
         &self,
         number: u32,
