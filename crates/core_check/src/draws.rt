@@ -59,6 +59,7 @@ pub struct Draws {
 }
 
 impl Draws {
+    /// The events that follow a seed.
     pub fn new(seed: u64) -> Draws {
         Draws { state: seed }
     }

@@ -20,6 +20,7 @@ pub struct Lines {
 }
 
 impl Lines {
+    /// No text yet.
     pub fn new(alloc: Global) -> Lines {
         Lines {
             alloc,
@@ -28,18 +29,22 @@ impl Lines {
         }
     }
 
+    /// What was added so far.
     pub fn as_str(&self) -> &str {
         self.text.as_str()
     }
 
+    /// Whether a part is missing.
     pub fn has_failed(&self) -> bool {
         self.failed
     }
 
+    /// Says that a part is missing.
     pub fn fail(&mut self) {
         self.failed = true;
     }
 
+    /// A word.
     pub fn word(&mut self, word: &str) {
         if self.text.push_str(word).is_err() {
             self.failed = true;
@@ -68,16 +73,19 @@ impl Lines {
         self.letter(" waits for ", layer);
     }
 
+    /// An image is scanned, and its findings follow.
     pub fn good(&mut self, image: u8, generation: u64) {
         self.letter(" | ", image);
         self.number(" good at ", generation);
     }
 
+    /// An image cannot be scanned, for a reason that names a layer or a line by its index.
     pub fn bad(&mut self, image: u8, why: &str, index: u64) {
         self.letter(" | ", image);
         self.number(why, index);
     }
 
+    /// A finding.
     pub fn finding(&mut self, found: Found<'_>) {
         self.word(", ");
         self.word(found.package);
@@ -91,6 +99,7 @@ impl Lines {
         self.word(found.fixed);
     }
 
+    /// A row of a notification.
     pub fn row(&mut self, image: u8, reason: Reason, found: Found<'_>) {
         self.letter("; ", image);
         self.word(match reason {

@@ -47,6 +47,7 @@ pub struct Machine {
 }
 
 impl Machine {
+    /// A machine without images, feeds and notifications.
     pub fn new(alloc: Global, limits: Limits) -> Result<Machine, NoMemory> {
         let mut machine = Machine {
             limits,
@@ -246,6 +247,7 @@ impl Machine {
         "acked"
     }
 
+    /// Whether there is a notification of a number.
     pub fn has_notification(&self, number: u64) -> bool {
         self.rows_of(number) > 0
     }

@@ -9,6 +9,7 @@ use std::alloc::Global;
 /// The letters of all images.
 pub static IMAGES: [u8; 7] = *b"ABCDEFG";
 
+/// The reply to an event.
 pub fn show_reply(out: &mut Lines, reply: &Reply) {
     match reply {
         Reply::Conflict { kept } => show_layers(out, "conflict, kept", kept.as_slice()),
@@ -57,6 +58,7 @@ pub fn show_state(alloc: Global, out: &mut Lines, core: &Service) {
     }
 }
 
+/// The layers that wait for a worker.
 pub fn show_queued(alloc: Global, out: &mut Lines, core: &Service) {
     match core.queued(alloc) {
         Ok(queued) => show_layers(out, " | queued", queued.as_slice()),
@@ -64,6 +66,7 @@ pub fn show_queued(alloc: Global, out: &mut Lines, core: &Service) {
     }
 }
 
+/// The notifications, with their numbers of rows.
 pub fn show_heads(alloc: Global, out: &mut Lines, notices: &Notices) {
     out.word(" | notices");
     match notices.list(alloc) {

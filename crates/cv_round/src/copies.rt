@@ -3,6 +3,7 @@ ghost use Rattle.std.specs.Prelude.{◌≡◌, IfOk};
 use cv_base::{Finding, NoMemory, Row, Seq};
 use std::alloc::Global;
 
+/// Findings that are equal to these.
 pub fn copy_findings(alloc: Global, findings: &[Finding]) -> Result<Seq<Finding>, NoMemory>
     ensures { IfOk result (λ copy. copy ≡ findings.now) }
 {
@@ -13,6 +14,7 @@ pub fn copy_findings(alloc: Global, findings: &[Finding]) -> Result<Seq<Finding>
     Ok(Seq::of(copy))
 }
 
+/// Rows that are equal to these.
 pub fn copy_rows(alloc: Global, rows: &[Row]) -> Result<Seq<Row>, NoMemory>
     ensures { IfOk result (λ copy. copy ≡ rows.now) }
 {

@@ -21,6 +21,7 @@ pub struct MadeDesk {
 }
 
 impl MadeDesk {
+    /// A desk with these layers.
     pub fn of(layers: Vec<MadeLayer>) -> MadeDesk {
         MadeDesk {
             layers,

@@ -5,9 +5,10 @@ use cv_base::{Advisory, Digest, Kind, NoMemory};
 use cv_desk::TableEntry;
 use std::alloc::Global;
 
-/// How many images are made, and a tenth of them.
+/// How many images are made.
 const IMAGES: u64 = 500;
 
+/// A tenth of them.
 pub const TENTH: u64 = 50;
 
 /// How many layers an image is made of.
