@@ -2,8 +2,9 @@
 use Rattle.std.proofs.Common.{◌≡◌, true, false, [], ◌∷◌, codes, refl}
 use Rattle.std.specs.Prelude.{Some, None}
 use Rattle.clap.proofs.OnLiterals.{clap_on_literals}
-use Rattle.cv_arguments.specs.Forms.{drill_app, order_app, scan_app, seed_of, serve_app, takes_scan, texts_of, workers_of}
+use Rattle.cv_arguments.specs.Forms.{comparison_of, drill_app, order_app, scan_app, seed_of, serve_app, takes_scan, workers_of}
 use Rattle.cv_arguments.specs.Simple.{rows_by}
+use Rattle.cv_arguments.specs.declared.order.Packages.TheVariants.{Deb, Apk, Semver}
 
 -- a scan has no arguments
 scans : (takes_scan [] ≡ true) × (takes_scan (codes "--" ∷ []) ≡ true) × (takes_scan (codes "walk" ∷ []) ≡ false) × (takes_scan (codes "--help" ∷ []) ≡ false)
@@ -28,9 +29,17 @@ drills : (seed_of (codes "7" ∷ []) ≡ Some 7) × (seed_of (codes "--" ∷ cod
 unfolding drill_app rows_by clap_on_literals
 drills = (refl, refl, refl, refl, refl, refl)
 
--- three texts are compared, neither more nor fewer
-orders : (texts_of (codes "deb" ∷ codes "1" ∷ codes "2~a" ∷ []) ≡ Some (record { packages = codes "deb"; first = codes "1"; second = codes "2~a" }))
-    × (texts_of (codes "deb" ∷ codes "--" ∷ codes "-1" ∷ codes "-" ∷ []) ≡ Some (record { packages = codes "deb"; first = codes "-1"; second = codes "-" }))
-    × (texts_of (codes "deb" ∷ codes "1" ∷ []) ≡ None) × (texts_of (codes "deb" ∷ codes "1" ∷ codes "2" ∷ codes "3" ∷ []) ≡ None)
+-- two versions are compared, neither more nor fewer
+orders : (comparison_of (codes "deb" ∷ codes "1" ∷ codes "2~a" ∷ []) ≡ Some (record { packages = Deb; first = codes "1"; second = codes "2~a" }))
+    × (comparison_of (codes "apk" ∷ codes "--" ∷ codes "-1" ∷ codes "-" ∷ []) ≡ Some (record { packages = Apk; first = codes "-1"; second = codes "-" }))
+    × (comparison_of (codes "--" ∷ codes "semver" ∷ [] ∷ codes "2" ∷ []) ≡ Some (record { packages = Semver; first = []; second = codes "2" }))
+    × (comparison_of (codes "deb" ∷ codes "1" ∷ []) ≡ None) × (comparison_of (codes "deb" ∷ codes "1" ∷ codes "2" ∷ codes "3" ∷ []) ≡ None)
 unfolding order_app rows_by clap_on_literals
-orders = (refl, refl, refl, refl)
+orders = (refl, refl, refl, refl, refl)
+
+-- the packages have one of the three names
+no_orders : (comparison_of (codes "rpm" ∷ codes "1" ∷ codes "2" ∷ []) ≡ None) × (comparison_of ([] ∷ codes "1" ∷ codes "2" ∷ []) ≡ None)
+    × (comparison_of (codes "Deb" ∷ codes "1" ∷ codes "2" ∷ []) ≡ None) × (comparison_of (codes "debian" ∷ codes "1" ∷ codes "2" ∷ []) ≡ None)
+    × (comparison_of (codes "deb" ∷ codes "-1" ∷ codes "2" ∷ []) ≡ None)
+unfolding order_app rows_by clap_on_literals
+no_orders = (refl, refl, refl, refl, refl)

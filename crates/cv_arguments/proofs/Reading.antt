@@ -1,7 +1,6 @@
 -- What clap's calls answer is what its meaning of a simple command says.
-use Rattle.std.proofs.Common.{◌≡◌, ℕ, Bool, true, false, List, [], ◌∷◌, length, refl, sym, ◌∙◌, ap, subst, inl, inr, cond}
-use Rattle.std.specs.Prelude.{◌≢◌, ◌&&◌, Option, Some, None, Result, Ok, Err, nat_lt, option_and_then, option_map, unwrap_or}
-use Rattle.std.specs.Borrow.{Bor}
+use Rattle.std.proofs.Common.{◌≡◌, ℕ, Bool, true, false, List, [], ◌∷◌, length, refl, sym, ◌∙◌, ap, inl, inr, cond}
+use Rattle.std.specs.Prelude.{◌≢◌, ◌&&◌, Option, Some, None, Result, Ok, Err, nat_lt, option_and_then}
 use Rattle.std.specs.Char.{digit_value}
 use Rattle.std.specs.List.{list_all}
 use Rattle.std.specs.Str.Parse.{AllDigits, ParsesUnsigned, digits_value, without_leading_plus}
@@ -82,9 +81,3 @@ got_number {E} G (Some t) (Some n) only none some = sym (number_read {E = E} t (
 got_number {E} G (Some t) None only none some =
     let read = some t refl in
     sym (number_read {E = E} t (Err read.0) (only t (Err read.0) read.1))
-
--- what a getter gives of a text
-pub got_text : (found : Option (Bor Text)) (default result : Bor Text) (text : Option Text) → option_map (λ s. s.now) found ≡ text → default.now ≡ []
-    → result ≡ unwrap_or found default → result.now ≡ unwrap_or text []
-got_text None default result text e d r = subst (λ t. result.now ≡ unwrap_or t []) e (ap (λ (b : Bor Text). b.now) r ∙ d)
-got_text (Some s) default result text e d r = subst (λ t. result.now ≡ unwrap_or t []) e (ap (λ (b : Bor Text). b.now) r)

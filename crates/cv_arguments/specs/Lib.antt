@@ -1,3 +1,4 @@
 pub mod Forms
 pub mod Simple
+pub mod Values
 pub mod Versions

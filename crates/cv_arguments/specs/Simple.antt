@@ -1,12 +1,12 @@
 -- The simple commands of clap (version 4, by the meaning that its specification in Rattle's kit gives them), and what is read by
 -- them.
-use Rattle.std.specs.Prelude.{ℕ, Bool, true, false, ◌&&◌, nat_le, nat_lt, if◌then◌else◌, List, [], ◌∷◌, Option, Some, None, option_and_then, unwrap_or}
+use Rattle.std.specs.Prelude.{ℕ, Bool, true, false, ◌&&◌, nat_le, nat_lt, if◌then◌else◌, List, [], ◌∷◌, Option, Some, None, option_and_then}
 use Rattle.std.specs.Str.Parse.{digits_value, without_leading_plus}
 use Rattle.clap.specs.Kinds.{Kinds}
 use Rattle.clap.specs.Faults.{fault_of}
 use Rattle.clap.specs.Simple.{App, matches_of, new_app, on_top}
 use Rattle.clap.specs.ValueTests.{is_numeral}
-use Rattle.clap.specs.Walk.{Row, Text, first_of}
+use Rattle.clap.specs.Walk.{Row, Text}
 
 -- a command without arguments, of which all arguments are read and none asks for help
 abbrev pub app_named : Text → App
@@ -38,7 +38,3 @@ within least most n = if nat_le least n && nat_le n most then Some n else None
 -- the number between two bounds that a text is, if there is one
 abbrev pub number_in : ℕ → ℕ → Option Text → Option ℕ
 number_in least most text = option_and_then (within least most) (option_and_then number text)
-
--- a text that was given, or the empty one
-abbrev pub text_in : Text → List Row → Text
-text_in id rows = unwrap_or (first_of id rows) []

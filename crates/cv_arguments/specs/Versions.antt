@@ -1,7 +1,7 @@
--- The texts that `order` compares (defined by this project), as a value.
-use Rattle.cv_arguments.specs.Forms.{Texts}
+-- The versions that `order` compares (defined by this project), as a value.
+use Rattle.cv_arguments.specs.Forms.{Comparison}
 use Rattle.cv_arguments.specs.declared.order.Versions.{Versions}
 
--- the texts of a struct that borrows them
-abbrev pub texts : Versions → Texts
-texts v = record { packages = v.packages.now; first = v.first.now; second = v.second.now }
+-- the comparison that a struct that borrows its texts asks for
+abbrev pub comparison_by : Versions → Comparison
+comparison_by v = record { packages = v.packages; first = v.first.now; second = v.second.now }

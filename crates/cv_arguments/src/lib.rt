@@ -10,6 +10,7 @@
 #![tactic(auto)]
 
 mod drill;
+mod laws;
 mod order;
 mod scan;
 mod serve;
@@ -18,6 +19,7 @@ mod simple;
 mod tests;
 
 pub use drill::seed_of;
-pub use order::{Versions, versions_of};
+pub use laws::order_laws;
+pub use order::{Packages, Versions, versions_of};
 pub use scan::takes_scan;
 pub use serve::workers_of;

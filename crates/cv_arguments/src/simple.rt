@@ -1,7 +1,7 @@
 ghost use Rattle.std.specs.Prelude.{◌≡◌, ◌≢◌, ◌≤◌, ◌<◌, ◌^◌, true, IfOk, map, string_bytes, option_and_then};
 ghost use Rattle.std.specs.Option.{option_map};
-ghost use Rattle.clap.specs.Words.{app_of, found_of, is_simple_and_free, one_of, rows_of};
-ghost use Rattle.cv_arguments.specs.Simple.{app_named, number, number_in, rows_by, text_in};
+ghost use Rattle.clap.specs.Words.{app_of, first_of, found_of, is_simple_and_free, one_of, rows_of};
+ghost use Rattle.cv_arguments.specs.Simple.{app_named, number, number_in, rows_by};
 
 use clap::error::ErrorKind;
 use clap::{ArgMatches, Command};
@@ -58,9 +58,9 @@ pub fn number_in(matches: &ArgMatches, id: &str, least: u32, most: u32) -> Optio
     }
 }
 
-/// The text of an argument, or the empty one.
-pub fn text_in<'a>(matches: &ArgMatches<'a>, id: &str) -> &'a str
-    ensures { result.now ≡ text_in id.now (rows_of (found_of matches.now)) }
+/// The text of an argument, if it has one.
+pub fn text_in<'a>(matches: &ArgMatches<'a>, id: &str) -> Option<&'a str>
+    ensures { option_map (λ text. text.now) result ≡ first_of id.now (rows_of (found_of matches.now)) }
 {
-    matches.get_str(id).unwrap_or("")
+    matches.get_str(id)
 }

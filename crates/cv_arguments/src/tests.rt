@@ -33,7 +33,7 @@ fn versions_are_read(rt: HostRuntime) -> Result<(), Fail> {
     let texts = arguments_of(alloc, &["deb", "1", "2~a"])?;
     match versions_of(alloc, texts.as_slice())? {
         Some(versions) => {
-            assert_eq!(rt; versions.packages, "deb");
+            assert_eq!(rt; versions.packages, Packages::Deb);
             assert_eq!(rt; versions.first, "1");
             assert_eq!(rt; versions.second, "2~a");
         }
@@ -41,5 +41,25 @@ fn versions_are_read(rt: HostRuntime) -> Result<(), Fail> {
     }
     let one = arguments_of(alloc, &["deb", "1"])?;
     assert!(rt; versions_of(alloc, one.as_slice())?.is_none());
+    Ok(())
+}
+
+#[test]
+fn packages_have_one_of_three_names(rt: HostRuntime) -> Result<(), Fail> {
+    let alloc = rt.alloc();
+    for (name, want) in [
+        ("deb", Some(Packages::Deb)),
+        ("apk", Some(Packages::Apk)),
+        ("semver", Some(Packages::Semver)),
+        ("rpm", None),
+        ("npm", None),
+        ("DEB", None),
+        ("debian", None),
+        ("", None),
+    ] {
+        let arguments = arguments_of(alloc, &[name, "1", "2"])?;
+        let found = versions_of(alloc, arguments.as_slice())?;
+        assert_eq!(rt; found.map(|versions| versions.packages), want, "of {name}");
+    }
     Ok(())
 }

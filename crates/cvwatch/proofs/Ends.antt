@@ -2,7 +2,6 @@
 use Rattle.std.proofs.Common.{◌≡◌, ℕ, ◌^◌, Bool, true, false, List, [], ◌∷◌, refl, ◌∙◌, ap, subst, inl, inr, ◌⊎◌}
 use Rattle.std.specs.Prelude.{IfSome, Option, Some, None, Ok, Err, if◌then◌else◌, codes}
 use Rattle.cv_base.specs.Texts.{same}
-use Rattle.cv_base.specs.declared.«package».PackageKind.{PackageKind}
 use Rattle.std.specs.Io.KnownBytes.{IsAtEnd}
 use Rattle.cv_base.specs.declared.advisory.Advisory.{Advisory}
 use Rattle.cv_base.specs.declared.manifest.Manifest.{Manifest}
@@ -16,8 +15,8 @@ use Rattle.cv_scan_input.specs.declared.error.InputError.TheVariants as input
 use Rattle.cv_transcript.specs.Refusal.{refusal_text}
 use Rattle.cvwatch.specs.Command.{AnswersRequest, IsAnswered, IsCutShort, IsIdle, IsRequestOf, ScanEnds}
 use Rattle.cvwatch.specs.Outcome.{Complete, Failed, Outcome, SaysOutcome, outcome_printed}
-use Rattle.cvwatch.specs.Order.{compared_as, compared_status, kind_of, order_of, order_printed, texts_printed}
-use Rattle.cv_arguments.specs.Forms.{Texts, texts_of}
+use Rattle.cvwatch.specs.Order.{compared_as, compared_status, comparison_printed, kind_of, order_of}
+use Rattle.cv_arguments.specs.Forms.{Comparison, comparison_of}
 use Rattle.std.specs.Option.{option_map_or}
 use Rattle.cvwatch.specs.Printed.{IsPrinted, Printed, usage}
 use Rattle.cvwatch.specs.Arguments.{command_line}
@@ -119,16 +118,12 @@ compared_ends (Ordered order) h = cc
 compared_ends NotFirst h = cc
 compared_ends NotSecond h = cc
 
-kind_ends : (kind : Option PackageKind) (first second : List ℕ) → (order_printed kind first second).ended ≡ status.DeskFault → ⊥
-kind_ends None first second h = usage_ends h
-kind_ends (Some kind) first second h = compared_ends (compared_as kind first second) h
-
-texts_end : (texts : Option Texts) → (option_map_or texts_printed texts usage).ended ≡ status.DeskFault → ⊥
-texts_end None h = usage_ends h
-texts_end (Some texts) h = kind_ends (kind_of texts.packages) texts.first texts.second h
+comparison_ends : (found : Option Comparison) → (option_map_or comparison_printed found usage).ended ≡ status.DeskFault → ⊥
+comparison_ends None h = usage_ends h
+comparison_ends (Some comparison) h = compared_ends (compared_as (kind_of comparison.packages) comparison.first comparison.second) h
 
 order_ends : (arguments : List (List ℕ)) → (order_of arguments).ended ≡ status.DeskFault → ⊥
-order_ends arguments h = texts_end (texts_of arguments) h
+order_ends arguments h = comparison_ends (comparison_of arguments) h
 
 command_by : (b : Bool) (arguments : List (List ℕ)) → (if b then order_of arguments else usage).ended ≡ status.DeskFault → ⊥
 command_by true arguments h = order_ends arguments h

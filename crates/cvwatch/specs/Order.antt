@@ -1,10 +1,11 @@
 -- What the command `order` prints (defined by this project): how two versions compare, by the order of Debian, of Alpine or
 -- of semantic versions, or which of the two is not a valid version.
-use Rattle.std.specs.Prelude.{ℕ, if◌then◌else◌, List, codes, Option, Some, None}
+use Rattle.std.specs.Prelude.{ℕ, if◌then◌else◌, List, codes}
 use Rattle.std.specs.Option.{option_map_or}
 use Rattle.std.specs.declared.cmp.Ordering.TheVariants.{Less, Equal, Greater}
-use Rattle.cv_arguments.specs.Forms.{Texts, texts_of}
-use Rattle.cv_base.specs.Texts.{same}
+use Rattle.cv_arguments.specs.Forms.{Comparison, comparison_of}
+use Rattle.cv_arguments.specs.declared.order.Packages.{Packages}
+use Rattle.cv_arguments.specs.declared.order.Packages.TheVariants as packages
 use Rattle.cv_base.specs.declared.«package».PackageKind.{PackageKind}
 use Rattle.cv_base.specs.declared.«package».PackageKind.TheVariants.{Deb, Apk, Npm}
 use Rattle.cv_match.specs.Order.{is_version_of, version_cmp_of}
@@ -14,12 +15,11 @@ use Rattle.cvwatch.specs.declared.order.Compared.TheVariants.{Ordered, NotFirst,
 use Rattle.cvwatch.specs.declared.status.Status.{Status}
 use Rattle.cvwatch.specs.declared.status.Status.TheVariants as status
 
--- the packages whose versions an argument names; npm has semantic versions
-abbrev pub kind_of : List ℕ → Option PackageKind
-kind_of name =
-    if same name (codes "deb") then Some Deb
-    else (if same name (codes "apk") then Some Apk
-    else (if same name (codes "semver") then Some Npm else None))
+-- the kind of the packages; those of npm have semantic versions
+abbrev pub kind_of : Packages → PackageKind
+kind_of packages.Deb = Deb
+kind_of packages.Apk = Apk
+kind_of packages.Semver = Npm
 
 -- how two texts compare, or the first one that is not a valid version
 abbrev pub compared_as : PackageKind → List ℕ → List ℕ → Compared
@@ -45,15 +45,10 @@ compared_status NotSecond = status.Refused
 abbrev pub compared_printed : Compared → Printed
 compared_printed compared = record { text = compared_text compared; ended = compared_status compared }
 
--- what is printed for these packages, if any, and two texts
-abbrev pub order_printed : Option PackageKind → List ℕ → List ℕ → Printed
-order_printed None first second = usage
-order_printed (Some kind) first second = compared_printed (compared_as kind first second)
+-- what is printed for a comparison
+abbrev pub comparison_printed : Comparison → Printed
+comparison_printed comparison = compared_printed (compared_as (kind_of comparison.packages) comparison.first comparison.second)
 
--- what is printed for the texts of the arguments
-abbrev pub texts_printed : Texts → Printed
-texts_printed texts = order_printed (kind_of texts.packages) texts.first texts.second
-
--- what is printed for the arguments: if they are taken, the texts are compared, and all other arguments print the usage line
+-- what is printed for the arguments: the comparison for which they ask, if they are taken, and all others print the usage line
 abbrev pub order_of : List (List ℕ) → Printed
-order_of arguments = option_map_or texts_printed (texts_of arguments) usage
+order_of arguments = option_map_or comparison_printed (comparison_of arguments) usage

@@ -1,15 +1,15 @@
 ghost use Rattle.std.specs.Prelude.{◌≡◌, true, IfOk, map, string_bytes};
-ghost use Rattle.cv_arguments.specs.Versions.{texts};
+ghost use Rattle.cv_arguments.specs.Versions.{comparison_by};
 ghost use Rattle.cv_base.specs.declared.«package».PackageKind.TheVariants as kind;
 ghost use Rattle.cv_match.specs.Order.{version_in};
 ghost use Rattle.cv_seq.specs.Cause.{Rose};
-ghost use Rattle.cvwatch.specs.Order.{compared_as, compared_printed, compared_status, compared_text, kind_of, order_of, texts_printed};
+ghost use Rattle.cvwatch.specs.Order.{compared_as, compared_printed, compared_status, compared_text, comparison_printed, kind_of, order_of};
 ghost use Rattle.cvwatch.specs.Printed.{IsPrinted, is_end};
 
 use crate::print::print;
 use crate::status::Status;
 use crate::usage::print_usage;
-use cv_arguments::{Versions, versions_of};
+use cv_arguments::{Packages, Versions, versions_of};
 use cv_base::{NoMemory, PackageKind, Text};
 use cv_io::Sink;
 use cv_match::SemanticVersion;
@@ -39,29 +39,26 @@ pub fn order_command<K: Sink>(alloc: Global, arguments: &[String], output: &mut 
     }
 }
 
-/// Prints how two texts compare as versions of the packages with this name.
+/// Prints how two texts compare as versions of packages.
 fn print_order<K: Sink>(alloc: Global, versions: Versions, output: &mut K) -> Status
-    ensures printed { IsPrinted (texts_printed (texts versions.entry)) (K.contents output.old) (K.contents output.new) result }
+    ensures printed { IsPrinted (comparison_printed (comparison_by versions.entry)) (K.contents output.old) (K.contents output.new) result }
     ensures write_fault { result ≡ Status.WriteFault → Rose (K.faults output.old) (K.faults output.new) }
 {
-    let Some(kind) = kind_of(versions.packages) else {
-        return print_usage(output);
-    };
+    let kind = kind_of(versions.packages);
     match compare_as(alloc, kind, versions.first, versions.second) {
         Ok(compared) => print_compared(output, compared),
         Err(NoMemory) => Status::NoMemory,
     }
 }
 
-/// The packages whose versions an argument names.
-fn kind_of(name: &str) -> Option<PackageKind>
-    ensures { result ≡ kind_of name.now }
+/// The kind of these packages.
+fn kind_of(packages: Packages) -> PackageKind
+    ensures { result ≡ kind_of packages }
 {
-    match name {
-        "deb" => Some(PackageKind::Deb),
-        "apk" => Some(PackageKind::Apk),
-        "semver" => Some(PackageKind::Npm),
-        _ => None,
+    match packages {
+        Packages::Deb => PackageKind::Deb,
+        Packages::Apk => PackageKind::Apk,
+        Packages::Semver => PackageKind::Npm,
     }
 }
 

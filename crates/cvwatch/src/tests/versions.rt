@@ -2,7 +2,7 @@ use crate::status::Status;
 use crate::tests::{Case, USAGE};
 
 /// Comparisons of versions, and arguments that are not a command.
-pub static CASES: [Case; 26] = [
+pub static CASES: [Case; 29] = [
     Case {
         arguments: &["order", "deb", "1.0~rc1", "1.0"],
         input: "",
@@ -85,6 +85,24 @@ pub static CASES: [Case; 26] = [
         input: "",
         status: Status::Usage,
         output: USAGE,
+    },
+    Case {
+        arguments: &["order", "Deb", "1", "2"],
+        input: "",
+        status: Status::Usage,
+        output: USAGE,
+    },
+    Case {
+        arguments: &["order", "", "1", "2"],
+        input: "",
+        status: Status::Usage,
+        output: USAGE,
+    },
+    Case {
+        arguments: &["order", "semver", "--", "1.0.0", "1.0.0"],
+        input: "",
+        status: Status::Done,
+        output: "=\n",
     },
     Case {
         arguments: &["order", "deb", "1"],

@@ -1,8 +1,7 @@
-use Rattle.std.proofs.Common.{◌∙◌, refl}
+use Rattle.std.proofs.Common.{◌∙◌}
 use Rattle.clap.specs.Matches.{found_of}
 use Rattle.clap.proofs.WalkLemmas.{first_value-rows}
-use Rattle.cv_arguments.proofs.Reading.{got_text}
 use Rattle.cv_arguments.proofs.simple.text_in.Goals as goal
 
 pub returns : goal.returns
-returns c = got_text c.get_str.result _ c.unwrap_or.result _ (c.get_str.ensures ∙ first_value-rows (found_of c.args.matches.now) c.args.id.now) refl c.unwrap_or.ensures
+returns c = c.get_str.ensures ∙ first_value-rows (found_of c.args.matches.now) c.args.id.now
