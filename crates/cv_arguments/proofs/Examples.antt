@@ -4,6 +4,7 @@ use Rattle.std.specs.Prelude.{Some, None}
 use Rattle.clap.proofs.OnLiterals.{clap_on_literals}
 use Rattle.cv_arguments.specs.Forms.{comparison_of, drill_app, order_app, scan_app, seed_of, serve_app, takes_scan, workers_of}
 use Rattle.cv_arguments.specs.Simple.{rows_by}
+use Rattle.cv_arguments.specs.Values.{is_option, values_of}
 use Rattle.cv_arguments.specs.declared.order.Packages.TheVariants.{Deb, Apk, Semver}
 
 -- a scan has no arguments
@@ -43,3 +44,15 @@ no_orders : (comparison_of (codes "rpm" ∷ codes "1" ∷ codes "2" ∷ []) ≡ 
     × (comparison_of (codes "deb" ∷ codes "-1" ∷ codes "2" ∷ []) ≡ None)
 unfolding order_app rows_by clap_on_literals
 no_orders = (refl, refl, refl, refl, refl)
+
+-- an option begins with a hyphen, and has more than that
+options : (is_option (codes "-") ≡ false) × (is_option (codes "--") ≡ false) × (is_option [] ≡ false) × (is_option (codes "1-") ≡ false)
+    × (is_option (codes "-1") ≡ true) × (is_option (codes "--workers") ≡ true) × (is_option (codes "--=") ≡ true)
+unfolding clap_on_literals
+options = (refl, refl, refl, refl, refl, refl, refl)
+
+-- what `--` ends
+values : (values_of (codes "a" ∷ codes "--" ∷ codes "-b" ∷ codes "--" ∷ []) ≡ Some (codes "a" ∷ codes "-b" ∷ codes "--" ∷ []))
+    × (values_of (codes "a" ∷ codes "-b" ∷ codes "--" ∷ []) ≡ None)
+unfolding values_of clap_on_literals
+values = (refl, refl)

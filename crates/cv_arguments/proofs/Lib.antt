@@ -1,5 +1,11 @@
+pub mod DrillForm
 pub mod Examples
+pub mod Numbers
+pub mod Options
 pub mod OrderForm
 pub mod OrderWalk
 pub mod Reading
+pub mod ScanForm
+pub mod ServeForm
+pub mod ServeWalk
 pub mod WalkLemmas

@@ -17,6 +17,7 @@ use Rattle.cv_arguments.specs.Simple.{rows_by}
 use Rattle.cv_arguments.specs.Versions.{comparison_by}
 use Rattle.cv_arguments.specs.declared.order.Versions.{Versions}
 use Rattle.cv_arguments.specs.Values.{order_form, order_values, values_of}
+use Rattle.cv_arguments.proofs.Options.{and_then_same, and_then_twice, is_some-map, some_same}
 use Rattle.cv_arguments.proofs.WalkLemmas.{nothing}
 use Rattle.cv_arguments.proofs.OrderWalk.{after_two, of_values, rows_of_values}
 
@@ -39,10 +40,6 @@ same_values names same [] = refl
 same_values names same (a ∷ []) = refl
 same_values names same (a ∷ b ∷ values) =
     ap (λ named. cond named (after_two a b values) None) (accepted names a same ∙ sym (accepted (names_of package_names) a refl))
-
-and_then_same : {X Y : Type 0} (f g : X → Option Y) → ((x : X) → f x ≡ g x) → (found : Option X) → option_and_then f found ≡ option_and_then g found
-and_then_same f g same None = refl
-and_then_same f g same (Some x) = same x
 
 -- where the names lie makes no difference
 pub any_place : (names : Names) → map (λ name. name.now) names.now ≡ package_names → (arguments : List Text) → rows_by (order_app names) arguments ≡ order_rows arguments
@@ -72,10 +69,6 @@ rows_values (a ∷ b ∷ c ∷ d ∷ values) = go (accepts false (parser.Names (
     go true = refl
     go false = refl
 
-and_then_twice : {X Y Z : Type 0} (f : Y → Option Z) (g : X → Option Y) (found : Option X) → option_and_then f (option_and_then g found) ≡ option_and_then (λ x. option_and_then f (g x)) found
-and_then_twice f g None = refl
-and_then_twice f g (Some x) = refl
-
 -- the comparison, by the values
 pub comparison_form : (arguments : List Text) → comparison_of arguments ≡ order_form arguments
 comparison_form arguments =
@@ -103,11 +96,6 @@ some_by_values (a ∷ b ∷ c ∷ d ∷ values) = go (accepts false (parser.Name
     go true = refl
     go false = refl
 
-some_same : {X Y Z : Type 0} (f : X → Option Y) (g : X → Option Z) → ((x : X) → is_some (f x) ≡ is_some (g x)) → (found : Option X)
-    → is_some (option_and_then f found) ≡ is_some (option_and_then g found)
-some_same f g same None = refl
-some_same f g same (Some x) = same x
-
 pub comparison_taken : (arguments : List Text) → is_some (comparison_of arguments) ≡ is_some (order_rows arguments)
 comparison_taken arguments =
     ap is_some (comparison_form arguments)
@@ -118,10 +106,6 @@ comparison_taken arguments =
 pub read_order : (app : App) (names : Names) (arguments : List Text) (found : Option (List Row))
     → app ≡ order_app names → map (λ name. name.now) names.now ≡ package_names → found ≡ rows_by app arguments → found ≡ order_rows arguments
 read_order app names arguments found is_app same read = read ∙ ap (λ a. rows_by a arguments) is_app ∙ any_place names same arguments
-
-is_some-map : {X Y : Type 0} (f : X → Y) (found : Option X) → is_some found ≡ is_some (option_map f found)
-is_some-map f None = refl
-is_some-map f (Some x) = refl
 
 -- versions are given for all arguments that are taken
 pub versions_given : (arguments : List Text) (rows : List Row) (versions : Option Versions) → Some rows ≡ order_rows arguments → option_map comparison_by versions ≡ comparison_in rows

@@ -1,41 +1,19 @@
 -- What clap reads of the arguments of `order`, by their values.
-use Rattle.std.proofs.Common.{◌≡◌, ℕ, Bool, true, false, List, [], ◌∷◌, refl, ◌∙◌, cond}
+use Rattle.std.proofs.Common.{◌≡◌, Bool, true, false, List, [], ◌∷◌, refl, ◌∙◌, cond}
 use Rattle.std.specs.Prelude.{Option, Some, None, codes, option_and_then}
-use Rattle.clap.specs.Simple.{Shape, new_shape, new_rule}
+use Rattle.clap.specs.Simple.{Shape}
 use Rattle.clap.specs.ValueTests.{accepts}
-use Rattle.clap.specs.Walk.{Row, Rule, Text}
-use Rattle.clap.specs.declared.builder.action.ArgAction.TheVariants.{Set}
-use Rattle.clap.specs.declared.builder.value_parser.ValueParser.{ValueParser}
+use Rattle.clap.specs.Walk.{Row, Text}
 use Rattle.clap.specs.declared.builder.value_parser.ValueParser.TheVariants as parser
-use Rattle.clap.specs.declared.builder.value_parser.Reading.TheVariants.{AsWritten}
-use Rattle.clap.specs.declared.parser.matches.ValueSource.TheVariants.{CommandLine}
 use Rattle.clap.proofs.OnLiterals.{clap_on_literals}
 use Rattle.cv_arguments.specs.Forms.{Names, order_app}
 use Rattle.cv_arguments.specs.Simple.{rows_by}
 use Rattle.cv_arguments.specs.Values.{values_of}
-use Rattle.cv_arguments.proofs.WalkLemmas.{HasNoLong, HasNoShort, IsValue, at, by_values, nothing_after, refuses_after_end, refuses_value, rows_from, takes_after_end, takes_value, without_subcommands}
-
--- an argument as clap fills it in: it has a place, and each use has one value
-abbrev positional : Text → ℕ → ValueParser → Rule
-positional id index parser = record (new_rule id) {
-  index = Some index;
-  action = Some Set;
-  range = Some (record { start_inclusive = 1; end_inclusive = 1 });
-  parser = Some parser;
-  required = true;
-}
+use Rattle.cv_arguments.proofs.WalkLemmas.{HasNoLong, HasNoShort, IsValue, at, by_values, given, nothing_after, positional, refuses_after_end, refuses_value, rows_from, shape_named, takes_after_end, takes_value, value_row, without_subcommands}
 
 abbrev order_shape : Names → Shape
-order_shape names = record (new_shape (codes "order")) {
-  rules = positional (codes "packages") 1 (parser.Names names) ∷ positional (codes "first") 2 parser.String ∷ positional (codes "second") 3 parser.String ∷ [];
-  no_binary_name = true;
-  disable_help_flag = true;
-  disable_help_subcommand = true;
-  is_built = true;
-}
-
-abbrev pub value_row : Text → Text → Row
-value_row id value = record { id = id; values = value ∷ []; count = None; source = Some CommandLine; reading = AsWritten }
+order_shape names =
+    shape_named (codes "order") (positional (codes "packages") 1 (parser.Names names) ∷ positional (codes "first") 2 parser.String ∷ positional (codes "second") 3 parser.String ∷ [])
 
 -- what is read of values, after those that were read
 abbrev pub after_three : Text → Text → Text → List Text → Option (List Row)
@@ -59,9 +37,6 @@ no_long names name = refl
 
 no_short : (names : Names) → HasNoShort (order_shape names)
 no_short names x = refl
-
-abbrev given : Text → Text → Option (Text × List Text)
-given id value = Some (id, value ∷ [])
 
 abbrev one_row : Text → List Row
 one_row a = value_row (codes "packages") a ∷ []

@@ -1,12 +1,16 @@
--- A walk of clap over the arguments of a command that has positionals alone.
+-- A walk of clap over the arguments of a command, first of any, and then of one that has no options.
 use Rattle.std.proofs.Common.{◌≡◌, ℕ, Bool, true, false, List, [], ◌∷◌, refl, ◌∙◌, ap, cond}
 use Rattle.std.specs.Prelude.{Option, Some, None, is_some, codes, fold, option_and_then, option_map, slice_get}
 use Rattle.std.specs.Str.{bytes_eq, chars}
 use Rattle.clap.specs.Faults.{check_fault, built_fault, defaults_fault, entered_fault, flags_fault, settle_fault, step_fault, turn_fault, walk_fault}
 use Rattle.clap.specs.Kinds.{Kinds, or_else}
 use Rattle.clap.specs.Lexer.{long_of, short_of}
-use Rattle.clap.specs.Simple.{Shape, entered}
-use Rattle.clap.specs.Walk.{Held, Row, Text, Walk, arg_by_index, arg_by_long, arg_by_short, bundle_met, finished, idle, settled, to_positional, value, walk, walk_from, walked}
+use Rattle.clap.specs.Simple.{Shape, entered, new_rule, new_shape}
+use Rattle.clap.specs.Walk.{Held, Row, Rule, Text, Walk, arg_by_index, arg_by_long, arg_by_short, bundle_met, finished, idle, settled, to_positional, value, walk, walk_from, walked}
+use Rattle.clap.specs.declared.builder.action.ArgAction.TheVariants.{Set}
+use Rattle.clap.specs.declared.builder.value_parser.ValueParser.{ValueParser}
+use Rattle.clap.specs.declared.builder.value_parser.Reading.TheVariants.{AsWritten}
+use Rattle.clap.specs.declared.parser.matches.ValueSource.TheVariants.{CommandLine}
 use Rattle.cv_arguments.specs.Simple.{is_quiet}
 use Rattle.cv_arguments.specs.Values.{is_option, values_of}
 
@@ -179,3 +183,31 @@ nothing values = None
 pub nothing_after : (values : Option (List Text)) → None ≡ option_and_then nothing values
 nothing_after None = refl
 nothing_after (Some vs) = refl
+
+-- an argument as clap fills it in: it has a place, and each use has one value
+abbrev pub positional : Text → ℕ → ValueParser → Rule
+positional id index parser = record (new_rule id) {
+  index = Some index;
+  action = Some Set;
+  range = Some (record { start_inclusive = 1; end_inclusive = 1 });
+  parser = Some parser;
+  required = true;
+}
+
+-- the row of an argument with one value
+abbrev pub value_row : Text → Text → Row
+value_row id text = record { id = id; values = text ∷ []; count = None; source = Some CommandLine; reading = AsWritten }
+
+-- the value waits to be used
+abbrev pub given : Text → Text → Option (Text × List Text)
+given id text = Some (id, text ∷ [])
+
+-- a command with these arguments, as clap fills it in
+abbrev pub shape_named : Text → List Rule → Shape
+shape_named name rules = record (new_shape name) {
+  rules = rules;
+  no_binary_name = true;
+  disable_help_flag = true;
+  disable_help_subcommand = true;
+  is_built = true;
+}

@@ -1,5 +1,5 @@
 -- The arguments after the name of each command (defined by this project): the simple commands that read them, and what is read.
-use Rattle.std.specs.Prelude.{ℕ, Bool, true, is_some, if◌then◌else◌, List, [], ◌∷◌, map, codes, Option, Some, None, option_and_then, unwrap_or}
+use Rattle.std.specs.Prelude.{ℕ, Bool, true, is_some, if◌then◌else◌, List, [], ◌∷◌, map, codes, Option, Some, None, option_and_then}
 use Rattle.std.specs.Borrow.{Bor}
 use Rattle.std.specs.Option.{option_map}
 use Rattle.std.specs.Str.{bytes_eq}
@@ -101,10 +101,14 @@ seed_rule = record (required_rule (codes "seed")) { parser = Some (parser.Unsign
 unfoldable pub drill_app : App
 drill_app = with_rule (app_named (codes "drill")) seed_rule
 
--- the number; one that is required is given
-abbrev pub seed_in : List Row → ℕ
-seed_in rows = unwrap_or (number_in 0 4294967295 (one_of (codes "seed") rows)) 0
+-- what `drill` reads of its arguments, if they are taken
+abbrev pub drill_rows : List Text → Option (List Row)
+drill_rows arguments = rows_by drill_app arguments
 
--- the seed of a drill, if its command takes the arguments
+-- the number
+abbrev pub seed_in : List Row → Option ℕ
+seed_in rows = number_in 0 4294967295 (one_of (codes "seed") rows)
+
+-- the seed of a drill, if its command takes the arguments; a law says that there is one for all that it takes
 abbrev pub seed_of : List Text → Option ℕ
-seed_of arguments = option_map seed_in (rows_by drill_app arguments)
+seed_of arguments = option_and_then seed_in (drill_rows arguments)

@@ -1,6 +1,6 @@
-ghost use Rattle.std.specs.Prelude.{◌≡◌, true, IfOk, map, string_bytes};
+ghost use Rattle.std.specs.Prelude.{◌≡◌, true, is_some, IfOk, map, string_bytes};
 ghost use Rattle.clap.specs.Words.{app_of, found_of, is_simple_and_free, rows_of};
-ghost use Rattle.cv_arguments.specs.Forms.{drill_app, seed_in, seed_of};
+ghost use Rattle.cv_arguments.specs.Forms.{drill_app, drill_rows, seed_in, seed_of};
 
 use crate::simple::{command_named, number_in, read};
 use clap::builder::ValueParser;
@@ -9,21 +9,23 @@ use cv_seq::NoMemory;
 use std::alloc::{AllocError, Global};
 
 /// The seed of a drill, if the arguments are taken.
+#[tactic(auto, using(crate::proofs::DrillForm::seed_given))]
 pub fn seed_of(alloc: Global, arguments: &[String]) -> Result<Option<u32>, NoMemory>
-    ensures { IfOk result (λ found. found ≡ seed_of (map (λ argument. string_bytes argument) arguments.now)) }
+    ensures value { IfOk result (λ found. found ≡ seed_of (map (λ argument. string_bytes argument) arguments.now)) }
+    ensures taken { IfOk result (λ found. is_some found ≡ is_some (drill_rows (map (λ argument. string_bytes argument) arguments.now))) }
 {
     let command = drill_command(alloc)?;
     match read(command, arguments)? {
-        Some(matches) => Ok(Some(seed_in(&matches))),
+        Some(matches) => Ok(seed_in(&matches)),
         None => Ok(None),
     }
 }
 
-/// The number of the argument, which is required.
-fn seed_in(matches: &ArgMatches) -> u32
+/// The number of the argument. It is required, so that it is there.
+fn seed_in(matches: &ArgMatches) -> Option<u32>
     ensures { result ≡ seed_in (rows_of (found_of matches.now)) }
 {
-    number_in(matches, "seed", 0, u32::MAX).unwrap_or(0)
+    number_in(matches, "seed", 0, u32::MAX)
 }
 
 #[tactic(auto, unfolding(crate::specs::Forms::drill_app))]

@@ -19,7 +19,7 @@ mod simple;
 mod tests;
 
 pub use drill::seed_of;
-pub use laws::order_laws;
+pub use laws::{drill_laws, order_laws, scan_law, serve_laws};
 pub use order::{Packages, Versions, versions_of};
 pub use scan::takes_scan;
 pub use serve::workers_of;
