@@ -2,7 +2,7 @@
 use Rattle.std.proofs.Common.{◌≡◌, true, false, [], ◌∷◌, codes, refl}
 use Rattle.std.specs.Prelude.{Some, None}
 use Rattle.clap.proofs.OnLiterals.{clap_on_literals}
-use Rattle.cv_arguments.specs.Forms.{comparison_of, drill_app, order_app, scan_app, seed_of, serve_app, takes_scan, workers_of}
+use Rattle.cv_arguments.specs.Forms.{comparison_of, drill_app, name_of, order_app, packages_named, scan_app, seed_of, serve_app, takes_scan, workers_of}
 use Rattle.cv_arguments.specs.Simple.{rows_by}
 use Rattle.cv_arguments.specs.Values.{is_option, values_of}
 use Rattle.cv_arguments.specs.declared.order.Packages.TheVariants.{Deb, Apk, Semver}
@@ -44,6 +44,10 @@ no_orders : (comparison_of (codes "rpm" ∷ codes "1" ∷ codes "2" ∷ []) ≡ 
     × (comparison_of (codes "deb" ∷ codes "-1" ∷ codes "2" ∷ []) ≡ None)
 unfolding order_app rows_by clap_on_literals
 no_orders = (refl, refl, refl, refl, refl)
+
+-- each name is that of its packages
+names : (packages_named (name_of Deb) ≡ Some Deb) × (packages_named (name_of Apk) ≡ Some Apk) × (packages_named (name_of Semver) ≡ Some Semver)
+names = (refl, refl, refl)
 
 -- an option begins with a hyphen, and has more than that
 options : (is_option (codes "-") ≡ false) × (is_option (codes "--") ≡ false) × (is_option [] ≡ false) × (is_option (codes "1-") ≡ false)

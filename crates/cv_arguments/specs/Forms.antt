@@ -98,6 +98,7 @@ comparison_of arguments = option_and_then comparison_in (order_rows arguments)
 abbrev pub seed_rule : Rule
 seed_rule = record (required_rule (codes "seed")) { parser = Some (parser.Unsigned 0 4294967295) }
 
+-- `drill` has this argument
 unfoldable pub drill_app : App
 drill_app = with_rule (app_named (codes "drill")) seed_rule
 

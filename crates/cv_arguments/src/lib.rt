@@ -1,5 +1,5 @@
 //! Reads the arguments after the name of a command, with one simple command of clap each. What it answers is clap's published
-//! meaning of these commands.
+//! meaning of these commands. Laws say by cases what that meaning is.
 //!
 //! ```text
 //! match workers_of(alloc, arguments)? {
