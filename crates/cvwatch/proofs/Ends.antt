@@ -123,6 +123,7 @@ comparison_ends None h = usage_ends h
 comparison_ends (Some comparison) h = compared_ends (compared_as (kind_of comparison.packages) comparison.first comparison.second) h
 
 order_ends : (arguments : List (List ℕ)) → (order_of arguments).ended ≡ status.DeskFault → ⊥
+unfolding order_of
 order_ends arguments h = comparison_ends (comparison_of arguments) h
 
 command_by : (b : Bool) (arguments : List (List ℕ)) → (if b then order_of arguments else usage).ended ≡ status.DeskFault → ⊥

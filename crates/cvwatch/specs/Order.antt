@@ -50,5 +50,5 @@ abbrev pub comparison_printed : Comparison → Printed
 comparison_printed comparison = compared_printed (compared_as (kind_of comparison.packages) comparison.first comparison.second)
 
 -- what is printed for the arguments: the comparison for which they ask, if they are taken, and all others print the usage line
-abbrev pub order_of : List (List ℕ) → Printed
+unfoldable pub order_of : List (List ℕ) → Printed
 order_of arguments = option_map_or comparison_printed (comparison_of arguments) usage

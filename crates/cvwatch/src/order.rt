@@ -28,6 +28,7 @@ pub enum Compared {
 
 /// Prints how two versions compare. The arguments are `deb`, `apk` or `semver`, and the two; all other arguments print
 /// the usage line.
+#[tactic(auto, unfolding(crate::specs::Order::order_of))]
 pub fn order_command<K: Sink>(alloc: Global, arguments: &[String], output: &mut K) -> Status
     ensures printed { IsPrinted (order_of (map (λ argument. string_bytes argument) arguments.now)) (K.contents output.old) (K.contents output.new) result }
     ensures write_fault { result ≡ Status.WriteFault → Rose (K.faults output.old) (K.faults output.new) }
