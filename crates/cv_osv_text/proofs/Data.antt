@@ -1,0 +1,124 @@
+-- What serde_json makes of a tree without numbers, and how its members are found.
+use Rattle.std.specs.Prelude.{◌≡◌, ℕ, Bool, true, false, ◌||◌, cond, List, Option, Some, None, option_map, Ok, Err, refl}
+use Rattle.std.specs.Str.{bytes_eq, is_utf8}
+use Rattle.std.specs.Cmp.Lexicographic.{bytes_decides}
+use Rattle.std.proofs.Common.{◌∙◌, sym, ap}
+use Rattle.json.specs.Json as json
+use Rattle.json.specs.Find as find
+use Rattle.serde_json.specs.Data.{Num, Data, null, Members, no_members, put}
+use Rattle.serde_json.specs.Find.{get, get_member, as_null}
+use Rattle.cv_osv.specs.Json.{member_at}
+use Rattle.serde_json.specs.Read.{number_of, of_json, of_items, of_members}
+use Rattle.serde_json.proofs.Views.{get_member-put, get_member-put_other}
+use Rattle.cv_osv_text.specs.Tree.{data_of, data_items, data_members, has_number, items_number, members_number, number_or, tree_of}
+use Rattle.cv_request.specs.Line.{json_or}
+use Rattle.cv_request.specs.declared.error.RequestFault.TheVariants.{BadJson}
+
+either_false : (a b : Bool) → (a || b) ≡ false → (a ≡ false) × (b ≡ false)
+either_false false b h = (refl, h)
+either_false true b h = absurd (cc)
+
+-- serde_json has the value of a tree without numbers
+mutual
+  pub of_json_is : (j : json.Json) → has_number j ≡ false → of_json j ≡ Some (data_of j)
+  of_json_is json.null h = refl
+  of_json_is (json.boolean b) h = refl
+  of_json_is (json.number s) h = absurd (cc)
+  of_json_is (json.string s) h = refl
+  of_json_is (json.array js) h = rw (of_items_is js h) refl
+  of_json_is (json.object ms) h = rw (of_members_is ms no_members h) refl
+
+  of_items_is : (js : json.Items) → items_number js ≡ false → of_items js ≡ Some (data_items js)
+  of_items_is json.no_items h = refl
+  of_items_is (json.item j js) h =
+      let both = either_false (has_number j) (items_number js) h in
+      rw (of_json_is j both.0, of_items_is js both.1) refl
+
+  of_members_is : (ms : json.Members) (found : Members) → members_number ms ≡ false → of_members ms found ≡ Some (data_members ms found)
+  of_members_is json.no_members found h = refl
+  of_members_is (json.member k j ms) found h =
+      let both = either_false (has_number j) (members_number ms) h in
+      rw (of_json_is j both.0) (of_members_is ms (put k (data_of j) found) both.1)
+
+-- the last value of a key, or one that was found before
+abbrev found_or : Option json.Json → Option Data → Option Data
+found_or None before = before
+found_or (Some j) before = Some (data_of j)
+
+-- one more member is put before the others
+put_first : (name k : List ℕ) (j : json.Json) (found : Members) (b : Bool) → bytes_eq k name ≡ b
+    → get_member name (put k (data_of j) found) ≡ found_or (cond b (Some j) None) (get_member name found)
+put_first name k j found true e = ap (λ n. get_member n (put k (data_of j) found)) (sym ((bytes_decides k name).0 e)) ∙ get_member-put k (data_of j) found
+put_first name k j found false e =
+    get_member-put_other name k (data_of j) found (λ same. absurd (cc (e, (bytes_decides k name).1 (sym same))))
+
+later : (o : Option json.Json) (first : Option json.Json) (before : Option Data) → found_or o (found_or first before) ≡ found_or (find.later_or o first) before
+later None first before = refl
+later (Some j) first before = refl
+
+member_is : (name : List ℕ) (ms : json.Members) (found : Members) → get_member name (data_members ms found) ≡ found_or (find.get_member name ms) (get_member name found)
+member_is name json.no_members found = refl
+member_is name (json.member k j ms) found =
+    member_is name ms (put k (data_of j) found)
+    ∙ ap (found_or (find.get_member name ms)) (put_first name k j found (bytes_eq k name) refl)
+    ∙ later (find.get_member name ms) (cond (bytes_eq k name) (Some j) None) (get_member name found)
+
+found_none : (o : Option json.Json) → found_or o None ≡ option_map data_of o
+found_none None = refl
+found_none (Some j) = refl
+
+-- a number has no members
+of_number : (name : List ℕ) (n : Option Num) → get name (number_or n) ≡ None
+of_number name None = refl
+of_number name (Some n) = refl
+
+-- the member with a name
+pub get_is : (name : List ℕ) (j : json.Json) → get name (data_of j) ≡ option_map data_of (find.get name j)
+get_is name json.null = refl
+get_is name (json.boolean b) = refl
+get_is name (json.number s) = of_number name (number_of s)
+get_is name (json.string s) = refl
+get_is name (json.array js) = refl
+get_is name (json.object ms) = member_is name ms no_members ∙ found_none (find.get_member name ms)
+
+-- a member that is absent, one that is null, and another one
+pub member_none : (name : List ℕ) (j : json.Json) → find.get name j ≡ None → member_at name (data_of j) ≡ None
+member_none name j h = rw (get_is name j, h) refl
+
+null_only : (k : json.Json) → find.is_null k ≡ true → data_of k ≡ null
+null_only json.null h = refl
+null_only (json.boolean b) h = absurd (cc)
+null_only (json.number s) h = absurd (cc)
+null_only (json.string s) h = absurd (cc)
+null_only (json.array js) h = absurd (cc)
+null_only (json.object ms) h = absurd (cc)
+
+pub member_null : (name : List ℕ) (j k : json.Json) → find.get name j ≡ Some k → find.is_null k ≡ true → member_at name (data_of j) ≡ None
+member_null name j k h n = rw (get_is name j, h, null_only k n) refl
+
+is_number : (n : Option Num) → as_null (number_or n) ≡ None
+is_number None = refl
+is_number (Some n) = refl
+
+not_null : (k : json.Json) → find.is_null k ≡ false → as_null (data_of k) ≡ None
+not_null json.null h = absurd (cc)
+not_null (json.boolean b) h = refl
+not_null (json.number s) h = is_number (number_of s)
+not_null (json.string s) h = refl
+not_null (json.array js) h = refl
+not_null (json.object ms) h = refl
+
+pub member_found : (name : List ℕ) (j k : json.Json) → find.get name j ≡ Some k → find.is_null k ≡ false → member_at name (data_of j) ≡ Some (data_of k)
+member_found name j k h n = rw (get_is name j, h, not_null k n) refl
+
+-- a line that is such a tree
+pub json_found : (line : List ℕ) (j : json.Json) → is_utf8 line ≡ true → tree_of line ≡ Some j → has_number j ≡ false → json_or line ≡ Ok (data_of j)
+json_found line j text tree free = rw (text, tree, of_json_is j free) refl
+
+-- a line that is not JSON
+pub json_none : (line : List ℕ) → is_utf8 line ≡ true → tree_of line ≡ None → json_or line ≡ Err BadJson
+json_none line text none = rw (text, none) refl
+
+-- a line that is not a text
+pub json_bytes : (line : List ℕ) → is_utf8 line ≡ false → json_or line ≡ Err BadJson
+json_bytes line bytes = rw bytes refl

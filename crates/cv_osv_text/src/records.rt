@@ -1,0 +1,111 @@
+ghost use Rattle.std.specs.Prelude.{◌≡◌, ◌+◌, ◌<◌, ◌≤◌, [], length, nat_le, IfOk, OnOk};
+ghost use Rattle.cv_base.specs.Answer.{Yields};
+ghost use Rattle.cv_osv.specs.Answer.{fault_of};
+ghost use Rattle.cv_osv.specs.Records.{HasDistinctIds, appended};
+ghost use Rattle.cv_osv.specs.code.Appended.{at_index, Indexes, pushed_reading};
+
+use crate::line::RecordRead;
+use cv_base::{Advisory, MAX_ADVISORIES, Seq, Text};
+use cv_osv::OsvError;
+use std::alloc::Global;
+use std::collections::BTreeMap;
+use std::marker::Model;
+
+/// Records with distinct ids that are appended one by one, seen as the list of them.
+#[derive(Drop)]
+pub struct LineRecords {
+    records: Vec<Advisory>,
+    /// The index of each id.
+    indices: BTreeMap<Text, u32>,
+}
+
+impl Model for LineRecords {
+    ghost use Rattle.std.specs.Prelude.{◌≤◌, List, length};
+    ghost use Rattle.cv_base.specs.declared.limits.TheConstants.{MAX_ADVISORIES};
+    ghost use Rattle.cv_base.specs.declared.advisory.Advisory.{Advisory};
+    ghost use Rattle.cv_osv.specs.Records.{HasDistinctIds};
+    ghost use Rattle.cv_osv.specs.code.Appended.{Indexes};
+
+    ghost Value = { List Advisory };
+
+    ghost view = { λ list. list.records.items };
+
+    ghost invariant = { λ list. Indexes list.indices list.records.items × HasDistinctIds list.records.items × (length list.records.items ≤ MAX_ADVISORIES) };
+}
+
+impl LineRecords {
+    /// No records. It takes no memory yet: the allocator is for what will be appended.
+    #[tactic(auto, using(cv_osv::proofs::Indices::distinct_none))]
+    pub fn new(alloc: Global) -> LineRecords
+        ensures { result ≡ [] }
+    {
+        LineRecords {
+            records: Vec::new(alloc),
+            indices: BTreeMap::new(alloc),
+        }
+    }
+
+    /// Whether no further record may be appended.
+    pub fn is_full(&self) -> bool
+        ensures { result ≡ nat_le MAX_ADVISORIES (length self.now) }
+    {
+        self.records.len() >= MAX_ADVISORIES
+    }
+
+    /// Appends a record that was read. Its own fault is answered first, and then an earlier record with its id. A refusal
+    /// drops the list.
+    #[tactic(auto, using(cv_osv::proofs::Appended::pushed_reading_is))]
+    pub fn append(mut self, found: RecordRead) -> Result<LineRecords, OsvError>
+        requires room { length self < MAX_ADVISORIES }
+        ensures value { Yields fault_of (λ records. records) result (appended self found) }
+        ensures count { IfOk result (λ records. length records ≡ length self + 1) }
+    {
+        push_record(found, &mut self.records, &mut self.indices)?;
+        Ok(self)
+    }
+
+    /// The records, in the order in which they were appended. It takes no memory.
+    pub fn into_seq(self) -> Seq<Advisory>
+        ensures value { result ≡ self }
+        ensures distinct { HasDistinctIds result }
+        ensures within { length result ≤ MAX_ADVISORIES }
+    {
+        Seq::of(self.records)
+    }
+}
+
+/// Appends a record. `indices` has the index of each id.
+fn push_record(
+    found: RecordRead,
+    records: &mut Vec<Advisory>,
+    indices: &mut BTreeMap<Text, u32>,
+) -> Result<(), OsvError>
+    requires room { length records.old.items < MAX_ADVISORIES }
+    requires indexed { Indexes indices.old records.old.items }
+    requires distinct { HasDistinctIds records.old.items }
+    ensures value { Yields fault_of (λ _. records.new.items) result (pushed_reading records.old.items found) }
+    ensures indexed { OnOk result (Indexes indices.new records.new.items) }
+    ensures distinct { OnOk result (HasDistinctIds records.new.items) }
+    ensures count { OnOk result (length records.new.items ≡ length records.old.items + 1) }
+{
+    let index = records.len() as u32;
+    let record = record_at(found, index)?;
+    if let Some(first) = indices.insert(record.id.clone()?, index)? {
+        return Err(OsvError::DuplicateId {
+            first,
+            second: index,
+        });
+    }
+    records.push(record)?;
+    Ok(())
+}
+
+/// The record, whose fault has this index.
+fn record_at(found: RecordRead, index: u32) -> Result<Advisory, OsvError>
+    ensures { Yields fault_of (λ record_read. record_read) result (at_index index found) }
+{
+    match found {
+        Ok(record) => Ok(record),
+        Err(what) => Err(OsvError::BadAdvisory { index, what }),
+    }
+}
