@@ -1,7 +1,13 @@
 -- The refusals of the calls below, as those of a line.
-use Rattle.std.specs.Prelude.{◌≡◌, ℕ, ⊤, MatchBool, IfSome, Option, None, Some, Result, Err}
+use Rattle.std.specs.Prelude.{◌≡◌, ℕ, ⊤, MatchBool, IfSome, List, Option, None, Some, Result, Ok, Err}
 use Rattle.std.proofs.Common.{ap}
-use Rattle.cv_osv.specs.Records.{ListFault}
+use Rattle.cv_base.specs.Results.{◌>>=◌}
+use Rattle.cv_base.specs.declared.advisory.Advisory.{Advisory}
+use Rattle.cv_osv.specs.Record.{advisory_of}
+use Rattle.cv_osv.specs.Records.{ListFault, RecordRead}
+use Rattle.cv_osv_text.specs.Tree.{line_read}
+use Rattle.cv_request.specs.Line.{json_or}
+use Rattle.serde_json.specs.Data.{Data}
 use Rattle.cv_osv.specs.Answer as list
 use Rattle.cv_osv.specs.declared.error.OsvError.{OsvError}
 use Rattle.cv_osv.specs.declared.error.OsvError.TheVariants as osv
@@ -9,7 +15,7 @@ use Rattle.cv_request.specs.Fault.{fault_of, listing}
 use Rattle.cv_request.specs.code.Records.{requested}
 use Rattle.cv_request.specs.declared.error.RequestFault.{RequestFault}
 use Rattle.cv_scan_input.specs.Answer.{is_input_memory}
-use Rattle.cv_scan_input.specs.code.Remaining.{refusal_at, refused_at}
+use Rattle.cv_scan_input.specs.code.Remaining.{found_after, record_after, refusal_at, refused_at, text_after}
 
 -- the fault of a request is that of its line
 pub refusal_gives : {A : Type 0} (number : ℕ) (wanted : Result A RequestFault) (fault : Option RequestFault) → IfSome fault (λ f. wanted ≡ Err f)
@@ -25,3 +31,19 @@ list_yields wanted osv.TooMany h = ap listing h
 list_yields wanted (osv.BadAdvisory index what) h = ap listing h
 list_yields wanted (osv.DuplicateId first second) h = ap listing h
 list_yields wanted osv.NoMemory h = tt
+
+-- a text whose record was read
+pub text_read : (records : List Advisory) (text : List ℕ) (found : RecordRead) → line_read text ≡ Ok found → text_after records text ≡ found_after records found
+text_read records text found h = by_value (json_or text) h
+  where
+    by_value : (value : Result Data RequestFault) → (value >>= λ d. Ok (advisory_of d)) ≡ Ok found → (value >>= record_after records) ≡ found_after records found
+    by_value (Ok d) e = let same : advisory_of d ≡ found = cc in ap (found_after records) same
+    by_value (Err fault) e = absurd (cc)
+
+-- and one that is not JSON
+pub text_refused : (records : List Advisory) (text : List ℕ) (fault : RequestFault) → line_read text ≡ Err fault → text_after records text ≡ Err fault
+text_refused records text fault h = by_value (json_or text) h
+  where
+    by_value : (value : Result Data RequestFault) → (value >>= λ d. Ok (advisory_of d)) ≡ Err fault → (value >>= record_after records) ≡ Err fault
+    by_value (Ok d) e = absurd (cc)
+    by_value (Err other) e = let same : other ≡ fault = cc in ap Err same

@@ -16,7 +16,7 @@ use crate::error::InputError;
 use crate::line::{manifest_line, record_line};
 use cv_base::{Advisory, MAX_ADVISORIES, MAX_LAYERS, Manifest, Seq};
 use cv_io::{Line, LineReader, Source};
-use cv_osv::RecordList;
+use cv_osv_text::{LineRecords, RecordReader};
 use std::alloc::Global;
 
 /// The most bytes of a line of an input.
@@ -33,7 +33,7 @@ pub struct ScanInput {
 }
 
 /// Reads the input of a scan to its end, or up to the first line that is refused. At most one record at a time is in
-/// memory as JSON.
+/// memory as JSON, and most of its texts are not copied.
 #[tactic(auto, using(crate::proofs::Accepted::begun_then, crate::proofs::Accepted::begun_new, crate::proofs::Taken::none_taken, crate::proofs::Taken::first_taken, crate::proofs::Taken::first_taken_up, crate::proofs::Taken::rest_taken, crate::proofs::Taken::rest_taken_up))]
 pub fn read_scan_input<S: Source>(alloc: Global, input: &mut S) -> Result<ScanInput, InputError>
     ensures request { IfSome (S.remaining input.old) (λ bytes. IsRequest (scan_request_of (input_of bytes)) result) }
@@ -112,11 +112,12 @@ fn read_rest<S: Source>(
     ensures at_most_128_layers { IfOk result (λ request. length request.manifest.layers ≤ MAX_LAYERS) }
     ensures cause { CausedBy (S.faults input.old) (S.faults input.new) (is_input_fault result) }
 {
-    let mut records = RecordList::new(alloc);
+    let mut lines = RecordReader::new(alloc)?;
+    let mut records = LineRecords::new(alloc);
     let mut number: u64 = 1;
     while let Line::Text(text) = reader.next(alloc, input)? {
         number += 1;
-        records = record_line(alloc, records, text.as_slice(), number)?;
+        records = record_line(alloc, &mut lines, records, text.as_slice(), number)?;
     }
     Ok(ScanInput {
         manifest,

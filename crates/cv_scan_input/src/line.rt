@@ -3,14 +3,12 @@ ghost use Rattle.cv_base.specs.Answer.{Gives, Yields};
 ghost use Rattle.cv_request.specs.Fault.{fault_of};
 ghost use Rattle.cv_scan_input.specs.Answer.{is_input_memory};
 ghost use Rattle.cv_scan_input.specs.Request.{manifest_or};
-ghost use Rattle.cv_scan_input.specs.code.Remaining.{line_after, record_after, refusal_at, refused_at, text_after};
-ghost use Rattle.serde_json.specs.View.{view};
+ghost use Rattle.cv_scan_input.specs.code.Remaining.{found_after, line_after, refusal_at, refused_at, text_after};
 
 use crate::error::InputError;
 use cv_base::{MAX_LAYERS, Manifest};
-use cv_osv::RecordList;
+use cv_osv_text::{LineRecords, RecordRead, RecordReader};
 use cv_request::{RequestError, read_json, read_manifest};
-use serde_json::Value;
 use std::alloc::Global;
 
 /// The manifest that line 1 is.
@@ -26,16 +24,17 @@ pub(crate) fn manifest_line(alloc: Global, line: &[u8]) -> Result<Manifest, Inpu
 #[tactic(auto, using(crate::proofs::Refusals::refusal_gives))]
 pub(crate) fn record_line(
     alloc: Global,
-    records: RecordList,
+    reader: &mut RecordReader,
+    records: LineRecords,
     line: &[u8],
     number: u64,
-) -> Result<RecordList, InputError>
+) -> Result<LineRecords, InputError>
     ensures { Gives is_input_memory (λ more. more) result (line_after number records line.now) }
 {
     if line.is_empty() {
         return Ok(records);
     }
-    record_text(alloc, records, line).map_err(|error| refused_at(number, error))
+    record_text(alloc, reader, records, line).map_err(|error| refused_at(number, error))
 }
 
 /// The refusal of a line, or out of memory.
@@ -56,23 +55,26 @@ fn manifest_text(alloc: Global, text: &[u8]) -> Result<Manifest, RequestError>
     read_manifest(alloc, &value)
 }
 
-fn record_text(alloc: Global, records: RecordList, text: &[u8]) -> Result<RecordList, RequestError>
+#[tactic(auto, using(crate::proofs::Refusals::text_read, crate::proofs::Refusals::text_refused))]
+fn record_text(
+    alloc: Global,
+    reader: &mut RecordReader,
+    records: LineRecords,
+    text: &[u8],
+) -> Result<LineRecords, RequestError>
     ensures { Yields fault_of (λ more. more) result (text_after records text.now) }
 {
-    let value = read_json(alloc, text)?;
-    record_value(alloc, records, &value)
+    let found = reader.read(alloc, text)?;
+    append(records, found)
 }
 
+/// Appends a record that was read, unless there are too many.
 #[tactic(auto, using(crate::proofs::Refusals::list_yields))]
-fn record_value(
-    alloc: Global,
-    records: RecordList,
-    value: &Value,
-) -> Result<RecordList, RequestError>
-    ensures { Yields fault_of (λ more. more) result (record_after records (view value.now)) }
+fn append(records: LineRecords, found: RecordRead) -> Result<LineRecords, RequestError>
+    ensures { Yields fault_of (λ more. more) result (found_after records found) }
 {
     if records.is_full() {
         return Err(RequestError::TooManyAdvisories);
     }
-    Ok(records.read(alloc, value)?)
+    Ok(records.append(found)?)
 }

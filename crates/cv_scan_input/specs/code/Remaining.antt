@@ -7,7 +7,7 @@ use Rattle.cv_base.specs.declared.limits.TheConstants.{MAX_ADVISORIES}
 use Rattle.cv_base.specs.declared.manifest.Manifest.{Manifest}
 use Rattle.cv_io.specs.Lines.{Reading}
 use Rattle.cv_osv.specs.Record.{advisory_of}
-use Rattle.cv_osv.specs.Records.{appended, reads_of}
+use Rattle.cv_osv.specs.Records.{RecordRead, appended, reads_of}
 use Rattle.cv_request.specs.Fault.{listing}
 use Rattle.cv_request.specs.Line.{json_or}
 use Rattle.cv_request.specs.declared.error.RequestFault.{RequestFault}
@@ -21,6 +21,10 @@ use Rattle.serde_json.specs.Data.{Data}
 -- a value that is read as a record and appended
 abbrev pub record_after : List Advisory → Data → Result (List Advisory) RequestFault
 record_after records d = if nat_le MAX_ADVISORIES (length records) then Err TooManyAdvisories else listing (appended records (advisory_of d))
+
+-- what was read is appended
+abbrev pub found_after : List Advisory → RecordRead → Result (List Advisory) RequestFault
+found_after records found = if nat_le MAX_ADVISORIES (length records) then Err TooManyAdvisories else listing (appended records found)
 
 -- a text that is read as a record and appended
 abbrev pub text_after : List Advisory → List ℕ → Result (List Advisory) RequestFault
