@@ -16,6 +16,8 @@ mod reader;
 mod record;
 mod records;
 mod shared;
+#[cfg(test)]
+mod tests;
 
 pub use line::RecordRead;
 pub use reader::RecordReader;

@@ -30,7 +30,7 @@ pub(crate) fn read_advisory(
     let affected = read_items(alloc, texts, entries)?;
     Ok(Advisory {
         id: Text::of(alloc, id)?,
-        modified: texts.text(alloc, modified)?,
+        modified: Text::of(alloc, modified)?,
         withdrawn: withdrawn.is_some(),
         affected,
     })
