@@ -9,6 +9,7 @@
 //! bench orders deb|apk [PAIRS [LENGTH]]    compares PAIRS pairs of versions: usual ones, or such of LENGTH bytes
 //! bench osv                                counts the OSV records of the JSON list on standard input
 //! bench overlay [ENTRIES [WHITEOUTS]]      lays ten layers on each other, of ENTRIES entries each
+//! bench parse                              reads each line of standard input as a JSON value, and counts the values
 //! bench records [RECORDS [TIMES]]          makes the records of a feed TIMES times
 //! bench status                             counts the packages of the dpkg status file on standard input
 //! ```
@@ -24,14 +25,16 @@ mod lines;
 mod matching;
 mod orders;
 mod overlay;
+mod parsing;
 
 use crate::flaw::Flaw;
 use crate::orders::Order;
 use cv_base::NoMemory;
 use std::{env, io};
 
-const WORKS: [&str; 10] = [
-    "feeds", "findings", "image", "lines", "match", "orders", "osv", "overlay", "records", "status",
+const WORKS: [&str; 11] = [
+    "feeds", "findings", "image", "lines", "match", "orders", "osv", "overlay", "parse", "records",
+    "status",
 ];
 
 fn main(rt: HostRuntime) -> io::Result<()> {
@@ -84,6 +87,7 @@ fn run(rt: &HostRuntime, work: &str, arguments: &[String]) -> Result<u64, NoMemo
         }
         "osv" => documents::records(alloc, rt.reader()),
         "overlay" => overlay::entries(alloc, number(arguments, 0, 200), number(arguments, 1, 0)),
+        "parse" => parsing::count(alloc, rt.reader()),
         "records" => feeds::made(alloc, number(arguments, 0, 100), number(arguments, 1, 1)),
         "status" => documents::packages(alloc, rt.reader()),
         _ => Ok(0),
