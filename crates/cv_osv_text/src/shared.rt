@@ -11,21 +11,25 @@ const MOST_SLOTS: usize = 262_144;
 /// The longest text that is kept, in bytes.
 const LONGEST: usize = 64;
 
-/// Texts that were made lately, so that those that come again share their bytes: ecosystems, names of packages, versions.
-/// Each text has one slot, and the last text of a slot stays in it. A table that has made more texts than it has slots is
-/// replaced by an empty one of four times the size.
+/// Texts that were made, so that those that come again share their bytes: ecosystems, names of packages, versions. A text is
+/// looked for after the one before it first, since the versions of a package come again in one order, and then in its slot.
+/// There are as many texts as slots at most.
 #[derive(Drop)]
 pub(crate) struct SharedTexts {
-    slots: Vec<Option<Text>>,
-    made: usize,
+    made: Vec<Text>,
+    /// The place of the last text of each slot.
+    slots: Vec<usize>,
+    /// The place after the last text that was asked for.
+    next: usize,
 }
 
 impl SharedTexts {
     /// No text is kept yet.
     pub(crate) fn new(alloc: Global) -> Result<SharedTexts, NoMemory> {
         Ok(SharedTexts {
-            slots: empty_slots(alloc, FIRST_SLOTS)?,
-            made: 0,
+            made: Vec::new(alloc),
+            slots: vec![in alloc; 0usize; FIRST_SLOTS]?,
+            next: 0,
         })
     }
 
@@ -36,8 +40,14 @@ impl SharedTexts {
         if text.len() > LONGEST {
             return Text::of(alloc, text);
         }
+        if let Some(known) = self.known(self.next, text)? {
+            self.next = self.next.saturating_add(1);
+            return Ok(known);
+        }
         let slot = slot_of(text, self.slots.len());
-        if let Some(known) = self.known(slot, text)? {
+        let place = self.place(slot);
+        if let Some(known) = self.known(place, text)? {
+            self.next = place.saturating_add(1);
             return Ok(known);
         }
         let made = Text::of(alloc, text)?;
@@ -45,38 +55,54 @@ impl SharedTexts {
         Ok(made)
     }
 
-    /// The text of a slot, if it is this one.
-    fn known(&self, slot: usize, text: &str) -> Result<Option<Text>, NoMemory>
+    /// The text at a place, if it is this one.
+    fn known(&self, place: usize, text: &str) -> Result<Option<Text>, NoMemory>
         ensures { IfOk result (λ found. IfSome found (λ known. known ≡ text.now)) }
     {
-        match self.slots.as_slice().get(slot) {
-            Some(Some(known)) => if known.as_str() == text {
+        match self.made.as_slice().get(place) {
+            Some(known) => if known.as_str() == text {
                 Ok(Some(known.clone()?))
             } else {
                 Ok(None)
             },
-            _ => Ok(None),
+            None => Ok(None),
         }
     }
 
-    /// Keeps a text that was made, or makes room for more.
+    /// The place of the last text of a slot.
+    fn place(&self, slot: usize) -> usize {
+        match self.slots.as_slice().get(slot) {
+            Some(place) => *place,
+            None => 0,
+        }
+    }
+
+    /// Keeps a text that was made, unless there are too many.
     fn keep(&mut self, alloc: Global, slot: usize, text: Text) -> Result<(), NoMemory> {
-        let count = self.slots.len();
-        self.made = self.made.saturating_add(1);
-        if self.made > count && count < MOST_SLOTS {
-            self.slots = empty_slots(alloc, count.saturating_mul(4))?;
-            self.made = 0;
-        } else if slot < count {
-            self.slots[slot] = Some(text);
+        let place = self.made.len();
+        if place >= MOST_SLOTS {
+            return Ok(());
+        }
+        if slot < self.slots.len() {
+            self.slots[slot] = place;
+        }
+        self.made.push(text)?;
+        self.next = place.saturating_add(1);
+        if place >= self.slots.len() {
+            self.slots = slots_for(alloc, &self.made, self.slots.len().saturating_mul(4))?;
         }
         Ok(())
     }
 }
 
-fn empty_slots(alloc: Global, count: usize) -> Result<Vec<Option<Text>>, NoMemory> {
-    let mut slots = Vec::with_capacity(alloc, count)?;
-    for _ in 0..count {
-        slots.push(None)?;
+/// So many slots, with the places of these texts.
+fn slots_for(alloc: Global, made: &[Text], count: usize) -> Result<Vec<usize>, NoMemory> {
+    let mut slots = vec![in alloc; 0usize; count]?;
+    for (place, text) in made.iter().enumerate() {
+        let slot = slot_of(text.as_str(), count);
+        if slot < slots.len() {
+            slots[slot] = place;
+        }
     }
     Ok(slots)
 }
