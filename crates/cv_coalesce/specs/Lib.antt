@@ -3,4 +3,3 @@ pub mod Gathered
 pub mod Hides
 pub mod Image
 pub mod code
-pub mod tests

@@ -16,8 +16,6 @@ mod laws;
 mod merge;
 mod search;
 mod shapes;
-#[cfg(test)]
-mod tests;
 mod visible;
 
 pub use coalescer::coalesce;

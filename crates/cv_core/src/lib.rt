@@ -26,8 +26,6 @@ mod plan;
 mod register;
 mod report;
 mod step;
-#[cfg(test)]
-mod tests;
 mod update;
 
 pub use board::Board;

@@ -9,4 +9,3 @@ pub mod Row
 pub mod Stored
 pub mod Table
 pub mod code
-pub mod tests

@@ -11,9 +11,6 @@ use cv_base::{Digest, Kind, ListEntry, PathError, RelPath};
 use cv_seq::{NoMemory, Seq};
 use std::alloc::Global;
 
-#[cfg(test)]
-mod tests;
-
 static TEN: [u8; 10] = [0, 1, 2, 3, 4, 5, 6, 7, 8, 9];
 
 static TWENTY: [u8; 20] = [

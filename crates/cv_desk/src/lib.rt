@@ -14,8 +14,6 @@ mod gate;
 mod generated;
 mod loading;
 mod table;
-#[cfg(test)]
-mod tests;
 mod walk;
 
 pub use desk::{Desk, DeskFault, FileRead};

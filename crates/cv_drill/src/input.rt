@@ -61,6 +61,3 @@ fn list_value(alloc: Global) -> Result<Value, NoMemory>
 {
     Ok(json!(in alloc; {"do": "list", "lane": 0})?)
 }
-
-#[cfg(test)]
-mod tests;

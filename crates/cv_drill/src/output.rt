@@ -72,6 +72,3 @@ fn sums_text(alloc: Global, totals: Totals) -> Result<String, NoMemory>
     let findings = totals.findings;
     Ok(format!(in alloc; "notifications {notifications}, rows {rows}, findings {findings}")?)
 }
-
-#[cfg(test)]
-mod tests;

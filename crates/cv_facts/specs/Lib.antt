@@ -5,4 +5,3 @@ pub mod Order
 pub mod Reads
 pub mod Reduction
 pub mod code
-pub mod tests

@@ -16,8 +16,6 @@ mod hides;
 mod index;
 mod order;
 mod reduction;
-#[cfg(test)]
-mod tests;
 
 pub use cv_packages::{FileFound, Found};
 pub use error::IndexError;

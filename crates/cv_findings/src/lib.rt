@@ -11,8 +11,6 @@
 mod changes;
 mod laws;
 mod matching;
-#[cfg(test)]
-mod tests;
 
 pub use changes::rows;
 pub use laws::part_laws;

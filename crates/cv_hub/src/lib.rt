@@ -25,8 +25,6 @@ mod note;
 mod ready;
 mod seat;
 mod submission;
-#[cfg(test)]
-mod tests;
 
 pub use blank::Blank;
 pub use held::Held;

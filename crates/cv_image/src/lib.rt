@@ -9,8 +9,6 @@
 mod layers;
 mod places;
 mod scan;
-#[cfg(test)]
-mod tests;
 
 pub use cv_scan::ImageError;
 pub use scan::scan_layers;

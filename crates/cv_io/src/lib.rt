@@ -20,8 +20,6 @@ mod reader;
 mod sink;
 mod source;
 mod standard;
-#[cfg(test)]
-mod tests;
 mod write;
 
 pub use calm::{CalmSink, CalmSource};

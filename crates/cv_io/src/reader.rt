@@ -68,6 +68,3 @@ impl LineReader {
         answer
     }
 }
-
-#[cfg(test)]
-mod tests;

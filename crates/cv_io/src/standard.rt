@@ -112,6 +112,3 @@ fn write_through<W: Write>(writer: &mut W, bytes: &[u8]) -> io::Result<usize>
         Err(io::Error::from(ErrorKind::WriteZero))
     }
 }
-
-#[cfg(test)]
-mod tests;

@@ -21,8 +21,6 @@ mod placed;
 mod prepared;
 mod reading;
 mod semantic;
-#[cfg(test)]
-mod tests;
 mod version;
 mod within;
 

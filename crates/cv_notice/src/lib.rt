@@ -16,6 +16,3 @@ pub use cv_records::NoticeHead;
 pub use error::{NoNotification, PageError};
 pub use notices::Notices;
 pub use pages::{Page, page_laws};
-
-#[cfg(test)]
-mod tests;

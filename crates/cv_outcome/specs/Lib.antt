@@ -2,4 +2,3 @@ pub mod Facts
 pub mod Outcome
 pub mod Truth
 pub mod Update
-pub mod tests

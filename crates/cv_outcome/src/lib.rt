@@ -17,8 +17,6 @@ mod laws;
 mod matching;
 mod outcome;
 mod rematch;
-#[cfg(test)]
-mod tests;
 
 pub use findings::Findings;
 pub use image::outcome_of;

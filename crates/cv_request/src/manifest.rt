@@ -97,6 +97,3 @@ fn layer_of(item: &Value, index: u32) -> Result<Digest, RequestWhat>
 {
     digest_or(item.get("hash"), RequestWhat::BadLayer(index))
 }
-
-#[cfg(test)]
-mod tests;

@@ -125,6 +125,3 @@ fn notification_of(value: &Value) -> Result<u64, RequestWhat>
 {
     number_or(value.get("number"), 0, u64::MAX, RequestWhat::BadNumber)
 }
-
-#[cfg(test)]
-mod tests;

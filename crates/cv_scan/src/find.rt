@@ -239,6 +239,3 @@ fn fixed_of(
         Some(text) => Ok(Some(Text::of(alloc, text)?)),
     }
 }
-
-#[cfg(test)]
-mod tests;

@@ -113,6 +113,3 @@ fn too_large_value(alloc: Global, path: &RelPath) -> Result<Value, NoMemory>
             .done(),
     )
 }
-
-#[cfg(test)]
-mod tests;

@@ -44,6 +44,3 @@ fn entry_value(alloc: Global, entry: &Entry) -> Result<Value, NoMemory>
         Entry::Read(read) => read_value(alloc, read),
     }
 }
-
-#[cfg(test)]
-mod tests;

@@ -131,6 +131,3 @@ fn duplicate_value(alloc: Global, line: u64, first: u32, second: u32) -> Result<
             .done(),
     )
 }
-
-#[cfg(test)]
-mod tests;

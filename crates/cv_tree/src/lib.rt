@@ -21,6 +21,3 @@ pub use laws::{change_laws, value_laws};
 pub use remake::Remake;
 pub use share::{Share, Shared};
 pub use tree::Tree;
-
-#[cfg(test)]
-mod tests;

@@ -1,0 +1,188 @@
+ghost use Rattle.std.specs.Prelude.{◌≡◌, ◌<◌, IfOk};
+ghost use Rattle.std.specs.List.Sorted.{IsStrictlySortedBy};
+ghost use Rattle.cv_match.specs.Findings.{finding_cmp};
+
+use cv_advdb::Feeds;
+use cv_base::{
+    Advisory, Affected, Digest, Finding, NoMemory, Package, PackageKind, PackageName, Range,
+    RangeKind, Reason, RelPath, Row, Seq, Steps, Text, Turn,
+};
+use cv_findings::{match_all, rows};
+use cv_match::in_order;
+use std::alloc::Global;
+use std::marker::Brand;
+use std::sync::ledger::{Blank, Ledger};
+use std::test::Fail;
+
+/// Version 1 of a package of Debian 12, which is its own source.
+fn package(alloc: Global, name: &str) -> Result<Package, Fail> {
+    Ok(Package {
+        kind: PackageKind::Deb,
+        path: RelPath::read(alloc, "var/lib/dpkg/status")?,
+        name: Text::of(alloc, name)?,
+        version: Text::of(alloc, "1")?,
+        source: Text::of(alloc, name)?,
+        source_version: Text::of(alloc, "1")?,
+        arch: Text::of(alloc, "amd64")?,
+        ecosystem: Text::of(alloc, "Debian:12")?,
+    })
+}
+
+fn packages(alloc: Global, names: &[&str]) -> Result<Vec<Package>, Fail> {
+    let mut all = Vec::new(alloc);
+    for name in names {
+        all.push(package(alloc, name)?)?;
+    }
+    Ok(all)
+}
+
+/// The finding of a package, an advisory and a fixed version.
+fn finding(alloc: Global, row: &(&str, &str, &str)) -> Result<Finding, Fail> {
+    let (name, advisory, fixed) = *row;
+    Ok(Finding {
+        package: package(alloc, name)?,
+        feed: Text::of(alloc, "deb")?,
+        advisory: Text::of(alloc, advisory)?,
+        fixed: Some(Text::of(alloc, fixed)?),
+    })
+}
+
+fn findings(alloc: Global, rows: &[(&str, &str, &str)]) -> Result<Vec<Finding>, Fail> {
+    let mut all = Vec::new(alloc);
+    for row in rows {
+        all.push(finding(alloc, row)?)?;
+    }
+    Ok(all)
+}
+
+fn sorted(alloc: Global, rows: &[(&str, &str, &str)]) -> Result<Seq<Finding>, Fail>
+    ensures { IfOk result (λ out. IsStrictlySortedBy finding_cmp out) }
+{
+    let all = findings(alloc, rows)?;
+    let out = in_order(alloc, all)?;
+    Ok(out)
+}
+
+/// One row, with the name of its reason.
+fn shown(alloc: Global, row: &Row) -> Result<String, Fail> {
+    let fixed = match &row.finding.fixed {
+        Some(text) => text.as_str(),
+        None => "none",
+    };
+    let advisory = row.finding.advisory.as_str();
+    Ok(format!(in alloc; "{:?} {advisory} {fixed}", row.reason)?)
+}
+
+#[test]
+fn rows_name_removed_changed_and_added_findings(rt: HostRuntime) -> Result<(), Fail> {
+    let alloc = rt.alloc();
+    let text = b"sha256:e3b0c44298fc1c149afbf4c8996fb92427ae41e4649b934ca495991b7852b855";
+    let image = Digest::read(text)?;
+    let before = [
+        ("curl", "X-1", "2"),
+        ("curl", "X-2", "2"),
+        ("zlib", "X-3", "2"),
+    ];
+    let after = [
+        ("curl", "X-2", "3"),
+        ("zlib", "X-3", "2"),
+        ("zlib", "X-4", "2"),
+    ];
+    let old = sorted(alloc, &before)?;
+    let new = sorted(alloc, &after)?;
+    let found = rows(alloc, image, old.as_slice(), new.as_slice())?;
+    let want = ["Removed X-1 2", "Changed X-2 3", "Added X-4 2"];
+    assert_eq!(rt; found.as_slice().len(), want.len());
+    for (row, text) in found.as_slice().iter().zip(want) {
+        assert_eq!(rt; shown(alloc, row)?.as_str(), text);
+    }
+    Ok(())
+}
+
+/// A range that is fixed in version 2.
+fn range(alloc: Global) -> Result<Range, NoMemory> {
+    let mut turns = Vec::new(alloc);
+    turns.push(Turn::Introduced(Text::of(alloc, "0")?))?;
+    turns.push(Turn::Fixed(Text::of(alloc, "2")?))?;
+    Ok(Range {
+        kind: RangeKind::Ecosystem,
+        turns: Seq::of(turns),
+    })
+}
+
+fn entry(alloc: Global, ecosystem: &str, name: &str) -> Result<Affected, NoMemory> {
+    let ranges = Seq::of(vec![in alloc; range(alloc)?]?);
+    Ok(Affected {
+        package: Some(PackageName {
+            ecosystem: Text::of(alloc, ecosystem)?,
+            name: Text::of(alloc, name)?,
+        }),
+        ranges,
+        versions: Seq::of(Vec::new(alloc)),
+    })
+}
+
+/// A record about one package under these ecosystems.
+fn record(alloc: Global, id: &str, name: &str, ecosystems: &[&str]) -> Result<Advisory, NoMemory> {
+    let mut affected = Vec::new(alloc);
+    for ecosystem in ecosystems {
+        affected.push(entry(alloc, ecosystem, name)?)?;
+    }
+    Ok(Advisory {
+        id: Text::of(alloc, id)?,
+        modified: Text::of(alloc, "2024-01-01T00:00:00Z")?,
+        withdrawn: false,
+        affected: Seq::of(affected),
+    })
+}
+
+fn add_feed(alloc: Global, feeds: &mut Feeds, feed: &str, record: Advisory) -> Result<(), Fail> {
+    let records = Seq::of(vec![in alloc; record]?);
+    let name = Text::of(alloc, feed)?;
+    let _touched = feeds.replace(alloc, name, records)?;
+    Ok(())
+}
+
+/// A feed with a record under both keys of curl, and one with a record under the short key of zlib.
+fn two_feeds(alloc: Global) -> Result<Feeds, Fail> {
+    let mut feeds = Feeds::new(alloc, 2)?;
+    let both = record(alloc, "X-1", "curl", &["Debian:12", "Debian"])?;
+    add_feed(alloc, &mut feeds, "b", both)?;
+    let short = record(alloc, "X-2", "zlib", &["Debian", "Debian:11"])?;
+    add_feed(alloc, &mut feeds, "a", short)?;
+    Ok(feeds)
+}
+
+fn match_counted<L: Ledger>(
+    blank: Blank,
+    alloc: Global,
+    packages: &[Package],
+    feeds: &Feeds,
+) -> Result<Seq<Finding>, NoMemory>
+    requires name { blank.name ≡ L.name }
+    requires parts { blank.parts ≡ L.parts }
+    requires some { 0 < L.parts }
+{
+    let mut steps = Steps::<L>::open(blank);
+    match_all(alloc, packages, feeds, &mut steps)
+}
+
+fn matched(alloc: Global, packages: &[Package], feeds: &Feeds) -> Result<Seq<Finding>, NoMemory> {
+    match_counted::<Brand>(Blank::new(1), alloc, packages, feeds)
+}
+
+#[test]
+fn packages_are_matched_under_whole_and_short_ecosystems(rt: HostRuntime) -> Result<(), Fail> {
+    let alloc = rt.alloc();
+    let feeds = two_feeds(alloc)?;
+    let installed = packages(alloc, &["zlib", "curl"])?;
+    let found = matched(alloc, &installed, &feeds)?;
+    let want = [("curl", "b", "X-1"), ("zlib", "a", "X-2")];
+    assert_eq!(rt; found.as_slice().len(), want.len());
+    for (finding, (name, feed, advisory)) in found.as_slice().iter().zip(want) {
+        assert_eq!(rt; finding.package.name.as_str(), name);
+        assert_eq!(rt; finding.feed.as_str(), feed);
+        assert_eq!(rt; finding.advisory.as_str(), advisory);
+    }
+    Ok(())
+}
