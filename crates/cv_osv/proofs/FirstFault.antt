@@ -1,11 +1,10 @@
 -- Reading a record answers the first of its faults.
-use Rattle.std.specs.Prelude.{◌≡◌, List, [], ◌∷◌, ◌++◌, codes, take, Result, Ok, Err, is_some, refl}
+use Rattle.std.specs.Prelude.{◌≡◌, List, [], ◌∷◌, ◌++◌, codes, take, Result, Ok, Err, refl}
 use Rattle.std.specs.List.{flat_map}
-use Rattle.std.proofs.Common.{◌∙◌, sym, ap}
 use Rattle.cv_base.specs.Results.{◌>>=◌}
 use Rattle.cv_osv.specs.Faults.{entry_faults, fault_in, list_faults, range_faults, record_faults}
 use Rattle.cv_osv.specs.Json.{each, each_joined, items_list, items_or, member_at, object_or, optional_text_or, text_or}
-use Rattle.cv_osv.specs.Record.{advisory_of, entry_of, full_or, kind_of, optional_package_of, range_of, turns_of, version_of}
+use Rattle.cv_osv.specs.Record.{advisory_of, entry_of, full_or, optional_package_of, range_of, turns_of, version_of}
 use Rattle.cv_osv.specs.declared.error.RecordWhat.{RecordWhat}
 use Rattle.cv_osv.specs.declared.error.RecordWhat.TheVariants.{NotObject, NoId, NoModified, BadWithdrawn, BadAffected, BadEntry, BadRange, BadEvent, BadVersions}
 use Rattle.serde_json.specs.Data.{Data, Items, no_items, item}

@@ -9,6 +9,7 @@
 
 mod error;
 mod json;
+mod node;
 mod part;
 mod range;
 mod record;
@@ -16,6 +17,7 @@ mod record_list;
 mod records;
 
 pub use error::{AdvisoryError, OsvError, RecordWhat};
-pub use record::read_advisory;
+pub use node::{Node, Texts};
+pub use record::{RecordRead, read_advisory, read_node};
 pub use record_list::RecordList;
 pub use records::read_records;

@@ -1,16 +1,16 @@
-ghost use Rattle.std.specs.Prelude.{◌≡◌};
+ghost use Rattle.std.specs.Prelude.{◌≡◌, map};
 ghost use Rattle.cv_base.specs.Results.{onto};
 ghost use Rattle.cv_osv.specs.Answer.{Reads};
 ghost use Rattle.cv_osv.specs.Json.{each_joined};
 ghost use Rattle.cv_osv.specs.code.Member.{name_of, make_of};
 ghost use Rattle.cv_osv.specs.Record.{kind_of, turn_of, turns_of};
-ghost use Rattle.serde_json.specs.View.{view, items_view};
+ghost use Rattle.serde_json.specs.View.{items_of};
 
 use crate::error::{AdvisoryError, RecordWhat};
 use crate::json::{items_or, member_at, object_or, optional_text_or, text_or};
-use crate::part::Part;
+use crate::node::{Node, Texts};
+use crate::part::{Part, room_for};
 use cv_base::{Range, RangeKind, Seq, Text, Turn};
-use serde_json::Value;
 use std::alloc::Global;
 
 /// A member of an event that gives a turn.
@@ -52,10 +52,14 @@ impl Part for Range {
     ghost part_of = { range_of };
 
     #[tactic(auto, unfolding(crate::specs::Record::range_of))]
-    fn read(alloc: Global, value: &Value) -> Result<Range, AdvisoryError> {
+    fn read<V: Node<T>, T: Texts>(
+        alloc: Global,
+        texts: &mut T,
+        value: &V,
+    ) -> Result<Range, AdvisoryError> {
         let kind = kind_of(text_or(member_at(value, "type"), RecordWhat::BadRange)?);
         let events = items_or(member_at(value, "events"), RecordWhat::BadEvent)?;
-        let turns = read_turns(alloc, events)?;
+        let turns = read_turns(alloc, texts, events)?;
         Ok(Range { kind, turns })
     }
 }
@@ -73,13 +77,17 @@ fn kind_of(name: &str) -> RangeKind
 
 /// The turns of the events, in order.
 #[tactic(auto, using(crate::proofs::Onto::joined_more, crate::proofs::Onto::joined_bad))]
-fn read_turns(alloc: Global, events: &[Value]) -> Result<Seq<Turn>, AdvisoryError>
-    ensures { Reads (λ turns. turns) result (each_joined turns_of (items_view events.now)) }
+fn read_turns<V: Node<T>, T: Texts>(
+    alloc: Global,
+    texts: &mut T,
+    events: &[V],
+) -> Result<Seq<Turn>, AdvisoryError>
+    ensures { Reads (λ turns. turns) result (each_joined turns_of (items_of (map V.data_of events.now))) }
 {
-    let mut turns = Vec::new(alloc);
+    let mut turns = room_for(alloc, events.len())?;
     let mut remaining = events;
     while let [event, rest @ ..] = remaining {
-        push_turns(alloc, event, &mut turns)?;
+        push_turns(alloc, texts, event, &mut turns)?;
         remaining = rest;
     }
     Ok(Seq::of(turns))
@@ -87,28 +95,34 @@ fn read_turns(alloc: Global, events: &[Value]) -> Result<Seq<Turn>, AdvisoryErro
 
 /// Appends the turns of an event.
 #[tactic(auto, unfolding(crate::specs::Record::turns_of))]
-fn push_turns(alloc: Global, event: &Value, turns: &mut Vec<Turn>) -> Result<(), AdvisoryError>
-    ensures { Reads (λ _. turns.new.items) result (onto turns.old.items (turns_of (view event.now))) }
+fn push_turns<V: Node<T>, T: Texts>(
+    alloc: Global,
+    texts: &mut T,
+    event: &V,
+    turns: &mut Vec<Turn>,
+) -> Result<(), AdvisoryError>
+    ensures { Reads (λ _. turns.new.items) result (onto turns.old.items (turns_of (V.data_of event.now))) }
 {
     object_or(event, RecordWhat::BadEvent)?;
-    push_turn(alloc, event, EventMember::Introduced, turns)?;
-    push_turn(alloc, event, EventMember::Fixed, turns)?;
-    push_turn(alloc, event, EventMember::LastAffected, turns)?;
-    push_turn(alloc, event, EventMember::Limit, turns)
+    push_turn(alloc, texts, event, EventMember::Introduced, turns)?;
+    push_turn(alloc, texts, event, EventMember::Fixed, turns)?;
+    push_turn(alloc, texts, event, EventMember::LastAffected, turns)?;
+    push_turn(alloc, texts, event, EventMember::Limit, turns)
 }
 
-fn push_turn(
+fn push_turn<V: Node<T>, T: Texts>(
     alloc: Global,
-    event: &Value,
+    texts: &mut T,
+    event: &V,
     member: EventMember,
     turns: &mut Vec<Turn>,
 ) -> Result<(), AdvisoryError>
     ensures { Reads (λ _. turns.new.items) result
-        (onto turns.old.items (turn_of (name_of member) (make_of member) (view event.now))) }
+        (onto turns.old.items (turn_of (name_of member) (make_of member) (V.data_of event.now))) }
 {
     let found = member_at(event, member.name());
     if let Some(version) = optional_text_or(found, RecordWhat::BadEvent)? {
-        turns.push(member.turn(Text::of(alloc, version)?))?;
+        turns.push(member.turn(texts.text(alloc, version)?))?;
     }
     Ok(())
 }

@@ -7,14 +7,14 @@ ghost use Rattle.cv_osv.specs.code.Appended.{at_index, Indexes, pushed_reading};
 ghost use Rattle.serde_json.specs.View.{view};
 
 use crate::error::{AdvisoryError, OsvError};
-use crate::record::read_advisory;
+use crate::record::{RecordRead, read_advisory};
 use cv_base::{Advisory, MAX_ADVISORIES, Seq, Text};
 use serde_json::Value;
 use std::alloc::Global;
 use std::collections::BTreeMap;
 use std::marker::Model;
 
-/// Records with distinct ids that are read one by one, seen as the list of them.
+/// Records with distinct ids that are appended one by one, seen as the list of them.
 #[derive(Drop)]
 pub struct RecordList {
     records: Vec<Advisory>,
@@ -37,7 +37,7 @@ impl Model for RecordList {
 }
 
 impl RecordList {
-    /// No records. It takes no memory yet: the allocator is for what will be read.
+    /// No records. It takes no memory yet: the allocator is for what will be appended.
     #[tactic(auto, using(crate::proofs::Indices::distinct_none))]
     pub fn new(alloc: Global) -> RecordList
         ensures { result ≡ [] }
@@ -48,7 +48,7 @@ impl RecordList {
         }
     }
 
-    /// Whether no further record may be read.
+    /// Whether no further record may be appended.
     pub fn is_full(&self) -> bool
         ensures { result ≡ nat_le MAX_ADVISORIES (length self.now) }
     {
@@ -57,17 +57,31 @@ impl RecordList {
 
     /// Reads a record as `read_advisory` does, and appends it. Its own fault is answered first, and then an earlier
     /// record with its id. A refusal drops the list.
-    #[tactic(auto, using(crate::proofs::Appended::pushed_reading_is))]
-    pub fn read(mut self, alloc: Global, value: &Value) -> Result<RecordList, OsvError>
+    pub fn read(self, alloc: Global, value: &Value) -> Result<RecordList, OsvError>
         requires room { length self < MAX_ADVISORIES }
         ensures value { Yields fault_of (λ records. records) result (appended self (advisory_of (view value.now))) }
         ensures count { IfOk result (λ records. length records ≡ length self + 1) }
     {
-        push_record(alloc, value, &mut self.records, &mut self.indices)?;
+        match read_advisory(alloc, value) {
+            Ok(record) => self.append(Ok(record)),
+            Err(AdvisoryError::Bad(what)) => self.append(Err(what)),
+            Err(AdvisoryError::NoMemory) => Err(OsvError::NoMemory),
+        }
+    }
+
+    /// Appends a record that was read. Its own fault is answered first, and then an earlier record with its id. A refusal
+    /// drops the list.
+    #[tactic(auto, using(crate::proofs::Appended::pushed_reading_is))]
+    pub fn append(mut self, found: RecordRead) -> Result<RecordList, OsvError>
+        requires room { length self < MAX_ADVISORIES }
+        ensures value { Yields fault_of (λ records. records) result (appended self found) }
+        ensures count { IfOk result (λ records. length records ≡ length self + 1) }
+    {
+        push_record(found, &mut self.records, &mut self.indices)?;
         Ok(self)
     }
 
-    /// The records, in the order in which they were read. It takes no memory.
+    /// The records, in the order in which they were appended. It takes no memory.
     pub fn into_seq(self) -> Seq<Advisory>
         ensures value { result ≡ self }
         ensures distinct { HasDistinctIds result }
@@ -79,22 +93,20 @@ impl RecordList {
 
 /// Appends a record. `indices` has the index of each id.
 fn push_record(
-    alloc: Global,
-    item: &Value,
+    found: RecordRead,
     records: &mut Vec<Advisory>,
     indices: &mut BTreeMap<Text, u32>,
 ) -> Result<(), OsvError>
     requires room { length records.old.items < MAX_ADVISORIES }
     requires indexed { Indexes indices.old records.old.items }
     requires distinct { HasDistinctIds records.old.items }
-    ensures value { Yields fault_of (λ _. records.new.items) result
-        (pushed_reading records.old.items (advisory_of (view item.now))) }
+    ensures value { Yields fault_of (λ _. records.new.items) result (pushed_reading records.old.items found) }
     ensures indexed { OnOk result (Indexes indices.new records.new.items) }
     ensures distinct { OnOk result (HasDistinctIds records.new.items) }
     ensures count { OnOk result (length records.new.items ≡ length records.old.items + 1) }
 {
     let index = records.len() as u32;
-    let record = read_at(alloc, item, index)?;
+    let record = record_at(found, index)?;
     if let Some(first) = indices.insert(record.id.clone()?, index)? {
         return Err(OsvError::DuplicateId {
             first,
@@ -105,13 +117,12 @@ fn push_record(
     Ok(())
 }
 
-/// The record at this index.
-fn read_at(alloc: Global, item: &Value, index: u32) -> Result<Advisory, OsvError>
-    ensures { Yields fault_of (λ record_read. record_read) result (at_index index (advisory_of (view item.now))) }
+/// The record, whose fault has this index.
+fn record_at(found: RecordRead, index: u32) -> Result<Advisory, OsvError>
+    ensures { Yields fault_of (λ record_read. record_read) result (at_index index found) }
 {
-    match read_advisory(alloc, item) {
+    match found {
         Ok(record) => Ok(record),
-        Err(AdvisoryError::Bad(what)) => Err(OsvError::BadAdvisory { index, what }),
-        Err(AdvisoryError::NoMemory) => Err(OsvError::NoMemory),
+        Err(what) => Err(OsvError::BadAdvisory { index, what }),
     }
 }

@@ -1,16 +1,19 @@
 -- What serde_json makes of a tree without numbers, and how its members are found.
-use Rattle.std.specs.Prelude.{◌≡◌, ℕ, Bool, true, false, ◌||◌, cond, List, Option, Some, None, option_map, Ok, Err, refl}
+use Rattle.std.specs.Prelude.{◌≡◌, ℕ, Bool, true, false, ◌||◌, cond, List, [], ◌∷◌, map, Option, Some, None, is_some, option_map, Ok, Err, refl}
+use Rattle.std.specs.Borrow.{Bor}
 use Rattle.std.specs.Str.{bytes_eq, is_utf8}
 use Rattle.std.specs.Cmp.Lexicographic.{bytes_decides}
 use Rattle.std.proofs.Common.{◌∙◌, sym, ap}
 use Rattle.json.specs.Json as json
 use Rattle.json.specs.Find as find
-use Rattle.serde_json.specs.Data.{Num, Data, null, Members, no_members, put}
+use Rattle.json.specs.Value.{value_view, items_view}
+use Rattle.json.specs.declared.value.Value.{Value}
+use Rattle.serde_json.specs.Data.{Num, Data, Members, no_members, put, item}
 use Rattle.serde_json.specs.Find.{get, get_member, as_null}
-use Rattle.cv_osv.specs.Json.{member_at}
 use Rattle.serde_json.specs.Read.{number_of, of_json, of_items, of_members}
+use Rattle.serde_json.specs.View.{items_of}
 use Rattle.serde_json.proofs.Views.{get_member-put, get_member-put_other}
-use Rattle.cv_osv_text.specs.Tree.{data_of, data_items, data_members, has_number, items_number, members_number, number_or, tree_of}
+use Rattle.cv_osv_text.specs.Tree.{data_of, data_items, data_members, data_view, has_number, items_number, members_number, number_or, tree_of}
 use Rattle.cv_request.specs.Line.{json_or}
 use Rattle.cv_request.specs.declared.error.RequestFault.TheVariants.{BadJson}
 
@@ -81,35 +84,28 @@ get_is name (json.string s) = refl
 get_is name (json.array js) = refl
 get_is name (json.object ms) = member_is name ms no_members ∙ found_none (find.get_member name ms)
 
--- a member that is absent, one that is null, and another one
-pub member_none : (name : List ℕ) (j : json.Json) → find.get name j ≡ None → member_at name (data_of j) ≡ None
-member_none name j h = rw (get_is name j, h) refl
-
-null_only : (k : json.Json) → find.is_null k ≡ true → data_of k ≡ null
-null_only json.null h = refl
-null_only (json.boolean b) h = absurd (cc)
-null_only (json.number s) h = absurd (cc)
-null_only (json.string s) h = absurd (cc)
-null_only (json.array js) h = absurd (cc)
-null_only (json.object ms) h = absurd (cc)
-
-pub member_null : (name : List ℕ) (j k : json.Json) → find.get name j ≡ Some k → find.is_null k ≡ true → member_at name (data_of j) ≡ None
-member_null name j k h n = rw (get_is name j, h, null_only k n) refl
+-- the same of a member as the code has it
+pub member_found : {A : Type 0} (name : List ℕ) (j : json.Json) (found : Option (Bor (Value A))) → option_map (λ v. value_view v.now) found ≡ find.get name j → option_map (λ v. data_view v.now) found ≡ get name (data_of j)
+member_found name j None h = rw (get_is name j, ← h) refl
+member_found name j (Some v) h = rw (get_is name j, ← h) refl
 
 is_number : (n : Option Num) → as_null (number_or n) ≡ None
 is_number None = refl
 is_number (Some n) = refl
 
-not_null : (k : json.Json) → find.is_null k ≡ false → as_null (data_of k) ≡ None
-not_null json.null h = absurd (cc)
-not_null (json.boolean b) h = refl
-not_null (json.number s) h = is_number (number_of s)
-not_null (json.string s) h = refl
-not_null (json.array js) h = refl
-not_null (json.object ms) h = refl
+-- null alone is null
+pub null_is : (j : json.Json) → find.is_null j ≡ is_some (as_null (data_of j))
+null_is json.null = refl
+null_is (json.boolean b) = refl
+null_is (json.number s) = sym (ap is_some (is_number (number_of s)))
+null_is (json.string s) = refl
+null_is (json.array js) = refl
+null_is (json.object ms) = refl
 
-pub member_found : (name : List ℕ) (j k : json.Json) → find.get name j ≡ Some k → find.is_null k ≡ false → member_at name (data_of j) ≡ Some (data_of k)
-member_found name j k h n = rw (get_is name j, h, not_null k n) refl
+-- the items of a list are the values of its trees
+pub items_are : {A : Type 0} (vs : List (Value A)) → items_of (map data_view vs) ≡ data_items (items_view vs)
+items_are [] = refl
+items_are (v ∷ vs) = ap (item (data_view v)) (items_are vs)
 
 -- a line that is such a tree
 pub json_found : (line : List ℕ) (j : json.Json) → is_utf8 line ≡ true → tree_of line ≡ Some j → has_number j ≡ false → json_or line ≡ Ok (data_of j)

@@ -8,7 +8,7 @@ use Rattle.cv_request.specs.Line.{json_or}
 use Rattle.cv_request.specs.declared.error.RequestFault.{RequestFault}
 use Rattle.json.specs.Lex.{tokens}
 use Rattle.json.specs.Json as json
-use Rattle.json.specs.Value.{value_view, items_view}
+use Rattle.json.specs.Value.{value_view}
 use Rattle.json.specs.declared.value.Value.{Value}
 use Rattle.serde_json.specs.Data.{Num, unsigned, Data, null, boolean, number, string, array, object, Items, no_items, item, Members, no_members, put}
 use Rattle.serde_json.specs.Read.{number_of, max_depth}
@@ -61,10 +61,6 @@ abbrev mutual
 -- the value of a tree, as the code has it
 abbrev pub data_view : {A : Type 0} → Value A → Data
 data_view v = data_of (value_view v)
-
--- those of items
-abbrev pub data_items_view : {A : Type 0} → List (Value A) → Items
-data_items_view vs = data_items (items_view vs)
 
 -- the tree that a text is, as deep as serde_json reads it: what serde_json makes of it is `read`
 abbrev pub tree_of : List ℕ → Option json.Json

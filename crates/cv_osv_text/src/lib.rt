@@ -3,22 +3,16 @@
 //! ```text
 //! let mut reader = RecordReader::new(alloc)?;
 //! let found = reader.read(alloc, line)?;
-//! let records = LineRecords::new(alloc).append(found)?;
+//! let records = RecordList::new(alloc).append(found)?;
 //! ```
 #![tactic(auto)]
 
 mod line;
-mod member;
+mod node;
 mod numbers;
-mod part;
-mod range;
 mod reader;
-mod record;
-mod records;
 mod shared;
 #[cfg(test)]
 mod tests;
 
-pub use line::RecordRead;
 pub use reader::RecordReader;
-pub use records::LineRecords;

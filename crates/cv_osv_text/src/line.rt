@@ -8,10 +8,8 @@ ghost use Rattle.cv_osv_text.specs.Tree.{data_view, line_read, tree_of};
 ghost use Rattle.json.specs.Value.{value_view};
 
 use crate::numbers::has_number;
-use crate::record::read_advisory;
 use crate::shared::SharedTexts;
-use cv_base::Advisory;
-use cv_osv::{AdvisoryError, RecordWhat};
+use cv_osv::{AdvisoryError, RecordRead, read_advisory, read_node};
 use cv_request::{RequestError, read_json};
 use json::{Error, Reader, Scratch, Value};
 use std::alloc::Global;
@@ -19,9 +17,6 @@ use std::str;
 
 /// How deep arrays and objects nest at most, as for serde_json.
 const MAX_DEPTH: usize = 127;
-
-/// A record, or what is wrong with it.
-pub type RecordRead = Result<Advisory, RecordWhat>;
 
 /// Reads a line as a record, as `read_json` of cv_request and `read_advisory` of cv_osv do. No text of the line that is not
 /// kept is copied. `BadJson` if the line is not UTF-8 or not JSON. A line with a number is read by these two: serde_json
@@ -74,7 +69,7 @@ fn read_record(
 ) -> Result<RecordRead, RequestError>
     ensures { Yields fault_of (λ found. found) result (Ok (advisory_of (data_view tree.now))) }
 {
-    match read_advisory(alloc, texts, tree) {
+    match read_node(alloc, texts, tree) {
         Ok(record) => Ok(Ok(record)),
         Err(AdvisoryError::Bad(what)) => Ok(Err(what)),
         Err(AdvisoryError::NoMemory) => Err(RequestError::NoMemory),
@@ -86,7 +81,7 @@ fn read_owned(alloc: Global, line: &[u8]) -> Result<RecordRead, RequestError>
     ensures { Yields fault_of (λ found. found) result (line_read line.now) }
 {
     let value = read_json(alloc, line)?;
-    match cv_osv::read_advisory(alloc, &value) {
+    match read_advisory(alloc, &value) {
         Ok(record) => Ok(Ok(record)),
         Err(AdvisoryError::Bad(what)) => Ok(Err(what)),
         Err(AdvisoryError::NoMemory) => Err(RequestError::NoMemory),

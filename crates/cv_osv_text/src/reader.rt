@@ -2,9 +2,10 @@ ghost use Rattle.cv_base.specs.Answer.{Yields};
 ghost use Rattle.cv_request.specs.Fault.{fault_of};
 ghost use Rattle.cv_osv_text.specs.Tree.{line_read};
 
-use crate::line::{RecordRead, read_line};
+use crate::line::read_line;
 use crate::shared::SharedTexts;
 use cv_base::NoMemory;
+use cv_osv::RecordRead;
 use cv_request::RequestError;
 use json::Scratch;
 use std::alloc::Global;
@@ -17,6 +18,7 @@ pub struct RecordReader {
 }
 
 impl RecordReader {
+    /// No text is kept yet. It takes memory for the table of texts.
     pub fn new(alloc: Global) -> Result<RecordReader, NoMemory> {
         Ok(RecordReader {
             scratch: Scratch::new(alloc),

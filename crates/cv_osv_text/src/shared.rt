@@ -1,6 +1,7 @@
 ghost use Rattle.std.specs.Prelude.{◌≡◌, IfOk, IfSome};
 
 use cv_base::{NoMemory, Text};
+use cv_osv::Texts;
 use std::alloc::Global;
 
 /// How many slots there are at first, and at most.
@@ -31,28 +32,6 @@ impl SharedTexts {
             slots: vec![in alloc; 0usize; FIRST_SLOTS]?,
             next: 0,
         })
-    }
-
-    /// The text, which shares its bytes with an equal one that is kept. Else it takes memory, and is kept.
-    pub(crate) fn text(&mut self, alloc: Global, text: &str) -> Result<Text, NoMemory>
-        ensures { IfOk result (λ made. made ≡ text.now) }
-    {
-        if text.len() > LONGEST {
-            return Text::of(alloc, text);
-        }
-        if let Some(known) = self.known(self.next, text)? {
-            self.next = self.next.saturating_add(1);
-            return Ok(known);
-        }
-        let slot = slot_of(text, self.slots.len());
-        let place = self.place(slot);
-        if let Some(known) = self.known(place, text)? {
-            self.next = place.saturating_add(1);
-            return Ok(known);
-        }
-        let made = Text::of(alloc, text)?;
-        self.keep(alloc, slot, made.clone()?)?;
-        Ok(made)
     }
 
     /// The text at a place, if it is this one.
@@ -92,6 +71,28 @@ impl SharedTexts {
             self.slots = slots_for(alloc, &self.made, self.slots.len().saturating_mul(4))?;
         }
         Ok(())
+    }
+}
+
+impl Texts for SharedTexts {
+    /// The text, which shares its bytes with an equal one that is kept. Else it takes memory, and is kept.
+    fn text(&mut self, alloc: Global, text: &str) -> Result<Text, NoMemory> {
+        if text.len() > LONGEST {
+            return Text::of(alloc, text);
+        }
+        if let Some(known) = self.known(self.next, text)? {
+            self.next = self.next.saturating_add(1);
+            return Ok(known);
+        }
+        let slot = slot_of(text, self.slots.len());
+        let place = self.place(slot);
+        if let Some(known) = self.known(place, text)? {
+            self.next = place.saturating_add(1);
+            return Ok(known);
+        }
+        let made = Text::of(alloc, text)?;
+        self.keep(alloc, slot, made.clone()?)?;
+        Ok(made)
     }
 }
 

@@ -1,6 +1,6 @@
-use crate::{LineRecords, RecordReader};
+use crate::RecordReader;
 use cv_base::{Advisory, Turn};
-use cv_osv::{AdvisoryError, OsvError, RecordWhat, read_advisory};
+use cv_osv::{AdvisoryError, OsvError, RecordList, RecordWhat, read_advisory};
 use cv_request::{RequestError, read_json};
 use std::alloc::Global;
 use std::test::Fail;
@@ -97,7 +97,7 @@ fn an_id_that_comes_again_is_refused(rt: HostRuntime) -> Result<(), Fail> {
     let mut reader = RecordReader::new(alloc)?;
     let first = reader.read(alloc, b"{\"id\":\"X-1\",\"modified\":\"m\"}")?;
     let again = reader.read(alloc, b"{\"modified\":\"n\",\"id\":\"X-1\"}")?;
-    let records = LineRecords::new(alloc).append(first)?;
+    let records = RecordList::new(alloc).append(first)?;
     assert!(rt; !records.is_full());
     let wanted = OsvError::DuplicateId {
         first: 0,

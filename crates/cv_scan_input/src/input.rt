@@ -16,7 +16,8 @@ use crate::error::InputError;
 use crate::line::{manifest_line, record_line};
 use cv_base::{Advisory, MAX_ADVISORIES, MAX_LAYERS, Manifest, Seq};
 use cv_io::{Line, LineReader, Source};
-use cv_osv_text::{LineRecords, RecordReader};
+use cv_osv::RecordList;
+use cv_osv_text::RecordReader;
 use std::alloc::Global;
 
 /// The most bytes of a line of an input.
@@ -113,7 +114,7 @@ fn read_rest<S: Source>(
     ensures cause { CausedBy (S.faults input.old) (S.faults input.new) (is_input_fault result) }
 {
     let mut lines = RecordReader::new(alloc)?;
-    let mut records = LineRecords::new(alloc);
+    let mut records = RecordList::new(alloc);
     let mut number: u64 = 1;
     while let Line::Text(text) = reader.next(alloc, input)? {
         number += 1;

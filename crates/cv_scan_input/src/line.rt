@@ -7,7 +7,8 @@ ghost use Rattle.cv_scan_input.specs.code.Remaining.{found_after, line_after, re
 
 use crate::error::InputError;
 use cv_base::{MAX_LAYERS, Manifest};
-use cv_osv_text::{LineRecords, RecordRead, RecordReader};
+use cv_osv::{RecordList, RecordRead};
+use cv_osv_text::RecordReader;
 use cv_request::{RequestError, read_json, read_manifest};
 use std::alloc::Global;
 
@@ -25,10 +26,10 @@ pub(crate) fn manifest_line(alloc: Global, line: &[u8]) -> Result<Manifest, Inpu
 pub(crate) fn record_line(
     alloc: Global,
     reader: &mut RecordReader,
-    records: LineRecords,
+    records: RecordList,
     line: &[u8],
     number: u64,
-) -> Result<LineRecords, InputError>
+) -> Result<RecordList, InputError>
     ensures { Gives is_input_memory (λ more. more) result (line_after number records line.now) }
 {
     if line.is_empty() {
@@ -59,9 +60,9 @@ fn manifest_text(alloc: Global, text: &[u8]) -> Result<Manifest, RequestError>
 fn record_text(
     alloc: Global,
     reader: &mut RecordReader,
-    records: LineRecords,
+    records: RecordList,
     text: &[u8],
-) -> Result<LineRecords, RequestError>
+) -> Result<RecordList, RequestError>
     ensures { Yields fault_of (λ more. more) result (text_after records text.now) }
 {
     let found = reader.read(alloc, text)?;
@@ -70,7 +71,7 @@ fn record_text(
 
 /// Appends a record that was read, unless there are too many.
 #[tactic(auto, using(crate::proofs::Refusals::list_yields))]
-fn append(records: LineRecords, found: RecordRead) -> Result<LineRecords, RequestError>
+fn append(records: RecordList, found: RecordRead) -> Result<RecordList, RequestError>
     ensures { Yields fault_of (λ more. more) result (found_after records found) }
 {
     if records.is_full() {
