@@ -2,11 +2,10 @@
 use Rattle.std.proofs.Common.{◌≡◌, ℕ, ◌+◌, ◌-◌, ◌^◌, ◌<◌, ◌≤◌, Bool, true, false, List, [], ◌∷◌, ◌++◌, filter, length, map, None, Some, Option, refl, ap, sym, subst, ◌∙◌, arith, length-append}
 use Rattle.std.specs.List.{AllByRecursion}
 use Rattle.std.specs.Prelude.{get_or, OnOk, Result, Ok, Err}
-use Rattle.std.proofs.lemmas.List.{map-append}
+use Rattle.std.proofs.lemmas.List.{get_or_default, map-append}
 use Rattle.std.proofs.lemmas.List.Elements.{filter-append, filter_map-append}
 use Rattle.cv_records.specs.declared.event.Act.TheVariants as name
 use Rattle.cv_records.specs.declared.event.By.{By}
-use Rattle.cv_records.specs.declared.event.By.TheVariants as by
 use Rattle.cv_records.specs.declared.event.EventEntry.{EventEntry}
 use Rattle.cv_records.specs.declared.reply.Reply.{Reply}
 use Rattle.cv_records.specs.declared.reply.Reply.TheVariants as reply
@@ -20,11 +19,11 @@ use Rattle.cv_hub.specs.declared.submission.Submission.{Submission}
 use Rattle.cv_hub.proofs.Prefixes.{prefix_length}
 use Rattle.cv_legal.specs.Parts.{claim_in, claims_of, is_grant}
 use Rattle.cv_legal.specs.Turns.{Works, work_after}
-use Rattle.cv_pool.specs.Hands.{HandState, IsSameHand, hand_after}
+use Rattle.cv_pool.specs.Hands.{Fill, HandState, IsSameHand, hand_after}
 use Rattle.cv_round.specs.Round.{RoseBy, fault_count, grant_count, is_fault}
-use Rattle.cv_round.specs.code.Own.{Placed, entry_of, placed}
-use Rattle.cv_round.specs.code.Worker.{EndsWork, IsByWorker, Settled, WorkerDid, fault_of, layers_of}
-use Rattle.cv_round.proofs.OwnLemmas.{made_longer, made_none, made_one, made_then}
+use Rattle.cv_round.specs.code.Own.{entry_of}
+use Rattle.cv_round.specs.code.Worker.{Claimed, EndsWork, IsByWorker, IsHandReady, Settled, WorkerDid, claim_at, fault_of, layers_of}
+use Rattle.cv_round.proofs.OwnLemmas.{made_longer, made_none, made_then}
 
 -- ---- lists
 
@@ -84,19 +83,6 @@ did_then worker first second a b c l f m g n h one two =
       failed = rw (both, faults_both (map entry_of one.own) (map entry_of two.own)) (rose_then (fault_count (map entry_of one.own)) (fault_count (map entry_of two.own)) f g h one.failed two.failed);
     }
 
--- a worker's event was applied
-pub settled_one : (tree : DeskTrees) (limits : Limits) (worker : ℕ) (layer : List ℕ) (act : WholeAct) (before after : SeatView) (list : List Submission) (number : ℕ) (reply : Reply) (note : List Submission) (l f m g : ℕ)
-    → IsApplied tree limits list before (by.Worker worker) act number reply note after → EndsWork worker layer act → m ≡ l + 1 → RoseBy (fault_of (act_name act)) f g
-    → Settled worker layer before l f after m g
-settled_one tree limits worker layer act before after list number reply note l f m g h ends listed failed = record {
-  placed = placed number (record { seat = before.index; by = by.Worker worker; act = act; reply = reply });
-  made = made_one tree limits list before after (by.Worker worker) act number reply note h;
-  by_is = refl;
-  ends = ends;
-  listed = listed;
-  failed = failed;
-}
-
 -- ---- one job
 
 no_work : (layer : List ℕ) (reply : Reply) → is_grant (name.Claim layer) reply ≡ false → work_after (name.Claim layer) reply ≡ None
@@ -142,18 +128,20 @@ grant_one event true is = rw is refl
 grant_one event false is = rw is refl
 
 -- a claim was not granted
-pub claim_refused : (tree : DeskTrees) (limits : Limits) (worker : ℕ) (layer : List ℕ) (before after : SeatView) (list : List Submission) (number : ℕ) (reply : Reply) (note : List Submission) (l f : ℕ)
-    → IsApplied tree limits list before (by.Worker worker) (whole.Claim layer worker) number reply note after → is_grant (name.Claim layer) reply ≡ false
-    → WorkerDid worker (layer ∷ []) before l f after l f
-claim_refused tree limits worker layer before after list number reply note l f h not = record {
-  own = placed number (record { seat = before.index; by = by.Worker worker; act = whole.Claim layer worker; reply = reply }) ∷ [];
-  made = made_one tree limits list before after (by.Worker worker) (whole.Claim layer worker) number reply note h;
-  by_worker = ((refl, refl), tt);
-  works = (tt, sym (no_work layer reply not));
-  claims = refl;
-  listed = let none = grant_one (entry_of (placed number (record { seat = before.index; by = by.Worker worker; act = whole.Claim layer worker; reply = reply }))) false not in omega (arith, none);
-  failed = rose_none f;
-}
+pub claim_refused : (worker : ℕ) (layer : List ℕ) (granted : Bool) (before after : SeatView) (l f : ℕ)
+    → Claimed worker layer granted before after → granted ≡ false → WorkerDid worker (layer ∷ []) before l f after l f
+claim_refused worker layer granted before after l f claimed not =
+    let claim = claim_at claimed.number before.index worker layer claimed.reply in
+    let refused : is_grant (name.Claim layer) claimed.reply ≡ false = sym claimed.granted_is ∙ not in
+    record {
+      own = claim ∷ [];
+      made = claimed.made;
+      by_worker = ((refl, refl), tt);
+      works = (tt, sym (no_work layer claimed.reply refused));
+      claims = refl;
+      listed = let none = grant_one (entry_of claim) false refused in omega (arith, none);
+      failed = rose_none f;
+    }
 
 fault_two : {m n : ℕ} → m ≡ n → 0 + m ≡ n
 fault_two is = omega (arith, is)
@@ -171,23 +159,23 @@ ends_claim worker layer (whole.Update feed records) event ends is = absurd ends.
 ends_claim worker layer (whole.Ack number) event ends is = absurd ends.fits
 
 -- a claim was granted, and its worker said what became of the layer
-pub claim_settled : (tree : DeskTrees) (limits : Limits) (worker : ℕ) (layer : List ℕ) (a b c : SeatView) (list : List Submission) (number : ℕ) (reply : Reply) (note : List Submission) (l f m g : ℕ)
-    → IsApplied tree limits list a (by.Worker worker) (whole.Claim layer worker) number reply note b → is_grant (name.Claim layer) reply ≡ true
-    → Settled worker layer b l f c m g → WorkerDid worker (layer ∷ []) a l f c m g
-claim_settled tree limits worker layer a b c list number reply note l f m g h granted settled =
-    let claim : Placed = placed number (record { seat = a.index; by = by.Worker worker; act = whole.Claim layer worker; reply = reply }) in
+pub claim_settled : (worker : ℕ) (layer : List ℕ) (granted : Bool) (act : WholeAct) (a b c : SeatView) (l f m g : ℕ)
+    → Claimed worker layer granted a b → granted ≡ true → (settled : Settled worker act b c) → EndsWork worker layer settled.placed.event.act
+    → m ≡ l + 1 → RoseBy (fault_of (act_name settled.placed.event.act)) f g → WorkerDid worker (layer ∷ []) a l f c m g
+claim_settled worker layer granted act a b c l f m g claimed is settled ends listed failed =
+    let claim = claim_at claimed.number a.index worker layer claimed.reply in
     let end = settled.placed in
-    let first = made_one tree limits list a b (by.Worker worker) (whole.Claim layer worker) number reply note h in
-    let none = ends_claim worker layer end.event.act (entry_of end) settled.ends refl in
+    let grant : is_grant (name.Claim layer) claimed.reply ≡ true = sym claimed.granted_is ∙ is in
+    let none = ends_claim worker layer end.event.act (entry_of end) ends refl in
     record {
       own = claim ∷ end ∷ [];
-      made = made_then a b c (claim ∷ []) (end ∷ []) first settled.made;
-      by_worker = ((refl, refl), ((settled.by_is, settled.ends.source), tt));
-      works = (tt, subst (λ (at : Option (List ℕ)). Works at (entry_of end ∷ []) None) (sym (grant_work layer reply granted)) (settled.ends.fits, sym none.0));
+      made = made_then a b c (claim ∷ []) (end ∷ []) claimed.made settled.made;
+      by_worker = ((refl, refl), ((settled.by_is, ends.source), tt));
+      works = (tt, subst (λ (at : Option (List ℕ)). Works at (entry_of end ∷ []) None) (sym (grant_work layer claimed.reply grant)) (ends.fits, sym none.0));
       claims = ap (λ more. layer ∷ more) none.1;
       listed = let two = grants_both (entry_of claim ∷ []) (entry_of end ∷ []) in
-          omega (arith, settled.listed, two, grant_one (entry_of claim) true granted, grant_one (entry_of end) false none.2);
-      failed = subst (λ (n : ℕ). RoseBy n f g) (sym (faults_both (entry_of claim ∷ []) (entry_of end ∷ []) ∙ fault_two none.3)) settled.failed;
+          omega (arith, listed, two, grant_one (entry_of claim) true grant, grant_one (entry_of end) false none.2);
+      failed = subst (λ (n : ℕ). RoseBy n f g) (sym (faults_both (entry_of claim ∷ []) (entry_of end ∷ []) ∙ fault_two none.3)) failed;
     }
 
 -- ---- room
@@ -196,31 +184,31 @@ pub on_ok : {X E : Type 0} {P Q : Type 0} (r : Result X E) → OnOk r P → (P �
 on_ok (Ok x) h f = f h
 on_ok (Err e) h f = tt
 
--- an event that was applied was seen
-seen_more : (tree : DeskTrees) (limits : Limits) (list : List Submission) (before after : SeatView) (source : By) (act : WholeAct) (number : ℕ) (reply : Reply) (note : List Submission)
-    → IsApplied tree limits list before source act number reply note after → length before.list + 1 ≤ length after.list
-seen_more tree limits list before after source act number reply note h =
+-- what a seat has seen after an event of its own: more than before, and at most 2^63 events
+pub applied_length : (tree : DeskTrees) (limits : Limits) (list : List Submission) (before after : SeatView) (source : By) (act : WholeAct) (number : ℕ) (reply : Reply) (note : List Submission)
+    → IsApplied tree limits list before source act number reply note after → (length before.list < length after.list) × (length after.list ≤ 2 ^ 63)
+applied_length tree limits list before after source act number reply note h =
     let size : length after.list ≡ length list + 1 = ap (λ s. length s.list) h.seat_is ∙ (ap length h.note_is ∙ length-append list (record { seat = before.index; by = source; act = act; reply = reply } ∷ [])) in
-    omega (arith, size, prefix_length before.list list h.seen)
+    (omega (arith, size, prefix_length before.list list h.seen), omega (arith, size, h.number_is, h.few))
 
 -- a listing follows a claim
-pub settle_room : (tree : DeskTrees) (limits : Limits) (list : List Submission) (before after : SeatView) (source : By) (act : WholeAct) (number : ℕ) (reply : Reply) (note : List Submission) (l : ℕ)
-    → IsApplied tree limits list before source act number reply note after → l ≤ 2 ^ 62 + length before.list → l < 2 ^ 62 + length after.list
-settle_room tree limits list before after source act number reply note l h room = omega (arith, room, seen_more tree limits list before after source act number reply note h)
-
-pub claim_room : (tree : DeskTrees) (limits : Limits) (list : List Submission) (before after : SeatView) (source : By) (act : WholeAct) (number : ℕ) (reply : Reply) (note : List Submission) (l : ℕ)
-    → IsApplied tree limits list before source act number reply note after → l ≤ 2 ^ 62 + length before.list → l ≤ 2 ^ 62 + length after.list
-claim_room tree limits list before after source act number reply note l h room = omega (arith, room, seen_more tree limits list before after source act number reply note h)
-
-pub settled_room : (worker : ℕ) (layer : List ℕ) (before after : SeatView) (l f m g : ℕ) → Settled worker layer before l f after m g → l < 2 ^ 62 + length before.list → m ≤ 2 ^ 62 + length after.list
-settled_room worker layer before after l f m g h room =
-    let longer = prefix_length before.list after.list (made_longer before after (h.placed ∷ []) h.made) in omega (arith, h.listed, longer, room)
+pub settled_room : (worker : ℕ) (layer : List ℕ) (granted : Bool) (act : WholeAct) (a b c : SeatView) (l m : ℕ)
+    → Claimed worker layer granted a b → Settled worker act b c → m ≡ l + 1 → l ≤ 2 ^ 62 + length a.list → m ≤ 2 ^ 62 + length c.list
+settled_room worker layer granted act a b c l m claimed settled listed room =
+    let longer = prefix_length b.list c.list (made_longer b c (settled.placed ∷ []) settled.made) in omega (arith, listed, longer, claimed.longer, room)
 
 -- ---- jobs
 
 -- the layers of one more job
 pub layers_more : (queue : List (List ℕ)) (jobs : List ℕ) (job : ℕ) → layers_of queue (jobs ++ job ∷ []) ≡ layers_of queue jobs ++ get_or queue job [] ∷ []
 layers_more queue jobs job = map-append (λ j. get_or queue j []) jobs (job ∷ [])
+
+-- the layer of a job that a hand took
+pub job_layer : (queue : List (List ℕ)) (first hand : HandState) (job : ℕ) (layer : List ℕ) → IsHandReady (length queue) first → IsSameHand first hand → job < hand.fill.jobs
+    → layer ≡ get_or queue job layer → layer ≡ get_or queue job []
+job_layer queue first hand job layer ready same below at =
+    let jobs : hand.fill.jobs ≡ length queue = ap (λ (fill : Fill). fill.jobs) same.0 ∙ ready.0 in
+    at ∙ get_or_default queue job layer [] (subst (λ n. job < n) jobs below)
 
 -- one more job was taken and worked at
 pub job_did : (worker : ℕ) (queue : List (List ℕ)) (hand next : HandState) (job : ℕ) (layer : List ℕ) (a b c : SeatView) (l f m g n h : ℕ) → next ≡ hand_after hand (Some job) → layer ≡ get_or queue job []

@@ -1,7 +1,8 @@
-ghost use Rattle.std.specs.Prelude.{◌≡◌, ◌+◌, ◌<◌, ◌≤◌, ◌^◌, ℕ, List, [], ◌∷◌, length, true, OnOk};
+ghost use Rattle.std.specs.Prelude.{◌≡◌, ℕ, List, length, IfOk, OnOk};
 ghost use Rattle.cv_records.specs.declared.event.Act.TheVariants as name;
+ghost use Rattle.cv_core.specs.Core.{IsSound, act_of};
 ghost use Rattle.cv_legal.specs.Parts.{is_grant};
-ghost use Rattle.cv_round.specs.code.Worker.{HandDid, HasRoom, IsHandReady, Settled, WorkerDid};
+ghost use Rattle.cv_round.specs.code.Worker.{Claimed, HandDid, HasRoom, IsHandReady, Settled};
 
 use crate::index::index;
 use cv_base::Digest;
@@ -14,7 +15,8 @@ use cv_seq::NoMemory;
 use std::alloc::Global;
 use std::sync::Wait;
 
-/// A worker takes jobs until there are none: each is the place of a layer in the queue.
+/// A worker takes jobs until there are none: each is the place of a layer in the queue. It claims the layer, and if that is granted,
+/// indexes it and says what became of it.
 pub fn run_worker<D: Desk + Drop, L: Identity, W: Wait>(
     rt: &W,
     alloc: Global,
@@ -33,53 +35,45 @@ pub fn run_worker<D: Desk + Drop, L: Identity, W: Wait>(
         let Some(job) = hand.next(rt) else {
             return Ok(());
         };
-        work(rt, alloc, hub, worker, queue[job as usize], seat, desk)?;
+        let layer = queue[job as usize];
+        let granted = claim(rt, alloc, hub, worker, layer, seat)?;
+        if !granted {
+            continue;
+        }
+        let event = index(alloc, desk, layer, worker);
+        settle(rt, alloc, hub, worker, event, seat)?;
     }
     unreachable!()
 }
 
-/// A worker claims a layer. If that is granted, it indexes the layer and says what became of it.
-fn work<D: Desk + Drop, L: Identity, W: Wait>(
+/// A worker claims a layer, and learns whether the claim is granted.
+fn claim<D: Desk + Drop, L: Identity, W: Wait>(
     rt: &W,
     alloc: Global,
     hub: &Hub<D, L>,
     worker: u32,
     layer: Digest,
     seat: &mut Seat<D, L>,
-    desk: &mut D,
-) -> Result<(), NoMemory>
-    requires desk { HasRoom D.listings seat.old desk.old }
-    ensures did { OnOk result (WorkerDid worker (layer ∷ []) seat.old (D.listings desk.old) (D.faults desk.old) seat.new (D.listings desk.new) (D.faults desk.new)) }
-    ensures room { OnOk result (HasRoom D.listings seat.new desk.new) }
+) -> Result<bool, NoMemory>
+    ensures claimed { IfOk result (λ granted. Claimed worker layer granted seat.old seat.new) }
 {
-    let claim = hub.submit(
-        rt,
-        alloc,
-        seat,
-        By::Worker(worker),
-        Event::Claim(layer, worker),
-    )?;
-    if !is_claimed(&claim.reply) {
-        return Ok(());
-    }
-    settle(rt, alloc, hub, worker, layer, seat, desk)
+    let claim = Event::Claim(layer, worker);
+    let receipt = hub.submit(rt, alloc, seat, By::Worker(worker), claim)?;
+    Ok(is_claimed(&receipt.reply))
 }
 
-/// A worker indexes a layer that it claimed, and says what became of it.
+/// A worker says what became of a layer that it claimed.
 fn settle<D: Desk + Drop, L: Identity, W: Wait>(
     rt: &W,
     alloc: Global,
     hub: &Hub<D, L>,
     worker: u32,
-    layer: Digest,
+    event: Event<D>,
     seat: &mut Seat<D, L>,
-    desk: &mut D,
 ) -> Result<(), NoMemory>
-    requires room { D.listings desk.old < 2 ^ 62 + length seat.old.list }
-    requires few { length seat.old.list ≤ 2 ^ 63 }
-    ensures settled { OnOk result (Settled worker layer seat.old (D.listings desk.old) (D.faults desk.old) seat.new (D.listings desk.new) (D.faults desk.new)) }
+    requires sound { IsSound (act_of event) }
+    ensures settled { OnOk result (Settled worker (act_of event) seat.old seat.new) }
 {
-    let event = index(alloc, desk, layer, worker);
     hub.submit(rt, alloc, seat, By::Worker(worker), event)?;
     Ok(())
 }

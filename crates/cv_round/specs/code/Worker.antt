@@ -1,18 +1,21 @@
 -- What a worker does in a round.
-use Rattle.std.specs.Prelude.{◌≡◌, ⊤, ℕ, ◌+◌, ◌^◌, ◌≤◌, true, List, [], ◌∷◌, get_or, length, map, None, Some}
+use Rattle.std.specs.Prelude.{◌≡◌, ⊤, ℕ, ◌+◌, ◌^◌, ◌<◌, ◌≤◌, Bool, true, List, [], ◌∷◌, get_or, length, map, None, Some}
 use Rattle.std.specs.List.{AllByRecursion}
 use Rattle.cv_records.specs.declared.event.Act.{Act}
+use Rattle.cv_records.specs.declared.event.Act.TheVariants as name
 use Rattle.cv_records.specs.declared.event.By.TheVariants as by
+use Rattle.cv_records.specs.declared.reply.Reply.{Reply}
 use Rattle.cv_machine.specs.History.{act_name}
 use Rattle.cv_machine.specs.declared.act.WholeAct.{WholeAct}
+use Rattle.cv_machine.specs.declared.act.WholeAct.TheVariants as whole
 use Rattle.cv_core.specs.Core.{IsSound}
 use Rattle.cv_hub.specs.Seats.{SeatView, one_if}
-use Rattle.cv_legal.specs.Parts.{claims_of}
+use Rattle.cv_legal.specs.Parts.{claims_of, is_grant}
 use Rattle.cv_legal.specs.Replay.{worker_event}
 use Rattle.cv_legal.specs.Turns.{FitsWork, Works}
 use Rattle.cv_pool.specs.Hands.{HandState, IsSameHand}
 use Rattle.cv_round.specs.Round.{RoseBy, fault_count, grant_count, is_fault}
-use Rattle.cv_round.specs.code.Own.{Made, Placed, entry_of}
+use Rattle.cv_round.specs.code.Own.{Made, Placed, entry_of, placed}
 
 -- the layers of jobs
 abbrev pub layers_of : List (List ℕ) → List ℕ → List (List ℕ)
@@ -50,14 +53,25 @@ WorkersDid listings faults queue worker _ _ _ _ _ = ⊥
 abbrev pub fault_of : Act → ℕ
 fault_of act = one_if (is_fault act)
 
--- a worker said what became of a layer that it claimed
-pub record Settled (worker : ℕ) (layer : List ℕ) (before : SeatView) (listings faults : ℕ) (after : SeatView) (listings_after faults_after : ℕ) : Type 0 where
+-- a worker's claim of a layer, with its number and its reply
+abbrev pub claim_at : ℕ → ℕ → ℕ → List ℕ → Reply → Placed
+claim_at number seat worker layer reply = placed number (record { seat = seat; by = by.Worker worker; act = whole.Claim layer worker; reply = reply })
+
+-- a worker claimed a layer, and the claim was granted or not. Its seat has then seen the claim, and at most 2^63 events
+pub record Claimed (worker : ℕ) (layer : List ℕ) (granted : Bool) (before after : SeatView) : Type 0 where
+  pub number : ℕ
+  pub reply : Reply
+  pub made : Made before after (claim_at number before.index worker layer reply ∷ [])
+  pub granted_is : granted ≡ is_grant (name.Claim layer) reply
+  pub longer : length before.list < length after.list
+  pub few : length after.list ≤ 2 ^ 63
+
+-- a worker said by an event what became of a layer
+pub record Settled (worker : ℕ) (act : WholeAct) (before after : SeatView) : Type 0 where
   pub placed : Placed
   pub made : Made before after (placed ∷ [])
   pub by_is : placed.event.by ≡ by.Worker worker
-  pub ends : EndsWork worker layer placed.event.act
-  pub listed : listings_after ≡ listings + 1
-  pub failed : RoseBy (fault_of (act_name placed.event.act)) faults faults_after
+  pub act_is : placed.event.act ≡ act
 
 -- a hand of a fill of so many jobs that has taken none
 abbrev pub IsHandReady : ℕ → HandState → Type 0
