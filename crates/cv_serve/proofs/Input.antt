@@ -1,13 +1,16 @@
--- What was read of the input, line by line.
-use Rattle.std.specs.Prelude.{◌≡◌, ℕ, List, [], ◌∷◌, ◌++◌, Option, Some, None, IfErr, IfSome, Result, Ok, Err, refl}
-use Rattle.std.proofs.Common.{ap, append_assoc, sym, ◌∙◌}
+-- What was read of the input, line by line, and how much of it was taken.
+use Rattle.std.specs.Prelude.{◌≡◌, ℕ, ◌^◌, List, [], ◌∷◌, ◌++◌, Option, Some, None, IfErr, IfSome, IsErrAnd, Result, Ok, Err, refl}
+use Rattle.std.proofs.Common.{ap, append_assoc, subst, sym, ◌∙◌}
 use Rattle.std.proofs.lemmas.List.{append-nil}
 use Rattle.cv_io.specs.Lines.{Reading, Finished, lines_of, lines_then}
 use Rattle.cv_io.proofs.Readings.{reading_finished}
-use Rattle.cv_io.specs.Reader.{Reads, new_reader, reading}
+use Rattle.cv_io.specs.Reader.{Reader, Reads, Step, new_reader, reading}
 use Rattle.cv_io.specs.declared.line.Line.TheVariants.{Text, End}
 use Rattle.cv_io.specs.declared.line.LineError.{LineError}
 use Rattle.cv_io.specs.declared.line.LineError.TheVariants as line
+use Rattle.cv_scan_input.specs.Taken.{IsTaken, IsTakenWithin}
+use Rattle.cv_scan_input.specs.code.TakenParts.{IsTakenFrom, IsTakenTo}
+use Rattle.cv_scan_input.proofs.Taken.{rest_taken, rest_taken_up, taken_first, taken_more, taken_up}
 use Rattle.cv_scan_input.specs.declared.input.TheConstants.{MAX_INPUT, MAX_LINE}
 use Rattle.cv_serve.specs.Ends.{IsWriting, end_of, line_stop}
 use Rattle.cv_serve.specs.Served.{FitsInput}
@@ -46,7 +49,38 @@ reads_stop (Some whole) (Some rest) next texts line.LineTooLong h k = ap (λ r. 
 reads_stop (Some whole) (Some rest) next texts line.InputTooLong h k = ap (λ r. r.stop) h ∙ ap (λ r. r.stop) k
 reads_stop (Some whole) (Some rest) next texts line.NoMemory h k = tt
 
+-- the input was found to be too long
+pub taken_stop : (was : ℕ) (before now : Reader) (l m k : Option (List ℕ)) (error : LineError) (r : Result Unit Stopped) → IsTakenTo was before.taken l m → Step before now m k (Err error)
+    → now.max_input ≡ 2 ^ 36 → IsErrAnd r (λ e. e ≡ line_stop error) → r ≡ Err stop.InputTooLong → IsTakenTo was (2 ^ 36) l k
+taken_stop was before now l m k error (Ok x) h s inputs from e = absurd from
+taken_stop was before now l m k line.ReadFault (Err x) h s inputs from e = cc
+taken_stop was before now l m k line.LineTooLong (Err x) h s inputs from e = cc
+taken_stop was before now l m k line.InputTooLong (Err x) h s inputs from e =
+    subst (λ count. IsTakenTo was count l k) (taken_up before now m k s inputs) (taken_more was before now l m k (Err line.InputTooLong) h s)
+taken_stop was before now l m k line.NoMemory (Err x) h s inputs from e = cc
+
 -- ---- the whole input
+
+-- a reader that took nothing before
+pub all_taken : (l m : Option (List ℕ)) → IsTakenFrom 0 l m → IsTakenWithin (2 ^ 36) l m
+all_taken l m h = rest_taken 0 0 l l m (taken_first 0 l) h refl
+
+pub all_taken_up : (l m : Option (List ℕ)) → IsTakenTo 0 (2 ^ 36) l m → IsTaken (2 ^ 36) l m
+all_taken_up l m h = rest_taken_up 0 0 l l m (taken_first 0 l) h refl
+
+-- a stop that is handed on
+pub handed_on : (error : Stopped) (r : Result Unit Stopped) → IsErrAnd r (λ e. e ≡ error) → r ≡ Err stop.InputTooLong → error ≡ stop.InputTooLong
+handed_on error (Ok x) from e = absurd from
+handed_on error (Err x) from e = cc
+
+-- a stop of writing does not blame the input
+pub writing_input : (r : Result Unit Stopped) → IfErr r IsWriting → r ≡ Err stop.InputTooLong → ⊥
+writing_input (Ok x) h e = cc
+writing_input (Err stop.WriteFault) h e = cc
+writing_input (Err stop.NoMemory) h e = cc
+writing_input (Err stop.ReadFault) h e = absurd h
+writing_input (Err stop.LineTooLong) h e = absurd h
+writing_input (Err stop.InputTooLong) h e = absurd h
 
 -- what the lines of a reader say of its input
 pub fits_stops : (remaining : Option (List ℕ)) (r : Result Unit Stopped) → IfSome (reading (new_reader MAX_LINE MAX_INPUT) remaining) (λ whole. StopsLines whole.stop r)

@@ -4,4 +4,5 @@ mod Input
 mod Quiet
 mod Seats
 mod Told
+mod UpTo
 mod Written

@@ -1,7 +1,7 @@
 -- What a service did that is done (defined by this project): what it wrote is a legal transcript of what it read, and the desk of
--- each worker counted what the transcript says of that worker.
-use Rattle.std.specs.Prelude.{◌≡◌, ⊤, ℕ, true, List, Option, IfSome}
-use Rattle.std.specs.Io.KnownBytes.{Appends}
+-- each worker counted what the transcript says of that worker. And what each end says of the input, and of how much of it was taken.
+use Rattle.std.specs.Prelude.{◌≡◌, ⊤, ℕ, ◌≤◌, ◌^◌, true, List, Option, IfSome, length}
+use Rattle.std.specs.Io.KnownBytes.{Appends, Consumes}
 use Rattle.cv_io.specs.Lines.{Stop, Finished, LongLine, LongInput}
 use Rattle.cv_machine.specs.Scans.{Trees}
 use Rattle.cv_machine.specs.State.{State}
@@ -33,3 +33,18 @@ StopsBy stop _ = ⊤
 -- an end fits the input, if its bytes are known
 abbrev pub FitsInput : Option (List ℕ) → ServeEnd → Type 0
 FitsInput remaining ended = IfSome remaining (λ bytes. StopsBy (input_of bytes).stop ended)
+
+-- the first bytes were taken, no more than are ever taken, and the lines of these bytes stop so
+pub record IsTakenUpTo (stop : Stop) (before now : Option (List ℕ)) : Type 0 where
+  pub bytes : List ℕ
+  pub front : Consumes before now bytes
+  pub within : length bytes ≤ 2 ^ 36
+  pub stops : (input_of bytes).stop ≡ stop
+
+-- what an end says of the bytes that were taken: a line of them, or the whole, is too long if the end says so, and neither is if the
+-- source failed
+abbrev pub TakesUpTo : Option (List ℕ) → Option (List ℕ) → ServeEnd → Type 0
+TakesUpTo before now end.ReadFault = IsTakenUpTo Finished before now
+TakesUpTo before now end.LineTooLong = IsTakenUpTo LongLine before now
+TakesUpTo before now end.InputTooLong = IsTakenUpTo LongInput before now
+TakesUpTo before now _ = ⊤

@@ -1,4 +1,4 @@
-ghost use Rattle.std.specs.Prelude.{◌≡◌, ℕ, List, [], ◌+◌, ◌<◌, ◌≤◌, ◌^◌, drop, false, length, take, All, IfErr, IfOk, IfSome, OnOk};
+ghost use Rattle.std.specs.Prelude.{◌≡◌, ℕ, List, [], ◌+◌, ◌<◌, ◌≤◌, ◌^◌, drop, false, length, take, All, IfErr, IfOk, IfSome, IsErrOf, OnOk};
 ghost use Rattle.std.specs.Io.KnownBytes.{IsAtEnd};
 ghost use Rattle.std.specs.List.{AllByRecursion};
 ghost use Rattle.cv_seq.specs.Cause.{CausedBy, Rose};
@@ -7,6 +7,8 @@ ghost use Rattle.cv_machine.specs.Layers.{queued};
 ghost use Rattle.cv_machine.specs.Scans.{IsKnown, trees_of};
 ghost use Rattle.cv_machine.specs.declared.limits.TheConstants.{MAX_FEEDS, MAX_IMAGES};
 ghost use Rattle.cv_io.specs.Reader.{reading, room_of};
+ghost use Rattle.cv_scan_input.specs.Taken.{IsTaken, IsTakenWithin};
+ghost use Rattle.cv_scan_input.specs.code.TakenParts.{IsTakenFrom, IsTakenTo};
 ghost use Rattle.cv_transcript.specs.declared.entry.Entry.{Entry};
 ghost use Rattle.cv_core.specs.Core.{opened};
 ghost use Rattle.cv_hub.specs.Events.{state_of};
@@ -14,7 +16,7 @@ ghost use Rattle.cv_legal.specs.Rounds.{Cut};
 ghost use Rattle.cv_legal.specs.code.Served.{Served};
 ghost use Rattle.cv_round.specs.Round.{AreRoundSeats, moment_of};
 ghost use Rattle.cv_serve.specs.Ends.{IsWriting, end_of, is_read_stop, is_write_stop};
-ghost use Rattle.cv_serve.specs.Served.{FitsInput, IsServed};
+ghost use Rattle.cv_serve.specs.Served.{FitsInput, IsServed, TakesUpTo};
 ghost use Rattle.cv_serve.specs.code.Begun.{IsPrepared, IsSoundRound};
 ghost use Rattle.cv_serve.specs.code.Further.{Further, LastRun, all_rounds};
 ghost use Rattle.cv_serve.specs.code.Reading.{Done, HasReadAll, StopsLines};
@@ -52,6 +54,9 @@ pub fn serve<S: Source, K: Sink, D: Desk + Drop + Send + Sync, W: Threads + Wait
         IsServed (trees_of D.tree) workers D.listings D.faults bytes (K.contents output.old) (K.contents output.new) (take workers desks.old.items) (take workers desks.new.items)) }
     ensures ended { result ≡ ServeEnd.Done → IsAtEnd (S.remaining input.new) }
     ensures input { FitsInput (S.remaining input.old) result }
+    ensures front { TakesUpTo (S.remaining input.old) (S.remaining input.new) result }
+    ensures limit { IsTakenWithin (2 ^ 36) (S.remaining input.old) (S.remaining input.new) }
+    ensures taken { result ≡ ServeEnd.InputTooLong → IsTaken (2 ^ 36) (S.remaining input.old) (S.remaining input.new) }
     ensures others { drop workers desks.new.items ≡ drop workers desks.old.items }
     ensures count { length desks.new.items ≡ length desks.old.items }
     ensures read_fault { result ≡ ServeEnd.ReadFault → Rose (S.faults input.old) (S.faults input.new) }
@@ -75,6 +80,9 @@ fn serve_over<S: Source, K: Sink, D: Desk + Drop + Send + Sync, W: Threads + Wai
         IsServed (trees_of D.tree) (length desks.old) D.listings D.faults bytes (K.contents output.old) (K.contents output.new) desks.old desks.new)) }
     ensures ended { OnOk result (IsAtEnd (S.remaining input.new)) }
     ensures input { FitsInput (S.remaining input.old) (end_of result) }
+    ensures front { TakesUpTo (S.remaining input.old) (S.remaining input.new) (end_of result) }
+    ensures limit { IsTakenWithin (2 ^ 36) (S.remaining input.old) (S.remaining input.new) }
+    ensures taken { IsErrOf result Stop.InputTooLong → IsTaken (2 ^ 36) (S.remaining input.old) (S.remaining input.new) }
     ensures read_cause { CausedBy (S.faults input.old) (S.faults input.new) (is_read_stop result) }
     ensures write_cause { CausedBy (K.faults output.old) (K.faults output.new) (is_write_stop result) }
 {
@@ -121,6 +129,9 @@ fn serve_with<
         IsServed (trees_of D.tree) (length desks.old) D.listings D.faults bytes (K.contents output.old) (K.contents output.new) desks.old desks.new)) }
     ensures ended { OnOk result (IsAtEnd (S.remaining input.new)) }
     ensures input { FitsInput (S.remaining input.old) (end_of result) }
+    ensures front { TakesUpTo (S.remaining input.old) (S.remaining input.new) (end_of result) }
+    ensures limit { IsTakenWithin (2 ^ 36) (S.remaining input.old) (S.remaining input.new) }
+    ensures taken { IsErrOf result Stop.InputTooLong → IsTaken (2 ^ 36) (S.remaining input.old) (S.remaining input.new) }
     ensures read_cause { CausedBy (S.faults input.old) (S.faults input.new) (is_read_stop result) }
     ensures write_cause { CausedBy (K.faults output.old) (K.faults output.new) (is_write_stop result) }
 {
@@ -170,6 +181,9 @@ fn serve_by<
         IsServed (trees_of D.tree) (length desks.old) D.listings D.faults bytes (K.contents output.old) (K.contents output.new) desks.old desks.new)) }
     ensures ended { OnOk result (IsAtEnd (S.remaining input.new)) }
     ensures input { FitsInput (S.remaining input.old) (end_of result) }
+    ensures front { TakesUpTo (S.remaining input.old) (S.remaining input.new) (end_of result) }
+    ensures limit { IsTakenWithin (2 ^ 36) (S.remaining input.old) (S.remaining input.new) }
+    ensures taken { IsErrOf result Stop.InputTooLong → IsTaken (2 ^ 36) (S.remaining input.old) (S.remaining input.new) }
     ensures read_cause { CausedBy (S.faults input.old) (S.faults input.new) (is_read_stop result) }
     ensures write_cause { CausedBy (K.faults output.old) (K.faults output.new) (is_write_stop result) }
 {
@@ -205,6 +219,8 @@ fn read_lines<
     requires going { reader.old.spent ≡ false }
     requires begins { reader.old.ended ≡ false }
     requires input { room_of reader.old ≤ 2 ^ 36 }
+    requires limits { (reader.old.max_line ≡ 67108864) × (reader.old.max_input ≡ 2 ^ 36) }
+    requires fresh { (reader.old.held ≡ []) × (reader.old.taken ≡ 0) }
     requires sound { IsSoundRound round.old.taken.items round.old.bytes }
     requires prepared { IsPrepared D.listings L.parts service.old.hub service.old.seats.items desks.old }
     ensures lines { OnOk result ((texts : List (List ℕ)) × HasReadAll (reading reader.old (S.remaining input.old)) texts
@@ -212,6 +228,9 @@ fn read_lines<
         → Done (trees_of D.tree) workers D.listings D.faults [] round.old.taken.items round.old.bytes (moment_of (trees_of D.tree) L.limits service.old.hub) (K.contents output.old) (K.contents output.old) desks.old desks.old
         → Done (trees_of D.tree) workers D.listings D.faults texts round.new.taken.items round.new.bytes (moment_of (trees_of D.tree) L.limits service.new.hub) (K.contents output.old) (K.contents output.new) desks.old desks.new)) }
     ensures stops { IfSome (reading reader.old (S.remaining input.old)) (λ whole. StopsLines whole.stop result) }
+    ensures front { TakesUpTo (S.remaining input.old) (S.remaining input.new) (end_of result) }
+    ensures limit { IsTakenFrom reader.old.taken (S.remaining input.old) (S.remaining input.new) }
+    ensures taken { IsErrOf result Stop.InputTooLong → IsTakenTo reader.old.taken (2 ^ 36) (S.remaining input.old) (S.remaining input.new) }
     ensures ended { OnOk result (IsAtEnd (S.remaining input.new)) }
     ensures sound { OnOk result (IsSoundRound round.new.taken.items round.new.bytes) }
     ensures prepared { OnOk result (IsPrepared D.listings L.parts service.new.hub service.new.seats.items desks.new) }

@@ -1,3 +1,4 @@
+pub mod Completeness
 pub mod DrillLemmas
 pub mod Ends
 pub mod FaultLines

@@ -1,10 +1,10 @@
 -- How a run ends that ran out of memory before its command began.
 use Rattle.std.proofs.Common.{◌≡◌, ℕ, ◌≤◌, ◌^◌, List, [], ◌∷◌, length, refl, sym, inl, arith}
 use Rattle.std.specs.Prelude.{Option, Some, None}
-use Rattle.std.specs.Io.KnownBytes.{Appends, Consumes}
+use Rattle.std.specs.Io.KnownBytes.{Appends}
 use Rattle.std.proofs.lemmas.List.{append-nil}
 use Rattle.cv_io.specs.Writes.{AppendsPrefix}
-use Rattle.cv_scan_input.specs.Taken.{IsTakenWithin}
+use Rattle.cv_scan_input.proofs.Taken.{none_taken}
 use Rattle.cvwatch.specs.Run.{FirstScans, RunsAs}
 use Rattle.cvwatch.specs.Service.{ServiceEnds, worker_count}
 use Rattle.cvwatch.specs.World.{Counts, RunWorld, Trees, counts_of}
@@ -16,25 +16,18 @@ appends_none : (bytes : Option (List ℕ)) → Appends bytes bytes []
 appends_none None = tt
 appends_none (Some bytes) = sym (append-nil bytes)
 
-consumes_none : (bytes : Option (List ℕ)) → Consumes bytes bytes []
-consumes_none None = tt
-consumes_none (Some bytes) = refl
-
 -- nothing of a text is written
 pub nothing_written : (bytes : Option (List ℕ)) (text : List ℕ) → AppendsPrefix bytes bytes text
 nothing_written bytes text = (0, omega arith, appends_none bytes)
 
-nothing_taken : (bytes : Option (List ℕ)) → IsTakenWithin (2 ^ 36) bytes bytes
-nothing_taken bytes = record { bytes = []; front = consumes_none bytes; within = omega arith }
-
 module _ {S D : Type 0} (trees : Trees) (remaining : S → Option (List ℕ)) (listings faults : D → ℕ) (world : RunWorld S D) where
   scan_ends : (desks : List D) → 1 ≤ length desks → FirstScans trees remaining (counts_of listings faults) world world desks desks status.NoMemory
   scan_ends [] some = absurd (omega (arith, some))
-  scan_ends (d ∷ ds) some = (inl (nothing_taken (remaining world.input), (appends_none world.written, refl)), refl)
+  scan_ends (d ∷ ds) some = (inl (none_taken (2 ^ 36) (remaining world.input), (appends_none world.written, refl)), refl)
 
   service_ends : (workers : Option ℕ) → ServiceEnds trees remaining listings faults workers world world status.NoMemory
   service_ends None = (nothing_written world.written _, refl, refl)
-  service_ends (Some workers) = (refl, refl)
+  service_ends (Some workers) = (none_taken (2 ^ 36) (remaining world.input), (refl, refl))
 
   -- nothing was read, written or listed
   pub unread_ends : (command : Command) (arguments : List (List ℕ)) → 1 ≤ length world.desks → RunsAs command trees remaining listings faults arguments world world status.NoMemory

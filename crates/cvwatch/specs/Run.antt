@@ -1,6 +1,8 @@
 -- What the program does (defined by this project): `scan` scans an image over the first desk, `serve` runs the service over the
 -- desks of its workers, `drill` runs a service of its own, and all other arguments print a line.
-use Rattle.std.specs.Prelude.{◌≡◌, ℕ, List, ◌∷◌, length, Option}
+use Rattle.std.specs.Prelude.{◌≡◌, ℕ, true, List, ◌∷◌, length, Option, IsSomeAnd, is_some, ◌⊎◌}
+use Rattle.cv_io.specs.Lines.{Finished}
+use Rattle.cv_scan_input.specs.Request.{input_of}
 use Rattle.cv_seq.specs.Cause.{Rose}
 use Rattle.cvwatch.specs.Arguments.{command_line, command_of}
 use Rattle.cvwatch.specs.Command.{ScanEnds}
@@ -11,6 +13,7 @@ use Rattle.cvwatch.specs.World.{Counts, RunWorld, Trees, counts_of, world_of}
 use Rattle.cvwatch.specs.declared.arguments.Command.{Command}
 use Rattle.cvwatch.specs.declared.arguments.Command.TheVariants.{Scan, Serve, Drill, Print}
 use Rattle.cvwatch.specs.declared.status.Status.{Status}
+use Rattle.cvwatch.specs.declared.status.Status.TheVariants as status
 
 -- the count of the first desk rose
 abbrev pub FirstRose : {D : Type 0} → (D → ℕ) → List D → List D → Type 0
@@ -42,3 +45,23 @@ RunsAs Print trees remaining listings faults arguments before now ended = Prints
 abbrev pub RunEnds : {S D : Type 0} → Trees → (S → Option (List ℕ)) → (D → ℕ) → (D → ℕ) → List (List ℕ) → RunWorld S D → RunWorld S D → Status → Type 0
 RunEnds trees remaining listings faults arguments before now ended =
     RunsAs (command_of arguments) trees remaining listings faults arguments before now ended
+
+-- ---- a law of the service
+
+-- the command is a service, and may have as many workers as were asked for
+abbrev pub IsService : Command → ℕ → Type 0
+IsService Scan desks = ⊥
+IsService (Serve workers) desks = is_some (worker_count workers desks) ≡ true
+IsService (Drill seed) desks = ⊥
+IsService Print desks = ⊥
+
+-- the bytes of the input are known, and keep the limits: no line is too long, and neither is the input
+abbrev pub KeepsLimits : Option (List ℕ) → Type 0
+KeepsLimits remaining = IsSomeAnd remaining (λ bytes. (input_of bytes).stop ≡ Finished)
+
+-- A service completes: if its input keeps the limits, and neither the count of the failures of the input nor that of the output rose
+-- (one that stands at its last value counts as risen), then the service is done, or ran out of memory. A desk that fails ends no service.
+abbrev pub Completes : List (List ℕ) → ℕ → Option (List ℕ) → ℕ → ℕ → ℕ → ℕ → Status → Type 0
+Completes arguments desks remaining reads reads_now writes writes_now ended =
+    IsService (command_of arguments) desks → KeepsLimits remaining → ¬ Rose reads reads_now → ¬ Rose writes writes_now
+    → (ended ≡ status.Done) ⊎ (ended ≡ status.NoMemory)

@@ -1,11 +1,12 @@
 -- What the command `serve` does (defined by this project): how many workers it has, and what each ending says of the input, the
 -- output and the desks.
-use Rattle.std.specs.Prelude.{◌≡◌, ℕ, nat_le, min, ◌&&◌, if◌then◌else◌, List, length, take, drop, Option, Some, None, IfSome}
+use Rattle.std.specs.Prelude.{◌≡◌, ℕ, ◌^◌, nat_le, min, ◌&&◌, if◌then◌else◌, List, length, take, drop, Option, Some, None, IfSome}
 use Rattle.std.specs.Io.KnownBytes.{IsAtEnd}
 use Rattle.cv_io.specs.Lines.{Stop, Finished, LongLine, LongInput}
 use Rattle.cv_machine.specs.Scans.{IsKnown, trees_of}
 use Rattle.cv_scan_input.specs.Request.{input_of}
-use Rattle.cv_serve.specs.Served.{IsServed}
+use Rattle.cv_scan_input.specs.Taken.{IsTaken, IsTakenWithin}
+use Rattle.cv_serve.specs.Served.{IsServed, IsTakenUpTo}
 use Rattle.cv_serve.specs.declared.end.ServeEnd.{ServeEnd}
 use Rattle.cv_serve.specs.declared.end.ServeEnd.TheVariants as end
 use Rattle.cvwatch.specs.Printed.{IsPrinted, usage}
@@ -43,18 +44,25 @@ IsTranscript trees workers listings faults remaining written written_now desks d
     IsKnown trees → IfSome remaining (λ bytes.
     IsServed (trees_of trees) workers listings faults bytes written written_now (take workers desks) (take workers desks_now))
 
--- how a service of so many workers ends: only their desks are used, and the input was read to its end if the service is done
+-- how a service of so many workers ends: only their desks are used, and the input was read to its end if the service is done. More than
+-- 2 to the power of 36 bytes are never taken, and so many if the input is too long. A line of the bytes that were taken, or the whole
+-- of them, is too long if the end says so, and neither is if the source failed
 abbrev pub ServeEnds : {S D : Type 0} → Trees → (S → Option (List ℕ)) → (D → ℕ) → (D → ℕ) → ℕ → RunWorld S D → RunWorld S D → Status → Type 0
 ServeEnds trees remaining listings faults workers before now status.Done =
-    IsAtEnd (remaining now.input) × Stops Finished (remaining before.input) × AreOthersSame workers before.desks now.desks
+    IsAtEnd (remaining now.input) × Stops Finished (remaining before.input) × IsTakenWithin (2 ^ 36) (remaining before.input) (remaining now.input)
+    × AreOthersSame workers before.desks now.desks
     × IsTranscript trees workers listings faults (remaining before.input) before.written now.written before.desks now.desks
 ServeEnds trees remaining listings faults workers before now status.LineTooLong =
-    Stops LongLine (remaining before.input) × AreOthersSame workers before.desks now.desks
+    Stops LongLine (remaining before.input) × IsTakenUpTo LongLine (remaining before.input) (remaining now.input) × AreOthersSame workers before.desks now.desks
 ServeEnds trees remaining listings faults workers before now status.InputTooLong =
-    Stops LongInput (remaining before.input) × AreOthersSame workers before.desks now.desks
-ServeEnds trees remaining listings faults workers before now status.ReadFault = AreOthersSame workers before.desks now.desks
-ServeEnds trees remaining listings faults workers before now status.WriteFault = AreOthersSame workers before.desks now.desks
-ServeEnds trees remaining listings faults workers before now status.NoMemory = AreOthersSame workers before.desks now.desks
+    Stops LongInput (remaining before.input) × IsTaken (2 ^ 36) (remaining before.input) (remaining now.input)
+    × IsTakenUpTo LongInput (remaining before.input) (remaining now.input) × AreOthersSame workers before.desks now.desks
+ServeEnds trees remaining listings faults workers before now status.ReadFault =
+    IsTakenUpTo Finished (remaining before.input) (remaining now.input) × AreOthersSame workers before.desks now.desks
+ServeEnds trees remaining listings faults workers before now status.WriteFault =
+    IsTakenWithin (2 ^ 36) (remaining before.input) (remaining now.input) × AreOthersSame workers before.desks now.desks
+ServeEnds trees remaining listings faults workers before now status.NoMemory =
+    IsTakenWithin (2 ^ 36) (remaining before.input) (remaining now.input) × AreOthersSame workers before.desks now.desks
 ServeEnds trees remaining listings faults workers before now status.Usage = ⊥
 ServeEnds trees remaining listings faults workers before now status.Refused = ⊥
 ServeEnds trees remaining listings faults workers before now status.DeskFault = ⊥

@@ -2,7 +2,7 @@ ghost use Rattle.std.specs.Prelude.{◌≡◌, ◌^◌, ◌<◌, ◌≤◌, leng
 ghost use Rattle.cv_seq.specs.Cause.{Rose};
 ghost use Rattle.cvwatch.specs.Arguments.{command_line};
 ghost use Rattle.cvwatch.specs.Printed.{IsPrinted};
-ghost use Rattle.cvwatch.specs.Run.{FirstRose, RunEnds, RunsAs};
+ghost use Rattle.cvwatch.specs.Run.{Completes, FirstRose, RunEnds, RunsAs};
 
 use crate::arguments::{Command, command_of};
 use crate::command::scan_command;
@@ -37,6 +37,8 @@ pub fn run<S: Source, K: Sink, D: Desk + Drop + Send + Sync, W: Threads + Wait +
     ensures read_fault { result ≡ Status.ReadFault → Rose (S.faults input.old) (S.faults input.new) }
     ensures write_fault { result ≡ Status.WriteFault → Rose (K.faults output.old) (K.faults output.new) }
     ensures desk_fault { result ≡ Status.DeskFault → FirstRose D.faults desks.old.items desks.new.items }
+    ensures completes { Completes (map (λ argument. string_bytes argument) arguments.now) (length desks.old.items) (S.remaining input.old)
+        (S.faults input.old) (S.faults input.new) (K.faults output.old) (K.faults output.new) result }
 {
     match command_of(alloc, arguments) {
         Ok(command) => run_command(rt, alloc, command, arguments, input, output, desks),

@@ -4,26 +4,27 @@ ghost use Rattle.cvwatch.specs.Status.{status_code};
 
 use std::process::ExitCode;
 
-/// How a command ended.
+/// How a command ended. A service prints each round as it ends, so that an end before the end of its input leaves those rounds
+/// printed; a scan prints one line.
 #[derive(Clone, Copy, Debug, PartialEq, Eq)]
 pub enum Status {
-    /// The findings were printed, also if there are none, or how two versions compare.
+    /// All was printed: the findings, also if there are none, the transcript, the summary of one, or how two versions compare.
     Done,
     /// The arguments are not a command; the usage line was printed.
     Usage,
-    /// Reading the input failed; nothing was printed.
+    /// Reading the input failed. A scan printed nothing.
     ReadFault,
-    /// Writing failed; a front part of the line may have been written.
+    /// Writing failed; a front part of what was to be written may have been written.
     WriteFault,
-    /// The command ran out of memory; nothing was printed, or a front part of the line, or the whole of it.
+    /// The command ran out of memory; nothing was printed, or a front part, or all of it.
     NoMemory,
-    /// A line is over its limit, and none before it is refused; nothing was printed.
+    /// A line is over its limit. A scan printed nothing, and none of the lines before it is refused.
     LineTooLong,
-    /// The input has 2^36 bytes or more, and none of its lines before that is refused; nothing was printed.
+    /// The input has 2^36 bytes or more. A scan printed nothing, and none of its lines before that is refused.
     InputTooLong,
-    /// A line of the input or the image was refused, or a text is not a valid version; the line that says so was printed.
+    /// A line of a scan's input or the image was refused, or a text is not a valid version; the line that says so was printed.
     Refused,
-    /// A `desk_fault` line was printed.
+    /// A `desk_fault` line of a scan was printed.
     DeskFault,
 }
 

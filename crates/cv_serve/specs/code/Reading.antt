@@ -1,7 +1,11 @@
 -- What was read of an input, and what was done with it.
-use Rattle.std.specs.Prelude.{◌≡◌, ⊤, ℕ, List, [], length, Option, IfSome, IsSomeAnd, Result, Ok, Err}
+use Rattle.std.specs.Prelude.{◌≡◌, ◌⊎◌, ⊤, ℕ, true, List, [], ◌++◌, length, Option, IfSome, IsSomeAnd, Result, Ok, Err}
+use Rattle.std.specs.Io.KnownBytes.{Consumes}
+use Rattle.std.specs.List.{AllByRecursion}
 use Rattle.cv_base.specs.Lines.{numbered}
 use Rattle.cv_io.specs.Lines.{Reading, Stop, Finished, LongLine, LongInput, lines_then}
+use Rattle.cv_io.specs.Reader.{Reader}
+use Rattle.cv_scan_input.specs.Unrefused.{IsPiece, ended_lines}
 use Rattle.cv_machine.specs.Scans.{Trees}
 use Rattle.cv_legal.specs.Replay.{Moment}
 use Rattle.cv_legal.specs.Rounds.{cut_lines, round_limits}
@@ -24,6 +28,17 @@ StopsLines how (Ok _) = how ≡ Finished
 StopsLines how (Err stop.LineTooLong) = how ≡ LongLine
 StopsLines how (Err stop.InputTooLong) = how ≡ LongInput
 StopsLines how (Err _) = ⊤
+
+-- the bytes that were taken are whole lines, and what the reader holds
+pub record IsTakenLines (now : Reader) (before rest : Option (List ℕ)) : Type 0 where
+  pub pieces : List (List ℕ)
+  pub lines : AllByRecursion IsPiece pieces
+  pub front : Consumes before rest (ended_lines pieces ++ now.held)
+  pub counted : now.taken ≡ length (ended_lines pieces ++ now.held)
+
+-- so it is, or the last line was given, which ended with the input
+abbrev pub AreTaken : Reader → Option (List ℕ) → Option (List ℕ) → Type 0
+AreTaken now before rest = IsTakenLines now before rest ⊎ ((now.held ≡ []) × (now.ended ≡ true))
 
 -- what was done with these lines
 abbrev pub Done : {D : Type 0} → Trees → ℕ → (D → ℕ) → (D → ℕ) → List (List ℕ) → List Taken → ℕ → Moment → Option (List ℕ) → Option (List ℕ) → List D → List D → Type 0

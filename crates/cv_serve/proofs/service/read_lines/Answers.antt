@@ -2,13 +2,15 @@ use Rattle.std.specs.Prelude.{◌≡◌, ◌+◌, ℕ, List, [], ◌∷◌, ◌+
 use Rattle.std.proofs.Common.{ap, arith, length-append, subst, sym, ◌∙◌}
 use Rattle.std.proofs.lemmas.Bool.{false≢true}
 use Rattle.cv_base.specs.Lines.{numbered}
-use Rattle.cv_io.specs.Reader.{Narrows, Reads, reading}
+use Rattle.cv_io.specs.Reader.{Narrows, Reads, Step, reading}
+use Rattle.cv_scan_input.proofs.Taken.{taken_first, taken_from, taken_more}
 use Rattle.cv_machine.specs.Scans.{trees_of}
 use Rattle.cv_legal.specs.Rounds.{Cut, cut_line, cut_lines, round_limits}
 use Rattle.cv_legal.proofs.Serving.{cut_more, numbered_more}
 use Rattle.cv_serve.specs.code.Begun.{line_at}
 use Rattle.cv_serve.proofs.Further.{further}
-use Rattle.cv_serve.proofs.Input.{reads_more, reads_none}
+use Rattle.cv_serve.proofs.Input.{reads_more, reads_none, taken_stop}
+use Rattle.cv_serve.proofs.UpTo.{none_given, one_given, stop_given}
 use Rattle.cv_serve.proofs.service.read_lines.Goals as goal
 
 pub loop-text-init : goal.loop-text-init
@@ -16,9 +18,12 @@ loop-text-init g c = record {
   going = c.requires.going;
   lines = ([], refl, reads_none (reading c.args.reader.now (g.S.Source.remaining c.args.input.now)), λ known workers many begun. begun);
   seen = λ e. absurd (false≢true (sym c.requires.begins ∙ e));
+  limits = c.requires.limits;
+  taken = taken_first c.args.reader.now.taken (g.S.Source.remaining c.args.input.now);
   sound = c.requires.sound;
   prepared = c.requires.prepared;
   count = refl;
+  given = none_given c.args.reader.now (g.S.Source.remaining c.args.input.now) c.requires.fresh.0 c.requires.fresh.1;
   space = omega (arith, c.requires.input);
   read_later = omega arith;
   write_later = omega arith;
@@ -34,6 +39,7 @@ loop-text-preserved g c =
     let now = reading c.next.new.self (g.S.Source.remaining c.next.new.input) in
     let read = subst (λ line. Reads was now (Ok line)) c.in-Text.is c.in_ok-text.ensures.reads in
     let narrow = subst (λ line. Narrows c.loop-text.reader c.next.new.self (Ok line)) c.in-Text.is c.in_ok-text.ensures.room in
+    let step = subst (λ line. Step c.loop-text.reader c.next.new.self (g.S.Source.remaining c.loop-text.input) (g.S.Source.remaining c.next.new.input) (Ok line)) c.in-Text.is c.in_ok-text.ensures.step in
     let here : number ≡ length texts + 1 = omega (arith, before.lines.1) in
     let at : 1 + length texts ≡ number = omega (arith, before.lines.1) in
     let long : length (texts ++ text ∷ []) ≡ number = omega (arith, length-append texts (text ∷ []), before.lines.1) in
@@ -53,10 +59,33 @@ loop-text-preserved g c =
             (c.in_ok-take_line.ensures.further known workers (before.count ∙ many) cut (length texts) done.more here done.served) next long,
       );
       seen = c.next.ensures.step.takes.seen before.seen;
+      limits = (c.next.ensures.max_line ∙ before.limits.0, c.next.ensures.max_input ∙ before.limits.1);
+      taken = taken_more c.args.reader.now.taken c.loop-text.reader c.next.new.self _ _ _ c.next.result before.taken c.next.ensures.step;
       sound = c.in_ok-take_line.ensures.sound;
       prepared = c.in_ok-take_line.ensures.prepared;
       count = c.take_line.auto.desks ∙ before.count;
+      given = one_given c.loop-text.reader c.next.new.self _ _ _ (c.next.ensures.max_line ∙ before.limits.0) text before.given step;
       space = omega (arith, before.space, narrow.0);
       read_later = omega (arith, before.read_later, c.next.ensures.cause.later);
       write_later = omega (arith, before.write_later, c.take_line.ensures.cause.later);
     }
+
+pub returns-in_err-text-clause-limit : goal.returns-in_err-text-clause-limit
+returns-in_err-text-clause-limit g c =
+    taken_from c.args.reader.now.taken c.loop-text.reader c.next.new.self _ _ _ c.next.result c.loop-text.invariant.taken c.next.ensures.step
+    (c.next.ensures.max_input ∙ c.loop-text.invariant.limits.1)
+
+pub returns-in_err-text-clause-taken : goal.returns-in_err-text-clause-taken
+returns-in_err-text-clause-taken g c =
+    taken_stop c.args.reader.now.taken c.loop-text.reader c.next.new.self _ _ _ c.in_err-text.field-0.0 c.from_residual.result c.loop-text.invariant.taken c.in_err-text.ensures.step
+    (c.next.ensures.max_input ∙ c.loop-text.invariant.limits.1) c.from_residual.ensures.1
+
+pub returns-in_err-take_line-clause-limit : goal.returns-in_err-take_line-clause-limit
+returns-in_err-take_line-clause-limit g c =
+    taken_from c.args.reader.now.taken c.loop-text.reader c.next.new.self _ _ _ c.next.result c.loop-text.invariant.taken c.next.ensures.step
+    (c.next.ensures.max_input ∙ c.loop-text.invariant.limits.1)
+
+pub returns-in_err-text-clause-front : goal.returns-in_err-text-clause-front
+returns-in_err-text-clause-front g c =
+    stop_given c.loop-text.reader c.next.new.self _ _ _ (c.next.ensures.max_line ∙ c.loop-text.invariant.limits.0) c.in_err-text.field-0.0 c.from_residual.result c.loop-text.invariant.given
+    c.in_err-text.ensures.step (c.next.ensures.max_input ∙ c.loop-text.invariant.limits.1) c.from_residual.ensures.1

@@ -1,11 +1,12 @@
--- The lines read so far, with those that are not yet read, are all, and each took of the room.
+-- The lines read so far, with those that are not yet read, are all, and each took of the room. The reader counts what it took.
 use Rattle.std.specs.Prelude.{◌≡◌, ℕ, ◌+◌, ◌^◌, ◌≤◌, true, false, List, [], length}
 use Rattle.std.specs.Io.KnownBytes.{IsAtEnd}
 use Rattle.cv_io.specs.Reader.{reading, room_of}
+use Rattle.cv_scan_input.specs.code.TakenParts.{IsTakenTo}
 use Rattle.cv_machine.specs.Scans.{IsKnown, trees_of}
 use Rattle.cv_round.specs.Round.{moment_of}
 use Rattle.cv_serve.specs.code.Begun.{IsPrepared, IsSoundRound}
-use Rattle.cv_serve.specs.code.Reading.{Done, HasRead}
+use Rattle.cv_serve.specs.code.Reading.{AreTaken, Done, HasRead}
 use Rattle.cv_serve.proofs.service.read_lines.Given as goal
 
 abbrev pub invariant-loop-text : goal.invariant-loop-text
@@ -16,9 +17,12 @@ invariant-loop-text g l = record {
       → Done (trees_of g.D.Desk.tree) workers g.D.Desk.listings g.D.Desk.faults [] l.fn.round.taken.items l.fn.round.bytes (moment_of (trees_of g.D.Desk.tree) g.L.Identity.limits l.fn.service.hub) (g.K.Sink.contents l.fn.output) (g.K.Sink.contents l.fn.output) l.fn.desks l.fn.desks
       → Done (trees_of g.D.Desk.tree) workers g.D.Desk.listings g.D.Desk.faults texts l.round.taken.items l.round.bytes (moment_of (trees_of g.D.Desk.tree) g.L.Identity.limits l.service.hub) (g.K.Sink.contents l.fn.output) (g.K.Sink.contents l.output) l.fn.desks l.desks);
   seen : l.reader.ended ≡ true → IsAtEnd (g.S.Source.remaining l.input);
+  limits : (l.reader.max_line ≡ 67108864) × (l.reader.max_input ≡ 2 ^ 36);
+  taken : IsTakenTo l.fn.reader.taken l.reader.taken (g.S.Source.remaining l.fn.input) (g.S.Source.remaining l.input);
   sound : IsSoundRound l.round.taken.items l.round.bytes;
   prepared : IsPrepared g.D.Desk.listings g.L.Ledger.parts l.service.hub l.service.seats.items l.desks;
   count : length l.desks ≡ length l.fn.desks;
+  given : AreTaken l.reader (g.S.Source.remaining l.fn.input) (g.S.Source.remaining l.input);
   space : l.number + room_of l.reader ≤ 2 ^ 36;
   read_later : g.S.Source.faults l.fn.input ≤ g.S.Source.faults l.input;
   write_later : g.K.Sink.faults l.fn.output ≤ g.K.Sink.faults l.output;

@@ -1,7 +1,8 @@
-use Rattle.std.specs.Prelude.{◌≡◌, ℕ, List, [], length, IfSome, refl}
+use Rattle.std.specs.Prelude.{◌≡◌, ℕ, ◌^◌, List, [], length, Err, IfSome, refl}
 use Rattle.std.proofs.Common.{ap, subst, sym, ◌∙◌}
 use Rattle.cv_io.specs.Lines.{Finished}
 use Rattle.cv_io.specs.Reader.{reading}
+use Rattle.cv_scan_input.specs.code.TakenParts.{IsTakenTo}
 use Rattle.cv_base.specs.Lines.{numbered}
 use Rattle.cv_machine.specs.Scans.{trees_of}
 use Rattle.cv_legal.specs.Replay.{beginning}
@@ -13,7 +14,7 @@ use Rattle.cv_serve.specs.Served.{IsServed}
 use Rattle.cv_serve.specs.code.Reading.{Done, HasReadAll}
 use Rattle.cv_serve.proofs.Ending.{all_served}
 use Rattle.cv_serve.proofs.Further.{on_ok, stays}
-use Rattle.cv_serve.proofs.Input.{fits_last, reads_input}
+use Rattle.cv_serve.proofs.Input.{all_taken_up, fits_last, handed_on, reads_input}
 use Rattle.cv_serve.proofs.Quiet.{Laws}
 use Rattle.cv_serve.proofs.service.serve_by.Goals as goal
 
@@ -52,3 +53,11 @@ returns-clause-input g c =
     let remaining = g.S.Source.remaining c.args.input.now in
     fits_last remaining c.end_queued.result c.end_queued.ensures.stops
     (subst (λ r. IfSome (reading r remaining) (λ whole. whole.stop ≡ Finished)) c.in_ok-reader.ensures.value c.in_ok-read_lines.ensures.stops)
+
+pub returns-in_err-read_lines-clause-taken : goal.returns-in_err-read_lines-clause-taken
+returns-in_err-read_lines-clause-taken g c = λ e.
+    let remaining = g.S.Source.remaining c.args.input.now in
+    let remaining_now = g.S.Source.remaining c.read_lines.new.input in
+    let long = handed_on c.in_err-read_lines.field-0.0 c.from_residual-in_err-read_lines.result c.from_residual-in_err-read_lines.ensures.1 e in
+    all_taken_up remaining remaining_now
+    (subst (λ r. IsTakenTo r.taken (2 ^ 36) remaining remaining_now) c.in_ok-reader.ensures.value (c.in_err-read_lines.ensures.taken (ap (λ x. Err x) long)))

@@ -1,0 +1,154 @@
+-- How the lines of the bytes stop that were taken.
+use Rattle.std.specs.Prelude.{◌≡◌, ◌⊎◌, ℕ, ◌+◌, ◌-◌, ◌<◌, ◌≤◌, ◌^◌, Bool, true, false, List, [], ◌∷◌, ◌++◌, length, take, drop, Option, Some, None, IfErr, IsErrAnd, Result, Ok, Err, refl}
+use Rattle.std.specs.Io.KnownBytes.{Consumes}
+use Rattle.std.specs.List.{AllByRecursion}
+use Rattle.std.proofs.Common.{ap, append_assoc, append-nil, arith, inl, inr, length-append, length-take-le, subst, sym, take-append-drop, ◌∙◌}
+use Rattle.std.proofs.KnownBytes.{Consumes-nil}
+use Rattle.std.proofs.lemmas.Bool.{false≢true}
+use Rattle.cv_io.specs.Lines.{Finished, HasNoLineEnd, LF, LongInput, LongLine, Stop, reading_of, text_of}
+use Rattle.cv_io.specs.Reader.{Reader, Step}
+use Rattle.cv_io.specs.declared.line.Line.{Line}
+use Rattle.cv_io.specs.declared.line.Line.TheVariants.{Text}
+use Rattle.cv_io.specs.declared.line.LineError.{LineError}
+use Rattle.cv_io.specs.declared.line.LineError.TheVariants as line
+use Rattle.cv_io.proofs.Lines.{reading_of-last, reading_of-line, reading_of-long_input, reading_of-long_line, reading_of-nil}
+use Rattle.cv_io.proofs.Takes.{Consumes-more}
+use Rattle.cv_scan_input.specs.Request.{input_of}
+use Rattle.cv_scan_input.specs.Unrefused.{IsPiece, ended_lines}
+use Rattle.cv_serve.specs.Ends.{IsWriting, end_of, line_stop}
+use Rattle.cv_serve.specs.Served.{IsTakenUpTo, TakesUpTo}
+use Rattle.cv_serve.specs.code.Reading.{AreTaken, IsTakenLines}
+use Rattle.cv_serve.specs.declared.end.Stop.{Stop as Stopped}
+use Rattle.cv_serve.specs.declared.end.Stop.TheVariants as stop
+
+-- ---- whole lines, and then more
+
+one_line : (piece rest more : List ℕ) → ((piece ++ LF ∷ []) ++ rest) ++ more ≡ piece ++ LF ∷ (rest ++ more)
+one_line piece rest more = append_assoc (piece ++ LF ∷ []) rest more ∙ append_assoc piece (LF ∷ []) (rest ++ more)
+
+ended_more : (pieces : List (List ℕ)) (piece rest : List ℕ) → ended_lines (pieces ++ piece ∷ []) ++ rest ≡ ended_lines pieces ++ (piece ++ LF ∷ rest)
+ended_more [] piece rest = one_line piece [] rest
+ended_more (first ∷ pieces) piece rest =
+    one_line first (ended_lines (pieces ++ piece ∷ [])) rest ∙ ap (λ v. first ++ LF ∷ v) (ended_more pieces piece rest)
+    ∙ sym (one_line first (ended_lines pieces) (piece ++ LF ∷ rest))
+
+all_more : (pieces : List (List ℕ)) (piece : List ℕ) → AllByRecursion IsPiece pieces → IsPiece piece → AllByRecursion IsPiece (pieces ++ piece ∷ [])
+all_more [] piece h k = (k, tt)
+all_more (first ∷ pieces) piece h k = (h.0, all_more pieces piece h.1 k)
+
+-- the lines stop as those of the rest do
+stop_after : (pieces : List (List ℕ)) (room : ℕ) (rest : List ℕ) → AllByRecursion IsPiece pieces
+    → (reading_of 67108864 (length (ended_lines pieces) + room) (ended_lines pieces ++ rest)).stop ≡ (reading_of 67108864 room rest).stop
+stop_after [] room rest h =
+    let none : length (ended_lines []) + room ≡ room = omega arith in
+    ap (λ n. (reading_of 67108864 n rest).stop) none
+stop_after (piece ∷ pieces) room rest h =
+    let later = ended_lines pieces in
+    let count : length ((piece ++ LF ∷ []) ++ later) + room ≡ length piece + 1 + (length later + room) =
+    omega (arith, length-append (piece ++ LF ∷ []) later, length-append piece (LF ∷ [])) in
+    ap (λ n. (reading_of 67108864 n (((piece ++ LF ∷ []) ++ later) ++ rest)).stop) count
+    ∙ ap (λ v. (reading_of 67108864 (length piece + 1 + (length later + room)) v).stop) (one_line piece later rest)
+    ∙ ap (λ r. r.stop) (reading_of-line 67108864 (length later + room) piece (later ++ rest) h.0.whole h.0.short)
+    ∙ stop_after pieces room rest h.1
+
+stop_last : (room : ℕ) (piece : List ℕ) → HasNoLineEnd piece → length piece ≤ 67108864 → length piece < room → (reading_of 67108864 room piece).stop ≡ Finished
+stop_last room [] whole short fits = ap (λ r. r.stop) (reading_of-nil 67108864 room (omega (arith, fits)))
+stop_last room (byte ∷ bytes) whole short fits = ap (λ r. r.stop) (reading_of-last 67108864 room (byte ∷ bytes) whole short (omega arith) fits)
+
+stop_long : (most room : ℕ) (bytes : List ℕ) → HasNoLineEnd (take (most + 1) bytes) → most < length bytes → length bytes ≤ room → (reading_of most room bytes).stop ≡ LongLine
+stop_long most room bytes whole long fits =
+    let count : length (take (most + 1) bytes) ≡ most + 1 = length-take-le (most + 1) bytes (omega (arith, long)) in
+    ap (λ v. (reading_of most room v).stop) (sym (take-append-drop (most + 1) bytes))
+    ∙ ap (λ r. r.stop) (reading_of-long_line most room (take (most + 1) bytes) (drop (most + 1) bytes) whole (omega (arith, count)) (omega (arith, count, long, fits)))
+
+stop_cut : (most room : ℕ) (bytes : List ℕ) → HasNoLineEnd bytes → length bytes ≤ most → length bytes ≡ room → (reading_of most room bytes).stop ≡ LongInput
+stop_cut most room bytes whole short all =
+    ap (λ v. (reading_of most room v).stop) (sym (append-nil bytes)) ∙ ap (λ r. r.stop) (reading_of-long_input most room bytes [] whole short all)
+
+-- ---- by the calls of a reader
+
+-- a reader that took nothing
+pub none_given : (reader : Reader) (l : Option (List ℕ)) → reader.held ≡ [] → reader.taken ≡ 0 → AreTaken reader l l
+none_given reader l none zero = inl (record {
+  pieces = [];
+  lines = tt;
+  front = subst (λ held. Consumes l l held) (sym none) (Consumes-nil l);
+  counted = zero ∙ sym (ap length none);
+})
+
+module _ (before now : Reader) (first l m : Option (List ℕ)) (limit : now.max_line ≡ 67108864) where
+  -- what was taken before, and in this call
+  joined : (h : IsTakenLines before first l) (bytes more : List ℕ) → bytes ≡ before.held ++ more → (ended_lines h.pieces ++ before.held) ++ more ≡ ended_lines h.pieces ++ bytes
+  joined h bytes more e = append_assoc (ended_lines h.pieces) before.held more ∙ ap (λ v. ended_lines h.pieces ++ v) (sym e)
+
+  -- one more line
+  pub one_given : (text : List ℕ) → AreTaken before first l → Step before now l m (Ok (Text text)) → AreTaken now first m
+  one_given text (inl h) s =
+      elim s.answers.rest [
+        | inl e ↦
+            let join = joined h s.bytes s.takes.more s.takes.joined ∙ ap (λ v. ended_lines h.pieces ++ v) e ∙ sym (ended_more h.pieces s.answers.piece now.held) in
+            inl (record {
+              pieces = h.pieces ++ s.answers.piece ∷ [];
+              lines = all_more h.pieces s.answers.piece h.lines (record { whole = s.answers.whole; short = omega (arith, s.answers.short, limit) });
+              front = subst (λ v. Consumes first m v) join (Consumes-more first l m (ended_lines h.pieces ++ before.held) s.takes.more h.front s.takes.consumed);
+              counted = omega (arith, s.takes.counted, h.counted, ap length join, length-append (ended_lines h.pieces ++ before.held) s.takes.more);
+            })
+        | inr e ↦ inr (e.2, e.3)
+      ]
+  one_given text (inr h) s =
+      let over = s.takes.over h.1 in
+      let none : length s.bytes ≡ 0 = omega (arith, ap length s.takes.joined, length-append before.held s.takes.more, ap length h.0, ap length over.0) in
+      elim s.answers.rest [
+        | inl e ↦ absurd (omega (arith, none, ap length e, length-append s.answers.piece (LF ∷ now.held)))
+        | inr e ↦ absurd (omega (arith, none, ap length e.0, e.1))
+      ]
+
+  -- all bytes that were taken, as a call ends that gives no line
+  all_bytes : (stop : Stop) (answer : Result Line LineError) → (h : IsTakenLines before first l) → (s : Step before now l m answer) → now.max_input ≡ 2 ^ 36
+      → ((room : ℕ) → room + length (ended_lines h.pieces) ≡ 2 ^ 36 → now.taken ≡ length (ended_lines h.pieces) + length s.bytes → (reading_of 67108864 room s.bytes).stop ≡ stop) → IsTakenUpTo stop first m
+  all_bytes stop answer h s inputs by =
+      let join = joined h s.bytes s.takes.more s.takes.joined in
+      let count : now.taken ≡ length (ended_lines h.pieces) + length s.bytes =
+      omega (arith, s.takes.counted, h.counted, ap length join, length-append (ended_lines h.pieces ++ before.held) s.takes.more, length-append (ended_lines h.pieces) s.bytes) in
+      let room : ℕ = 2 ^ 36 - length (ended_lines h.pieces) in
+      let whole : length (ended_lines h.pieces) + room ≡ 2 ^ 36 = omega (arith, count, s.within, inputs) in
+      record {
+        bytes = ended_lines h.pieces ++ s.bytes;
+        front = subst (λ v. Consumes first m v) join (Consumes-more first l m (ended_lines h.pieces ++ before.held) s.takes.more h.front s.takes.consumed);
+        within = omega (arith, count, s.within, inputs, length-append (ended_lines h.pieces) s.bytes);
+        stops = ap (λ n. (reading_of 67108864 n (ended_lines h.pieces ++ s.bytes)).stop) (sym whole) ∙ stop_after h.pieces room s.bytes h.lines ∙ by room (omega (arith, whole)) count;
+      }
+
+  -- the call failed, or refused what is next
+  none_left : (error : LineError) → AreTaken before first l → Step before now l m (Err error) → now.max_input ≡ 2 ^ 36 → TakesUpTo first m (end_of (Err (line_stop error)))
+  none_left line.NoMemory h s inputs = tt
+  none_left line.ReadFault (inl h) s inputs =
+      let x = s.answers.0 in
+      all_bytes Finished (Err line.ReadFault) h s inputs
+      (λ room whole count. stop_last room s.bytes x.whole (omega (arith, x.short, limit)) (omega (arith, whole, count, s.answers.1, inputs)))
+  none_left line.ReadFault (inr h) s inputs = absurd (false≢true (sym s.answers.0.going ∙ (s.takes.over h.1).1))
+  none_left line.LineTooLong (inl h) s inputs =
+      all_bytes LongLine (Err line.LineTooLong) h s inputs
+      (λ room whole count. subst (λ most. (reading_of most room s.bytes).stop ≡ LongLine) limit
+      (stop_long now.max_line room s.bytes s.answers.whole s.answers.long (omega (arith, whole, count, s.within, inputs))))
+  none_left line.LineTooLong (inr h) s inputs =
+      absurd (omega (arith, s.answers.long, ap length s.takes.joined, length-append before.held s.takes.more, ap length h.0, ap length (s.takes.over h.1).0))
+  none_left line.InputTooLong (inl h) s inputs =
+      let x = s.answers.0 in
+      all_bytes LongInput (Err line.InputTooLong) h s inputs
+      (λ room whole count. stop_cut 67108864 room s.bytes x.whole (omega (arith, x.short, limit)) (omega (arith, whole, count, s.answers.1, inputs)))
+  none_left line.InputTooLong (inr h) s inputs = absurd (false≢true (sym s.answers.0.going ∙ (s.takes.over h.1).1))
+
+  pub stop_given : (error : LineError) (r : Result Unit Stopped) → AreTaken before first l → Step before now l m (Err error) → now.max_input ≡ 2 ^ 36
+      → IsErrAnd r (λ e. e ≡ line_stop error) → TakesUpTo first m (end_of r)
+  stop_given error (Ok x) h s inputs from = absurd from
+  stop_given error (Err e) h s inputs from = subst (λ e. TakesUpTo first m (end_of (Err e))) (sym from) (none_left error h s inputs)
+
+-- a stop of writing says nothing of the input
+pub writing_given : (r : Result Unit Stopped) (first m : Option (List ℕ)) → IfErr r IsWriting → TakesUpTo first m (end_of r)
+writing_given (Ok x) first m h = tt
+writing_given (Err stop.WriteFault) first m h = tt
+writing_given (Err stop.NoMemory) first m h = tt
+writing_given (Err stop.ReadFault) first m h = absurd h
+writing_given (Err stop.LineTooLong) first m h = absurd h
+writing_given (Err stop.InputTooLong) first m h = absurd h
