@@ -1,11 +1,11 @@
 -- How the lines of the bytes stop that were taken.
-use Rattle.std.specs.Prelude.{◌≡◌, ◌⊎◌, ℕ, ◌+◌, ◌-◌, ◌<◌, ◌≤◌, ◌^◌, Bool, true, false, List, [], ◌∷◌, ◌++◌, length, take, drop, Option, Some, None, IfErr, IsErrAnd, Result, Ok, Err, refl}
+use Rattle.std.specs.Prelude.{◌≡◌, ℕ, ◌+◌, ◌-◌, ◌<◌, ◌≤◌, ◌^◌, List, [], ◌∷◌, ◌++◌, length, take, drop, Option, IfErr, IsErrAnd, Result, Ok, Err}
 use Rattle.std.specs.Io.KnownBytes.{Consumes}
 use Rattle.std.specs.List.{AllByRecursion}
 use Rattle.std.proofs.Common.{ap, append_assoc, append-nil, arith, inl, inr, length-append, length-take-le, subst, sym, take-append-drop, ◌∙◌}
 use Rattle.std.proofs.KnownBytes.{Consumes-nil}
 use Rattle.std.proofs.lemmas.Bool.{false≢true}
-use Rattle.cv_io.specs.Lines.{Finished, HasNoLineEnd, LF, LongInput, LongLine, Stop, reading_of, text_of}
+use Rattle.cv_io.specs.Lines.{Finished, HasNoLineEnd, LF, LongInput, LongLine, Stop, reading_of}
 use Rattle.cv_io.specs.Reader.{Reader, Step}
 use Rattle.cv_io.specs.declared.line.Line.{Line}
 use Rattle.cv_io.specs.declared.line.Line.TheVariants.{Text}
@@ -13,7 +13,6 @@ use Rattle.cv_io.specs.declared.line.LineError.{LineError}
 use Rattle.cv_io.specs.declared.line.LineError.TheVariants as line
 use Rattle.cv_io.proofs.Lines.{reading_of-last, reading_of-line, reading_of-long_input, reading_of-long_line, reading_of-nil}
 use Rattle.cv_io.proofs.Takes.{Consumes-more}
-use Rattle.cv_scan_input.specs.Request.{input_of}
 use Rattle.cv_scan_input.specs.Unrefused.{IsPiece, ended_lines}
 use Rattle.cv_serve.specs.Ends.{IsWriting, end_of, line_stop}
 use Rattle.cv_serve.specs.Served.{IsTakenUpTo, TakesUpTo}
