@@ -1,4 +1,5 @@
-use cv_base::{Advisory, Affected, NoMemory, PackageName, Range, RangeKind, Seq, Text, Turn};
+use cv_base::{Advisory, NoMemory, RangeKind};
+use sample_data::{Flaw, advisory};
 use std::alloc::Global;
 
 /// The names of the feeds, in ascending order.
@@ -22,9 +23,9 @@ pub struct Record {
     pub id: &'static str,
     ecosystem: &'static str,
     name: &'static str,
-    kind: RangeKind,
     /// The name of the installed package that it is about.
     pub package: &'static str,
+    kind: RangeKind,
     /// The versions that may have the fix. The last one is below those that are installed.
     first: Fix,
     second: Fix,
@@ -40,58 +41,26 @@ macro_rules! fix {
     };
 }
 
+macro_rules! record {
+    ($id:literal: $kind:ident $ecosystem:literal $name:literal as $package:literal; $($field:ident $text:literal $rank:literal),*) => {
+        Record {
+            id: $id,
+            ecosystem: $ecosystem,
+            name: $name,
+            package: $package,
+            kind: RangeKind::$kind,
+            $($field: fix!($text, $rank),)*
+        }
+    };
+}
+
 /// All records, in ascending order of their ids.
 pub static RECORDS: [Record; 5] = [
-    Record {
-        id: "C-1",
-        ecosystem: "Debian:12",
-        name: "curl",
-        kind: RangeKind::Ecosystem,
-        package: "curl",
-        first: fix!("8.4", 840),
-        second: fix!("9", 900),
-        below: fix!("7", 700),
-    },
-    Record {
-        id: "C-2",
-        ecosystem: "Debian",
-        name: "curl",
-        kind: RangeKind::Ecosystem,
-        package: "curl",
-        first: fix!("9", 900),
-        second: fix!("10", 1000),
-        below: fix!("7", 700),
-    },
-    Record {
-        id: "X-1",
-        ecosystem: "npm",
-        name: "x",
-        kind: RangeKind::Semver,
-        package: "x",
-        first: fix!("1.0.1", 101),
-        second: fix!("1.1.0", 110),
-        below: fix!("0.9.0", 90),
-    },
-    Record {
-        id: "Y-1",
-        ecosystem: "npm",
-        name: "y",
-        kind: RangeKind::Semver,
-        package: "y",
-        first: fix!("2.0.1", 201),
-        second: fix!("3.0.0", 300),
-        below: fix!("1.9.0", 190),
-    },
-    Record {
-        id: "Z-1",
-        ecosystem: "Debian:12",
-        name: "zlib",
-        kind: RangeKind::Ecosystem,
-        package: "zlib1g",
-        first: fix!("1:1.2.5", 1250),
-        second: fix!("1:1.4", 1400),
-        below: fix!("1:1.1", 1100),
-    },
+    record!("C-1": Ecosystem "Debian:12" "curl" as "curl"; first "8.4" 840, second "9" 900, below "7" 700),
+    record!("C-2": Ecosystem "Debian" "curl" as "curl"; first "9" 900, second "10" 1000, below "7" 700),
+    record!("X-1": Semver "npm" "x" as "x"; first "1.0.1" 101, second "1.1.0" 110, below "0.9.0" 90),
+    record!("Y-1": Semver "npm" "y" as "y"; first "2.0.1" 201, second "3.0.0" 300, below "1.9.0" 190),
+    record!("Z-1": Ecosystem "Debian:12" "zlib" as "zlib1g"; first "1:1.2.5" 1250, second "1:1.4" 1400, below "1:1.1" 1100),
 ];
 
 /// What a feed has of a record.
@@ -115,6 +84,38 @@ pub fn advisories(alloc: Global, code: u32) -> Result<Vec<Advisory>, NoMemory> {
     Ok(advisories)
 }
 
+/// The number of records, by words as `C-1=8.4`.
+pub fn code_of(words: &str) -> u32 {
+    let mut code: u32 = 0;
+    for record in RECORDS.iter().rev() {
+        code = code
+            .wrapping_mul(BASE)
+            .wrapping_add(digit_of(record, words));
+    }
+    code
+}
+
+/// The digit of a record.
+fn digit_of(record: &Record, words: &str) -> u32 {
+    for word in words.split(' ') {
+        let (id, fix) = word.split_once('=').unwrap_or((word, ""));
+        if id == record.id {
+            return record.digit(fix);
+        }
+    }
+    0
+}
+
+/// The feed of a name, if there is one.
+pub fn feed_of(name: &str) -> Option<&'static str> {
+    for feed in FEEDS.iter() {
+        if *feed == name {
+            return Some(*feed);
+        }
+    }
+    None
+}
+
 impl Record {
     /// What a feed has of the record, by a digit.
     pub fn form(&self, digit: u32) -> Form {
@@ -129,7 +130,7 @@ impl Record {
     }
 
     /// The digit by a word: `withdrawn`, the version with the fix, or any other word if none has it.
-    pub fn digit(&self, word: &str) -> u32 {
+    fn digit(&self, word: &str) -> u32 {
         if word == "withdrawn" {
             2
         } else if word == self.first.text {
@@ -149,54 +150,22 @@ impl Record {
         digit: u32,
         advisories: &mut Vec<Advisory>,
     ) -> Result<(), NoMemory> {
-        let (withdrawn, fix) = match self.form(digit) {
+        let (withdrawn, fixed) = match self.form(digit) {
             Form::Absent => return Ok(()),
             Form::Withdrawn => (true, None),
             Form::Unfixed => (false, None),
             Form::Fixed(fix) => (false, Some(fix.text)),
         };
-        advisories.push(self.advisory(alloc, withdrawn, fix)?)?;
+        let flaw = Flaw {
+            id: self.id,
+            modified: "2024-01-01T00:00:00Z",
+            withdrawn,
+            ecosystem: self.ecosystem,
+            name: self.name,
+            kind: self.kind,
+            ranges: &[("0", fixed)],
+        };
+        advisories.push(advisory(alloc, &flaw)?)?;
         Ok(())
     }
-
-    fn advisory(
-        &self,
-        alloc: Global,
-        withdrawn: bool,
-        fix: Option<&str>,
-    ) -> Result<Advisory, NoMemory> {
-        let mut affected = Vec::new(alloc);
-        affected.push(self.affected(alloc, fix)?)?;
-        Ok(Advisory {
-            id: Text::of(alloc, self.id)?,
-            modified: Text::of(alloc, "2024-01-01T00:00:00Z")?,
-            withdrawn,
-            affected: Seq::of(affected),
-        })
-    }
-
-    fn affected(&self, alloc: Global, fix: Option<&str>) -> Result<Affected, NoMemory> {
-        let mut ranges = Vec::new(alloc);
-        ranges.push(Range {
-            kind: self.kind,
-            turns: Seq::of(turns(alloc, fix)?),
-        })?;
-        Ok(Affected {
-            package: Some(PackageName {
-                ecosystem: Text::of(alloc, self.ecosystem)?,
-                name: Text::of(alloc, self.name)?,
-            }),
-            ranges: Seq::of(ranges),
-            versions: Seq::of(Vec::new(alloc)),
-        })
-    }
-}
-
-fn turns(alloc: Global, fix: Option<&str>) -> Result<Vec<Turn>, NoMemory> {
-    let mut turns = Vec::new(alloc);
-    turns.push(Turn::Introduced(Text::of(alloc, "0")?))?;
-    if let Some(version) = fix {
-        turns.push(Turn::Fixed(Text::of(alloc, version)?))?;
-    }
-    Ok(turns)
 }

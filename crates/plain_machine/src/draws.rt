@@ -1,9 +1,8 @@
 ghost use Rattle.std.specs.Prelude.{◌<◌};
 
-use crate::layers::LAYERS;
+use crate::letters::{IMAGES, LAYERS};
 use crate::machine::Machine;
 use crate::records::{CODES, FEEDS};
-use crate::show::IMAGES;
 use crate::step::{Step, Work};
 use cv_machine::Status;
 
@@ -14,37 +13,23 @@ struct Sample {
     other: &'static [u8],
 }
 
+macro_rules! sample {
+    ($letter:literal, $usual:literal, $other:literal) => {
+        Sample {
+            letter: $letter,
+            usual: $usual,
+            other: $other,
+        }
+    };
+}
+
 static SAMPLES: [Sample; 6] = [
-    Sample {
-        letter: b'F',
-        usual: b"d",
-        other: b"du",
-    },
-    Sample {
-        letter: b'B',
-        usual: b"dn",
-        other: b"n",
-    },
-    Sample {
-        letter: b'E',
-        usual: b"dnu",
-        other: b"ddn",
-    },
-    Sample {
-        letter: b'A',
-        usual: b"dnwu",
-        other: b"sw",
-    },
-    Sample {
-        letter: b'D',
-        usual: b"ds",
-        other: b"dsu",
-    },
-    Sample {
-        letter: b'C',
-        usual: b"dnb",
-        other: b"nm",
-    },
+    sample!(b'F', b"d", b"du"),
+    sample!(b'B', b"dn", b"n"),
+    sample!(b'E', b"dnu", b"ddn"),
+    sample!(b'A', b"dnwu", b"sw"),
+    sample!(b'D', b"ds", b"dsu"),
+    sample!(b'C', b"dnb", b"nm"),
 ];
 
 const WORKERS: u64 = 3;

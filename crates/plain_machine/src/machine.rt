@@ -1,13 +1,11 @@
 use crate::contents::{Fault, contents_of, fault_of};
 use crate::findings::{Change, Feed, changes_of};
-use crate::layers::LAYERS;
+use crate::letters::{IMAGES, LAYERS};
 use crate::lines::{Found, Lines};
 use crate::records::FEEDS;
-use crate::show::IMAGES;
 use crate::step::{Step, Work};
 use cv_base::{NoMemory, Reason};
-use cv_core::Limits;
-use cv_machine::Status;
+use cv_machine::{Limits, Status};
 use std::alloc::Global;
 
 /// An image, and its layers if it is registered.
