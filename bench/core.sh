@@ -6,13 +6,13 @@ set -euo pipefail
 # shellcheck source=bench/common.sh
 . "$(dirname "$0")/common.sh"
 data=$(data_folder core)
-program=$(build bench_service)
+program=$(build bench_core)
 sizes=(64 512 4096)
 times=1000
 updates=3
 
 # core IMAGES TIMES UPDATES, where the one image that comes and goes counts
-core() { measure /dev/null "$data/$1" "$program" core "$(($1 - 1))" "$2" "$3"; }
+core() { measure /dev/null "$data/$1" "$program" "$(($1 - 1))" "$2" "$3"; }
 
 # value WORK FIELD: what the last run of each size says of a kind of work
 value() {

@@ -6,7 +6,7 @@ set -euo pipefail
 # shellcheck source=bench/common.sh
 . "$(dirname "$0")/common.sh"
 data=$(data_folder requests)
-program=$(build bench_service)
+program=$(build bench_requests)
 
 # requests N: N requests in eight lanes, a quarter of each kind
 requests() {

@@ -1,23 +1,18 @@
 ghost use Rattle.std.specs.Prelude.{◌≡◌, ◌<◌};
 
 use cv_advdb::Feeds;
-use cv_base::{
-    Advisory, Affected, NoMemory, Package, PackageKind, PackageName, Range, RangeKind, RelPath,
-    Seq, Steps, Text, Turn,
-};
+use cv_base::{Advisory, NoMemory, Package, PackageKind, RelPath, Seq, Steps, Text};
 use cv_findings::match_all;
+use sample_data::{FeedRecords, Installed, numbered, package};
 use std::alloc::Global;
 use std::marker::Brand;
 use std::sync::ledger::{Blank, Ledger};
-
-/// How many packages the records are about.
-const NAMES: u64 = 5000;
 
 /// Makes so many records so many times, and counts the last ones.
 pub fn made(alloc: Global, count: u64, times: u64) -> Result<u64, NoMemory> {
     let mut made = 0;
     for time in 0..times {
-        made = records(alloc, count, 0, time)?.as_slice().len() as u64;
+        made = records(count, 0).at_revision(alloc, time)?.as_slice().len() as u64;
     }
     Ok(made)
 }
@@ -25,10 +20,11 @@ pub fn made(alloc: Global, count: u64, times: u64) -> Result<u64, NoMemory> {
 /// Makes a feed of so many records, and then makes and replaces its records so many times. One of `every` new records differs from
 /// the one before, and none if that is 0. Counts the keys that the last replacement touched.
 pub fn touched(alloc: Global, count: u64, every: u64, times: u64) -> Result<u64, NoMemory> {
-    let mut feeds = feeds_of(alloc, count)?;
+    let sample = records(count, every);
+    let mut feeds = feeds_of(alloc, sample)?;
     let mut keys = 0;
     for time in 0..times {
-        let records = records(alloc, count, every, time.saturating_add(1))?;
+        let records = sample.at_revision(alloc, time.saturating_add(1))?;
         keys = replace(alloc, &mut feeds, records)?;
     }
     Ok(keys)
@@ -36,7 +32,7 @@ pub fn touched(alloc: Global, count: u64, every: u64, times: u64) -> Result<u64,
 
 /// Matches so many packages so many times with a feed of so many records, and counts the findings of the last time.
 pub fn found(alloc: Global, count: u64, packages: u64, times: u64) -> Result<u64, NoMemory> {
-    let feeds = feeds_of(alloc, count)?;
+    let feeds = feeds_of(alloc, records(count, 0))?;
     let packages = packages_of(alloc, packages)?;
     found_in::<Brand>(alloc, Blank::new(1), &feeds, &packages, times)
 }
@@ -62,9 +58,9 @@ fn found_in<L: Ledger>(
     Ok(found)
 }
 
-fn feeds_of(alloc: Global, count: u64) -> Result<Feeds, NoMemory> {
+fn feeds_of(alloc: Global, records: FeedRecords) -> Result<Feeds, NoMemory> {
     let mut feeds = Feeds::new(alloc, 1)?;
-    let records = records(alloc, count, 0, 0)?;
+    let records = records.at_revision(alloc, 0)?;
     replace(alloc, &mut feeds, records)?;
     Ok(feeds)
 }
@@ -76,80 +72,31 @@ fn replace(alloc: Global, feeds: &mut Feeds, records: Seq<Advisory>) -> Result<u
     }
 }
 
-/// Records of a revision, of which one of `every` names it. Every other one affects the packages.
-fn records(
-    alloc: Global,
-    count: u64,
-    every: u64,
-    revision: u64,
-) -> Result<Seq<Advisory>, NoMemory> {
-    let mut records = Vec::new(alloc);
-    for index in 0..count {
-        let revision = if every != 0 && index % every == 0 {
-            revision
-        } else {
-            0
-        };
-        records.push(record(alloc, index, revision)?)?;
+/// So many records, of which one of `every` differs from one revision to the next. Every other one affects the packages.
+fn records(count: u64, every: u64) -> FeedRecords {
+    FeedRecords {
+        count,
+        every,
+        affecting: 2,
     }
-    Ok(Seq::of(records))
-}
-
-fn record(alloc: Global, index: u64, revision: u64) -> Result<Advisory, NoMemory> {
-    let mut entries = Vec::new(alloc);
-    entries.push(entry(alloc, index)?)?;
-    Ok(Advisory {
-        id: text(alloc, "X", index)?,
-        modified: text(alloc, "2024-01-01T00:00:", revision)?,
-        withdrawn: false,
-        affected: Seq::of(entries),
-    })
-}
-
-fn entry(alloc: Global, index: u64) -> Result<Affected, NoMemory> {
-    let fix = if index % 2 == 0 { "1.5" } else { "1.1" };
-    let mut turns = Vec::new(alloc);
-    turns.push(Turn::Introduced(Text::of(alloc, "0")?))?;
-    turns.push(Turn::Fixed(Text::of(alloc, fix)?))?;
-    let mut ranges = Vec::new(alloc);
-    ranges.push(Range {
-        kind: RangeKind::Ecosystem,
-        turns: Seq::of(turns),
-    })?;
-    Ok(Affected {
-        package: Some(PackageName {
-            ecosystem: Text::of(alloc, "Debian:12")?,
-            name: text(alloc, "p", index % NAMES)?,
-        }),
-        ranges: Seq::of(ranges),
-        versions: Seq::of(Vec::new(alloc)),
-    })
 }
 
 fn packages_of(alloc: Global, count: u64) -> Result<Vec<Package>, NoMemory> {
     let mut packages = Vec::new(alloc);
     for index in 0..count {
-        packages.push(package(alloc, index)?)?;
+        packages.push(package_of(alloc, index)?)?;
     }
     Ok(packages)
 }
 
-fn package(alloc: Global, index: u64) -> Result<Package, NoMemory> {
-    let name = text(alloc, "p", index)?;
-    Ok(Package {
+fn package_of(alloc: Global, index: u64) -> Result<Package, NoMemory> {
+    let name = numbered(alloc, "p", index)?;
+    let installed = Installed {
         kind: PackageKind::Deb,
-        path: RelPath::top(),
-        version: Text::of(alloc, "1.2")?,
-        source: name.clone()?,
-        source_version: Text::of(alloc, "1.2")?,
-        arch: Text::of(alloc, "amd64")?,
-        ecosystem: Text::of(alloc, "Debian:12")?,
-        name,
-    })
-}
-
-/// A word with a number of ten digits.
-fn text(alloc: Global, word: &str, number: u64) -> Result<Text, NoMemory> {
-    let text = format!(in alloc; "{word}{number:010}")?;
-    Text::of(alloc, text.as_str())
+        ecosystem: "Debian:12",
+        name: name.as_str(),
+        source: name.as_str(),
+        version: "1.2",
+    };
+    package(alloc, &installed, RelPath::top())
 }

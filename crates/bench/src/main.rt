@@ -19,17 +19,18 @@
 
 mod documents;
 mod feeds;
-mod flaw;
 mod image;
 mod lines;
 mod matching;
 mod orders;
 mod overlay;
 mod parsing;
+mod sample;
 
-use crate::flaw::Flaw;
 use crate::orders::Order;
+use crate::sample::Sample;
 use cv_base::NoMemory;
+use sample_data::number;
 use std::{env, io};
 
 const WORKS: [&str; 11] = [
@@ -39,12 +40,12 @@ const WORKS: [&str; 11] = [
 
 fn main(rt: HostRuntime) -> io::Result<()> {
     let mut arguments = Vec::new(rt.alloc());
-    for argument in env::args(&rt)?.skip(1) {
+    for argument in env::args(&rt)? {
         arguments.push(argument)?;
     }
-    match arguments.as_slice().split_first() {
-        Some((work, rest)) => report(&rt, work.as_str(), rest),
-        None => report_all(&rt),
+    match arguments.as_slice() {
+        [_, work, rest @ ..] => report(&rt, work.as_str(), rest),
+        _ => report_all(&rt),
     }
 }
 
@@ -79,7 +80,7 @@ fn run(rt: &HostRuntime, work: &str, arguments: &[String]) -> Result<u64, NoMemo
         "lines" => lines::count(alloc, rt.reader()),
         "match" => {
             let (pairs, times) = (number(arguments, 1, 100), number(arguments, 2, 1));
-            matching::hits(alloc, Flaw::of(kind), pairs, times)
+            matching::hits(alloc, Sample::of(kind), pairs, times)
         }
         "orders" => {
             let (pairs, length) = (number(arguments, 1, 1000), number(arguments, 2, 0));
@@ -91,13 +92,5 @@ fn run(rt: &HostRuntime, work: &str, arguments: &[String]) -> Result<u64, NoMemo
         "records" => feeds::made(alloc, number(arguments, 0, 100), number(arguments, 1, 1)),
         "status" => documents::packages(alloc, rt.reader()),
         _ => Ok(0),
-    }
-}
-
-/// The number that stands among the arguments at an index, or another one where none stands there.
-fn number(arguments: &[String], index: usize, other: u64) -> u64 {
-    match arguments.get(index) {
-        Some(argument) => argument.as_str().parse().unwrap_or(other),
-        None => other,
     }
 }

@@ -1,23 +1,21 @@
 ghost use Rattle.std.specs.Prelude.{◌≡◌, ◌<◌, ◌≤◌};
 
-use crate::flaw::Flaw;
-use cv_base::{Advisory, NoMemory, Package, RelPath, Steps, Text};
+use crate::sample::Sample;
+use cv_base::{Advisory, NoMemory, Package, RelPath, Steps};
 use cv_match::{Hit, ReadyAdvisory, ReadyPackage, affects, prepare, prepare_package};
-use cv_osv::read_advisory;
-use serde_json::Value;
+use sample_data::{Flaw, Installed, advisory, package};
 use std::alloc::Global;
 use std::marker::Brand;
 use std::sync::ledger::{Blank, Ledger};
 
-/// Prepares the flaw's record so many times, and then asks so many times whether it affects the flawed package. Counts how
-/// often it does.
-pub fn hits(alloc: Global, flaw: Flaw, pairs: u64, times: u64) -> Result<u64, NoMemory> {
-    let record = record(alloc, flaw)?;
-    let package = package(alloc, flaw)?;
+/// Prepares the record of a sample so many times, and then asks so many times whether it affects the package. Counts how often it
+/// does.
+pub fn hits(alloc: Global, sample: &Sample, pairs: u64, times: u64) -> Result<u64, NoMemory> {
+    let record = record(alloc, sample)?;
     for _ in 1..times {
-        let _prepared = prepare(alloc, &record, flaw.kind)?;
+        let _prepared = prepare(alloc, &record, sample.kind)?;
     }
-    hits_of(alloc, &record, &package, pairs)
+    hits_of(alloc, &record, &installed(alloc, sample)?, pairs)
 }
 
 fn hits_of(
@@ -53,25 +51,26 @@ fn count_hits<L: Ledger>(
     hits
 }
 
-fn record(alloc: Global, flaw: Flaw) -> Result<Advisory, NoMemory> {
-    let Ok(value) = Value::from_str(alloc, flaw.record) else {
-        return Err(NoMemory);
+fn record(alloc: Global, sample: &Sample) -> Result<Advisory, NoMemory> {
+    let flaw = Flaw {
+        id: "X-1",
+        modified: "2024-01-01T00:00:00Z",
+        withdrawn: false,
+        ecosystem: sample.ecosystem,
+        name: sample.name,
+        kind: sample.order,
+        ranges: sample.ranges,
     };
-    match read_advisory(alloc, &value) {
-        Ok(record) => Ok(record),
-        Err(_) => Err(NoMemory),
-    }
+    advisory(alloc, &flaw)
 }
 
-fn package(alloc: Global, flaw: Flaw) -> Result<Package, NoMemory> {
-    Ok(Package {
-        kind: flaw.kind,
-        path: RelPath::top(),
-        name: Text::of(alloc, flaw.name)?,
-        version: Text::of(alloc, flaw.version)?,
-        source: Text::of(alloc, flaw.name)?,
-        source_version: Text::of(alloc, flaw.version)?,
-        arch: Text::of(alloc, "any")?,
-        ecosystem: Text::of(alloc, flaw.ecosystem)?,
-    })
+fn installed(alloc: Global, sample: &Sample) -> Result<Package, NoMemory> {
+    let installed = Installed {
+        kind: sample.kind,
+        ecosystem: sample.ecosystem,
+        name: sample.name,
+        source: sample.name,
+        version: sample.version,
+    };
+    package(alloc, &installed, RelPath::top())
 }

@@ -30,14 +30,13 @@ fn layer_of(alloc: Global, layer: u32, entries: u32, whiteouts: u32) -> Result<T
     let folders = (entries / FOLDER).max(1);
     let whiteouts_of_folder = (whiteouts / folders).min(FOLDER - 1);
     let mut tree = Vec::new(alloc);
-    for folder in 0..folders {
-        let path = format!(in alloc; "d{folder:010}")?;
-        tree.push(entry(alloc, path.as_str(), Node::Dir)?)?;
+    for number in 0..folders {
+        tree.push(folder(alloc, number)?)?;
         for name in 0..whiteouts_of_folder {
-            tree.push(file(alloc, folder, ".wh.f", layer.max(1) - 1, name)?)?;
+            tree.push(file(alloc, number, ".wh.f", layer.max(1) - 1, name)?)?;
         }
         for name in 0..FOLDER - 1 - whiteouts_of_folder {
-            tree.push(file(alloc, folder, "f", layer, name)?)?;
+            tree.push(file(alloc, number, "f", layer, name)?)?;
         }
     }
     Ok(Tree {
@@ -53,13 +52,22 @@ fn file(
     name: u32,
 ) -> Result<TreeEntry, NoMemory> {
     let moved = u64::from(name) + STEP * u64::from(layer);
-    let path = format!(in alloc; "d{folder:010}/{kind}{moved:010}")?;
-    entry(alloc, path.as_str(), Node::File(Content::Unread))
+    let text = format!(in alloc; "d{folder:010}/{kind}{moved:010}")?;
+    let path = path(alloc, text.as_str())?;
+    let node = Node::File(Content::Unread);
+    Ok(TreeEntry { path, node })
 }
 
-fn entry(alloc: Global, path: &str, node: Node) -> Result<TreeEntry, NoMemory> {
-    match RelPath::read(alloc, path) {
-        Ok(path) => Ok(TreeEntry { path, node }),
+fn folder(alloc: Global, folder: u32) -> Result<TreeEntry, NoMemory> {
+    let text = format!(in alloc; "d{folder:010}")?;
+    let path = path(alloc, text.as_str())?;
+    let node = Node::Dir;
+    Ok(TreeEntry { path, node })
+}
+
+fn path(alloc: Global, text: &str) -> Result<RelPath, NoMemory> {
+    match RelPath::read(alloc, text) {
+        Ok(path) => Ok(path),
         Err(_) => Err(NoMemory),
     }
 }

@@ -1,5 +1,7 @@
-use cv_base::{Digest, Kind};
+use cv_base::{Digest, Kind, NoMemory};
 use cv_desk::TableEntry;
+use sample_data::SampleLayer;
+use std::alloc::Global;
 
 macro_rules! folder {
     ($path:expr) => {
@@ -85,17 +87,22 @@ static BAD_STATUS: [TableEntry; 4] = [
 /// A file whose folder is no entry.
 static BAD_TREE: [TableEntry; 2] = [folder!("etc"), file!("var/lib/dpkg", b"")];
 
-/// A letter for each layer, in ascending order. The layer of `m` is missing.
-pub static LAYERS: [u8; 7] = *b"bdmnsuw";
-
 /// The digest of 32 bytes that are all this letter.
 pub fn digest(letter: u8) -> Digest {
     Digest::of([letter; 32])
 }
 
-/// The entries of a layer, if there is one of this digest.
-pub fn entries_of(layer: &Digest) -> Option<&'static [TableEntry]> {
-    let [letter, ..] = layer.bytes();
+/// The layer of a letter, or none.
+pub fn layers_of(alloc: Global, letter: u8) -> Result<Vec<SampleLayer>, NoMemory> {
+    let mut layers = Vec::new(alloc);
+    if let Some(table) = table_of(letter) {
+        layers.push(SampleLayer::of(alloc, digest(letter), table)?)?;
+    }
+    Ok(layers)
+}
+
+/// The entries of a layer, if there is one of this letter.
+fn table_of(letter: u8) -> Option<&'static [TableEntry]> {
     match letter {
         b'd' => Some(&DEBIAN),
         b'u' => Some(&UPGRADE),

@@ -4,26 +4,19 @@
 //! say the same.
 #![tactic(auto)]
 
-mod contents;
-mod desk;
-mod draws;
-mod findings;
 mod layers;
-mod lines;
-mod machine;
-mod records;
 mod replay;
 mod script;
 mod show;
 mod step;
 mod tally;
 
-use crate::lines::Lines;
 use crate::replay::replay_all;
 use crate::script::run_script;
 use crate::step::Service;
 use cv_base::NoMemory;
 use cv_core::{Core, Limits};
+use plain_machine::Lines;
 use std::alloc::Global;
 use std::io;
 

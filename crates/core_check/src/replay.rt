@@ -1,12 +1,10 @@
-use crate::draws::Draws;
-use crate::lines::Lines;
-use crate::machine::Machine;
 use crate::script::tell;
 use crate::show::show_page;
-use crate::step::{Service, Step, restart};
+use crate::step::{Service, restart};
 use crate::tally::{Named, count, show_counts};
 use cv_base::NoMemory;
 use cv_core::Limits;
+use plain_machine::{Draws, Lines, Machine, Step};
 use std::alloc::Global;
 
 /// How many runs there are, and how many events each has. Each begins with a new core.

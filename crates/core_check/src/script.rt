@@ -1,11 +1,10 @@
-use crate::lines::Lines;
-use crate::records::{BASE, FEEDS, RECORDS, Record};
 use crate::show::{
     show_heads, show_page, show_queued, show_reply, show_report, show_state, word_of,
 };
-use crate::step::{Service, Step, Work, apply, restart};
+use crate::step::{Service, apply, restart};
 use cv_base::NoMemory;
 use cv_core::{Limits, MAX_FEEDS, MAX_IMAGES};
+use plain_machine::{Lines, Step, Work, code_of, feed_of};
 use std::alloc::Global;
 
 /// Does what each line of a script says, and writes the line and what came of it.
@@ -131,37 +130,6 @@ fn update_of(words: &str) -> Option<Step<'_>> {
         feed,
         code: code_of(records),
     })
-}
-
-/// The number of records, by words as `C-1=8.4`.
-fn code_of(words: &str) -> u32 {
-    let mut code: u32 = 0;
-    for record in RECORDS.iter().rev() {
-        code = code
-            .wrapping_mul(BASE)
-            .wrapping_add(digit_of(record, words));
-    }
-    code
-}
-
-/// The digit of a record.
-fn digit_of(record: &Record, words: &str) -> u32 {
-    for word in words.split(' ') {
-        let (id, fix) = word.split_once('=').unwrap_or((word, ""));
-        if id == record.id {
-            return record.digit(fix);
-        }
-    }
-    0
-}
-
-fn feed_of(name: &str) -> Option<&'static str> {
-    for feed in FEEDS.iter() {
-        if *feed == name {
-            return Some(*feed);
-        }
-    }
-    None
 }
 
 fn pair_of(words: &str) -> (u32, u32) {

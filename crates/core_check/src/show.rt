@@ -1,13 +1,10 @@
 use crate::layers::{digest, letter_of};
-use crate::lines::{Found, Lines};
 use crate::step::Service;
 use cv_base::{Digest, Finding, NoMemory, Row};
 use cv_core::{NoticeHead, Notices, PageError, Reply, ReportRefusal};
 use cv_overlay::{ImageFault, TreeFault};
+use plain_machine::{Found, IMAGES, Lines};
 use std::alloc::Global;
-
-/// The letters of all images.
-pub static IMAGES: [u8; 7] = *b"ABCDEFG";
 
 /// The reply to an event.
 pub fn show_reply(out: &mut Lines, reply: &Reply) {

@@ -2,12 +2,11 @@ ghost use Rattle.std.specs.Prelude.{◌≡◌, ◌<◌, ◌≤◌, IsTrue};
 ghost use Rattle.cv_core.specs.Core.{IsSound, act_of};
 ghost use Rattle.cv_machine.specs.declared.limits.TheConstants.{MAX_FEEDS, MAX_IMAGES};
 
-use crate::desk::SampleDesk;
-use crate::layers::digest;
-use crate::records::advisories;
+use crate::layers::{digest, layers_of};
 use cv_base::{Digest, MAX_LAYERS, Manifest, NoMemory, Seq, Steps, Text};
 use cv_core::{Core, Event, Limits, Reply};
-use cv_facts::{IndexError, LayerFacts, index_layer};
+use plain_machine::{Step, Work, advisories};
+use sample_data::{SampleDesk, facts_of};
 use std::alloc::Global;
 use std::marker::Brand;
 use std::sync::ledger::{Blank, Ledger};
@@ -16,27 +15,6 @@ use std::sync::ledger::{Blank, Ledger};
 pub type Service = Core<SampleDesk>;
 
 const MOST_EVENTS: u64 = 1 << 63;
-
-/// A layer, by its letter, and a worker.
-#[derive(Clone, Copy)]
-pub struct Work {
-    pub layer: u8,
-    pub worker: u32,
-}
-
-/// An event by letters. Layers may have blanks between them.
-#[derive(Clone, Copy)]
-pub enum Step<'a> {
-    Register { image: u8, layers: &'a [u8] },
-    DropImage(u8),
-    Claim(Work),
-    Indexed(Work),
-    Fault(Work),
-    Memory(Work),
-    /// A feed has the records of this number.
-    Update { feed: &'static str, code: u32 },
-    Ack(u64),
-}
 
 /// Puts a new core in the place of the old one.
 pub fn restart(alloc: Global, core: &mut Service, limits: Limits) -> Result<(), NoMemory>
@@ -88,12 +66,18 @@ fn event_of(alloc: Global, step: Step<'_>) -> Result<Event<SampleDesk>, NoMemory
         Step::Register { image, layers } => Event::Register(manifest(alloc, image, layers)?),
         Step::DropImage(image) => Event::DropImage(digest(image)),
         Step::Claim(work) => Event::Claim(digest(work.layer), work.worker),
-        Step::Indexed(work) => Event::Indexed(facts_of(alloc, work.layer)?, work.worker),
+        Step::Indexed(work) => indexed(alloc, work)?,
         Step::Fault(work) => Event::Fault(digest(work.layer), work.worker),
         Step::Memory(work) => Event::Memory(digest(work.layer), work.worker),
         Step::Update { feed, code } => update(alloc, feed, code)?,
         Step::Ack(number) => Event::Ack(number),
     })
+}
+
+fn indexed(alloc: Global, work: Work) -> Result<Event<SampleDesk>, NoMemory> {
+    let layers = layers_of(alloc, work.layer)?;
+    let facts = facts_of(alloc, digest(work.layer), layers)?;
+    Ok(Event::Indexed(facts, work.worker))
 }
 
 fn update(alloc: Global, feed: &str, code: u32) -> Result<Event<SampleDesk>, NoMemory> {
@@ -112,13 +96,4 @@ fn manifest(alloc: Global, image: u8, letters: &[u8]) -> Result<Manifest, NoMemo
         hash: digest(image),
         layers: Seq::of(layers),
     })
-}
-
-/// The facts of a layer. The desk never fails but for want of memory.
-fn facts_of(alloc: Global, layer: u8) -> Result<LayerFacts<SampleDesk>, NoMemory> {
-    let mut desk = SampleDesk::new();
-    match index_layer(alloc, &mut desk, digest(layer)) {
-        Ok(facts) => Ok(facts),
-        Err(IndexError::DeskFault | IndexError::NoMemory) => Err(NoMemory),
-    }
 }

@@ -1,5 +1,5 @@
-use crate::lines::Lines;
 use cv_base::NoMemory;
+use plain_machine::Lines;
 
 /// How often a name came.
 #[derive(Clone, Copy)]

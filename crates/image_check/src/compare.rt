@@ -1,9 +1,9 @@
 ghost use Rattle.std.specs.Prelude.{◌≤◌, length};
 
-use crate::desk::MadeDesk;
 use cv_base::{Advisory, Digest, Finding, MAX_LAYERS, NoMemory, Seq, Text};
 use cv_image::scan_layers;
 use cv_scan::{ImageError, scan_image};
+use sample_data::SampleDesk;
 use std::alloc::Global;
 
 /// What both ways of scanning an image say.
@@ -19,7 +19,7 @@ pub enum Compared {
 /// Scans an image of a desk's layers by its root, and by the reductions of its layers.
 pub fn compare(
     alloc: Global,
-    desk: MadeDesk,
+    desk: SampleDesk,
     image: &[Digest],
     advisories: &[Advisory],
 ) -> Result<Compared, NoMemory>

@@ -1,8 +1,8 @@
 use crate::compare::{Compared, compare};
 use crate::contents::{DEBIAN, FIXED, MODULE_X, MODULE_Y, OPENSSL, ZLIB};
-use crate::desk::{MadeDesk, MadeLayer};
 use cv_base::{Advisory, Digest, Kind, NoMemory};
 use cv_desk::TableEntry;
+use sample_data::{SampleDesk, SampleLayer};
 use std::alloc::Global;
 
 /// The known images: each letter or digit is a layer, the base first.
@@ -26,123 +26,117 @@ fn digest(letter: u8) -> Digest {
     Digest::of([letter; 32])
 }
 
-fn desk(alloc: Global) -> Result<MadeDesk, NoMemory> {
-    let layers = vec![in alloc;
-        layer(b'a', debian(alloc, OPENSSL)?),
-        layer(b'b', without_status(alloc)?),
-        layer(b'c', other_status(alloc)?),
-        layer(b'd', modules(alloc)?),
-        layer(b'e', opaque(alloc)?),
-        layer(b'0', file_for_folder(alloc)?),
-        layer(b'3', debian(alloc, FIXED)?),
-        layer(b'4', folder_for_file(alloc)?),
-        layer(b'6', vec![in alloc; mark(".wh..wh..opq")]?),
-    ]?;
-    Ok(MadeDesk::of(layers))
+/// The letters and digits of all layers.
+const LETTERS: [u8; 9] = *b"abcde0346";
+
+/// A desk with all layers.
+fn desk(alloc: Global) -> Result<SampleDesk, NoMemory> {
+    let mut layers = Vec::new(alloc);
+    for letter in LETTERS {
+        layers.push(SampleLayer::of(alloc, digest(letter), layer(letter))?)?;
+    }
+    Ok(SampleDesk::of(layers))
 }
 
-fn layer(letter: u8, entries: Vec<TableEntry>) -> MadeLayer {
-    MadeLayer {
-        digest: digest(letter),
-        entries,
+/// The entries of the layer of a letter or digit.
+fn layer(letter: u8) -> &'static [TableEntry] {
+    match letter {
+        b'a' => &DEBIAN_OPENSSL,
+        b'b' => &WITHOUT_STATUS,
+        b'c' => &OTHER_STATUS,
+        b'd' => &MODULES,
+        b'e' => &OPAQUE,
+        b'0' => &FILE_FOR_FOLDER,
+        b'3' => &DEBIAN_FIXED,
+        b'4' => &FOLDER_FOR_FILE,
+        _ => &ALL_OPAQUE,
     }
 }
 
-fn folder(path: &'static str) -> TableEntry {
-    TableEntry {
-        path,
-        kind: Kind::Dir,
-        bytes: b"",
-    }
-}
-
-fn file(path: &'static str, bytes: &'static [u8]) -> TableEntry {
-    TableEntry {
-        path,
-        kind: Kind::File,
-        bytes,
-    }
-}
-
-fn mark(path: &'static str) -> TableEntry {
-    file(path, b"")
+/// A folder, or a file with its bytes, or an entry of another kind.
+macro_rules! entry {
+    ($path:literal) => {
+        entry!($path, Dir, b"")
+    };
+    ($path:literal, $bytes:expr) => {
+        entry!($path, File, $bytes)
+    };
+    ($path:literal, $kind:ident, $bytes:expr) => {
+        TableEntry {
+            path: $path,
+            kind: Kind::$kind,
+            bytes: $bytes,
+        }
+    };
 }
 
 /// A Debian system with a package.
-fn debian(alloc: Global, status: &'static [u8]) -> Result<Vec<TableEntry>, NoMemory> {
-    let link = TableEntry {
-        path: "etc/os-release",
-        kind: Kind::Other,
-        bytes: b"",
+macro_rules! debian {
+    ($status:expr) => {
+        [
+            entry!("etc"),
+            entry!("etc/os-release", Other, b""),
+            entry!("usr"),
+            entry!("usr/lib"),
+            entry!("usr/lib/os-release", DEBIAN),
+            entry!("var"),
+            entry!("var/lib"),
+            entry!("var/lib/dpkg"),
+            entry!("var/lib/dpkg/status", $status),
+        ]
     };
-    Ok(vec![in alloc;
-        folder("etc"),
-        link,
-        folder("usr"),
-        folder("usr/lib"),
-        file("usr/lib/os-release", DEBIAN),
-        folder("var"),
-        folder("var/lib"),
-        folder("var/lib/dpkg"),
-        file("var/lib/dpkg/status", status),
-    ]?)
 }
+
+static DEBIAN_OPENSSL: [TableEntry; 9] = debian!(OPENSSL);
+
+static DEBIAN_FIXED: [TableEntry; 9] = debian!(FIXED);
 
 /// Hides the packages of the layers below.
-fn without_status(alloc: Global) -> Result<Vec<TableEntry>, NoMemory> {
-    Ok(vec![in alloc;
-        folder("var"),
-        folder("var/lib"),
-        folder("var/lib/dpkg"),
-        mark("var/lib/dpkg/.wh.status"),
-    ]?)
-}
+static WITHOUT_STATUS: [TableEntry; 4] = [
+    entry!("var"),
+    entry!("var/lib"),
+    entry!("var/lib/dpkg"),
+    entry!("var/lib/dpkg/.wh.status", b""),
+];
 
 /// Puts another package in their place.
-fn other_status(alloc: Global) -> Result<Vec<TableEntry>, NoMemory> {
-    Ok(vec![in alloc;
-        folder("var"),
-        folder("var/lib"),
-        folder("var/lib/dpkg"),
-        mark("var/lib/dpkg/.wh.status"),
-        file("var/lib/dpkg/status", ZLIB),
-    ]?)
-}
+static OTHER_STATUS: [TableEntry; 5] = [
+    entry!("var"),
+    entry!("var/lib"),
+    entry!("var/lib/dpkg"),
+    entry!("var/lib/dpkg/.wh.status", b""),
+    entry!("var/lib/dpkg/status", ZLIB),
+];
 
 /// Two npm packages.
-fn modules(alloc: Global) -> Result<Vec<TableEntry>, NoMemory> {
-    Ok(vec![in alloc;
-        folder("app"),
-        folder("app/node_modules"),
-        folder("app/node_modules/x"),
-        file("app/node_modules/x/package.json", MODULE_X),
-        folder("srv"),
-        folder("srv/node_modules"),
-        folder("srv/node_modules/y"),
-        file("srv/node_modules/y/package.json", MODULE_Y),
-    ]?)
-}
+static MODULES: [TableEntry; 8] = [
+    entry!("app"),
+    entry!("app/node_modules"),
+    entry!("app/node_modules/x"),
+    entry!("app/node_modules/x/package.json", MODULE_X),
+    entry!("srv"),
+    entry!("srv/node_modules"),
+    entry!("srv/node_modules/y"),
+    entry!("srv/node_modules/y/package.json", MODULE_Y),
+];
 
 /// Hides all that the layers below have in one folder.
-fn opaque(alloc: Global) -> Result<Vec<TableEntry>, NoMemory> {
-    Ok(vec![in alloc;
-        folder("app"),
-        folder("app/node_modules"),
-        mark("app/node_modules/.wh..wh..opq"),
-    ]?)
-}
+static OPAQUE: [TableEntry; 3] = [
+    entry!("app"),
+    entry!("app/node_modules"),
+    entry!("app/node_modules/.wh..wh..opq", b""),
+];
 
 /// Puts a file in the place of a folder.
-fn file_for_folder(alloc: Global) -> Result<Vec<TableEntry>, NoMemory> {
-    Ok(vec![in alloc; file("app", b"")]?)
-}
+static FILE_FOR_FOLDER: [TableEntry; 1] = [entry!("app", b"")];
 
 /// Puts a folder in the place of a file.
-fn folder_for_file(alloc: Global) -> Result<Vec<TableEntry>, NoMemory> {
-    Ok(vec![in alloc;
-        folder("var"),
-        folder("var/lib"),
-        folder("var/lib/dpkg"),
-        folder("var/lib/dpkg/status"),
-    ]?)
-}
+static FOLDER_FOR_FILE: [TableEntry; 4] = [
+    entry!("var"),
+    entry!("var/lib"),
+    entry!("var/lib/dpkg"),
+    entry!("var/lib/dpkg/status"),
+];
+
+/// Hides all that the layers below have.
+static ALL_OPAQUE: [TableEntry; 1] = [entry!(".wh..wh..opq", b"")];

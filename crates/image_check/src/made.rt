@@ -1,8 +1,7 @@
 use crate::compare::{Compared, compare};
 use crate::contents::{ALPINE, BROKEN, CRYPTO, DEBIAN, MODULE_X, MODULE_Y, OPENSSL, ZLIB};
-use crate::desk::{MadeDesk, MadeLayer};
 use cv_base::{Advisory, Digest, Kind, NoMemory};
-use cv_desk::TableEntry;
+use sample_data::{SampleDesk, SampleEntry, SampleLayer};
 use std::alloc::Global;
 
 /// How many images are made.
@@ -32,173 +31,59 @@ struct Place {
     role: Role,
 }
 
+macro_rules! place {
+    ($folder:literal, $path:literal, $role:ident) => {
+        Place {
+            folder: $folder,
+            path: $path,
+            role: Role::$role,
+        }
+    };
+}
+
 /// In the order of paths.
 static PLACES: [Place; 33] = [
-    Place {
-        folder: "",
-        path: ".wh..wh..opq",
-        role: Role::Mark,
-    },
-    Place {
-        folder: "",
-        path: ".wh.app",
-        role: Role::Mark,
-    },
-    Place {
-        folder: "",
-        path: ".wh.var",
-        role: Role::Mark,
-    },
-    Place {
-        folder: "",
-        path: "app",
-        role: Role::Folder,
-    },
-    Place {
-        folder: "app",
-        path: "app/.wh..wh..opq",
-        role: Role::Mark,
-    },
-    Place {
-        folder: "app",
-        path: "app/.wh.node_modules",
-        role: Role::Mark,
-    },
-    Place {
-        folder: "app",
-        path: "app/node_modules",
-        role: Role::Folder,
-    },
-    Place {
-        folder: "app/node_modules",
-        path: "app/node_modules/.wh..wh..opq",
-        role: Role::Mark,
-    },
-    Place {
-        folder: "app/node_modules",
-        path: "app/node_modules/.wh.x",
-        role: Role::Mark,
-    },
-    Place {
-        folder: "app/node_modules",
-        path: "app/node_modules/x",
-        role: Role::Folder,
-    },
-    Place {
-        folder: "app/node_modules/x",
-        path: "app/node_modules/x/.wh.package.json",
-        role: Role::Mark,
-    },
-    Place {
-        folder: "app/node_modules/x",
-        path: "app/node_modules/x/package.json",
-        role: Role::Module,
-    },
-    Place {
-        folder: "",
-        path: "etc",
-        role: Role::Folder,
-    },
-    Place {
-        folder: "etc",
-        path: "etc/.wh.os-release",
-        role: Role::Mark,
-    },
-    Place {
-        folder: "etc",
-        path: "etc/os-release",
-        role: Role::OsRelease,
-    },
-    Place {
-        folder: "",
-        path: "lib",
-        role: Role::Folder,
-    },
-    Place {
-        folder: "lib",
-        path: "lib/apk",
-        role: Role::Folder,
-    },
-    Place {
-        folder: "lib/apk",
-        path: "lib/apk/.wh.db",
-        role: Role::Mark,
-    },
-    Place {
-        folder: "lib/apk",
-        path: "lib/apk/db",
-        role: Role::Folder,
-    },
-    Place {
-        folder: "lib/apk/db",
-        path: "lib/apk/db/installed",
-        role: Role::Installed,
-    },
-    Place {
-        folder: "",
-        path: "usr",
-        role: Role::Folder,
-    },
-    Place {
-        folder: "usr",
-        path: "usr/.wh..wh..opq",
-        role: Role::Mark,
-    },
-    Place {
-        folder: "usr",
-        path: "usr/lib",
-        role: Role::Folder,
-    },
-    Place {
-        folder: "usr/lib",
-        path: "usr/lib/os-release",
-        role: Role::OsRelease,
-    },
-    Place {
-        folder: "",
-        path: "var",
-        role: Role::Folder,
-    },
-    Place {
-        folder: "var",
-        path: "var/.wh..wh..opq",
-        role: Role::Mark,
-    },
-    Place {
-        folder: "var",
-        path: "var/.wh.lib",
-        role: Role::Mark,
-    },
-    Place {
-        folder: "var",
-        path: "var/lib",
-        role: Role::Folder,
-    },
-    Place {
-        folder: "var/lib",
-        path: "var/lib/.wh.dpkg",
-        role: Role::Mark,
-    },
-    Place {
-        folder: "var/lib",
-        path: "var/lib/dpkg",
-        role: Role::Folder,
-    },
-    Place {
-        folder: "var/lib/dpkg",
-        path: "var/lib/dpkg/.wh..wh..opq",
-        role: Role::Mark,
-    },
-    Place {
-        folder: "var/lib/dpkg",
-        path: "var/lib/dpkg/.wh.status",
-        role: Role::Mark,
-    },
-    Place {
-        folder: "var/lib/dpkg",
-        path: "var/lib/dpkg/status",
-        role: Role::Status,
-    },
+    place!("", ".wh..wh..opq", Mark),
+    place!("", ".wh.app", Mark),
+    place!("", ".wh.var", Mark),
+    place!("", "app", Folder),
+    place!("app", "app/.wh..wh..opq", Mark),
+    place!("app", "app/.wh.node_modules", Mark),
+    place!("app", "app/node_modules", Folder),
+    place!("app/node_modules", "app/node_modules/.wh..wh..opq", Mark),
+    place!("app/node_modules", "app/node_modules/.wh.x", Mark),
+    place!("app/node_modules", "app/node_modules/x", Folder),
+    place!(
+        "app/node_modules/x",
+        "app/node_modules/x/.wh.package.json",
+        Mark
+    ),
+    place!(
+        "app/node_modules/x",
+        "app/node_modules/x/package.json",
+        Module
+    ),
+    place!("", "etc", Folder),
+    place!("etc", "etc/.wh.os-release", Mark),
+    place!("etc", "etc/os-release", OsRelease),
+    place!("", "lib", Folder),
+    place!("lib", "lib/apk", Folder),
+    place!("lib/apk", "lib/apk/.wh.db", Mark),
+    place!("lib/apk", "lib/apk/db", Folder),
+    place!("lib/apk/db", "lib/apk/db/installed", Installed),
+    place!("", "usr", Folder),
+    place!("usr", "usr/.wh..wh..opq", Mark),
+    place!("usr", "usr/lib", Folder),
+    place!("usr/lib", "usr/lib/os-release", OsRelease),
+    place!("", "var", Folder),
+    place!("var", "var/.wh..wh..opq", Mark),
+    place!("var", "var/.wh.lib", Mark),
+    place!("var", "var/lib", Folder),
+    place!("var/lib", "var/lib/.wh.dpkg", Mark),
+    place!("var/lib", "var/lib/dpkg", Folder),
+    place!("var/lib/dpkg", "var/lib/dpkg/.wh..wh..opq", Mark),
+    place!("var/lib/dpkg", "var/lib/dpkg/.wh.status", Mark),
+    place!("var/lib/dpkg", "var/lib/dpkg/status", Status),
 ];
 
 /// How many made images have the same answer in both ways, by that answer, and how many do not.
@@ -272,37 +157,42 @@ impl Draws {
         }
     }
 
-    fn desk(&mut self, alloc: Global) -> Result<MadeDesk, NoMemory> {
+    fn desk(&mut self, alloc: Global) -> Result<SampleDesk, NoMemory> {
         let mut layers = Vec::new(alloc);
         for byte in 0..LAYERS {
-            layers.push(MadeLayer {
+            layers.push(SampleLayer {
                 digest: Digest::of([byte; 32]),
                 entries: self.entries(alloc)?,
             })?;
         }
-        Ok(MadeDesk::of(layers))
+        Ok(SampleDesk::of(layers))
     }
 
-    fn entries(&mut self, alloc: Global) -> Result<Vec<TableEntry>, NoMemory> {
+    fn entries(&mut self, alloc: Global) -> Result<Vec<SampleEntry>, NoMemory> {
         let mut entries = Vec::new(alloc);
         for place in PLACES.iter() {
             let draw = self.next();
             if has_folder(&entries, place.folder) {
-                add_entry(&mut entries, place, draw)?;
+                add_entry(alloc, &mut entries, place, draw)?;
             }
         }
         Ok(entries)
     }
 }
 
-fn has_folder(entries: &[TableEntry], folder: &str) -> bool {
+fn has_folder(entries: &[SampleEntry], folder: &str) -> bool {
     folder.is_empty()
         || entries
             .iter()
             .any(|entry| entry.kind == Kind::Dir && entry.path == folder)
 }
 
-fn add_entry(entries: &mut Vec<TableEntry>, place: &Place, draw: u64) -> Result<(), NoMemory> {
+fn add_entry(
+    alloc: Global,
+    entries: &mut Vec<SampleEntry>,
+    place: &Place,
+    draw: u64,
+) -> Result<(), NoMemory> {
     let item = match place.role {
         Role::Folder => folder(draw),
         Role::Mark => mark(draw),
@@ -312,10 +202,10 @@ fn add_entry(entries: &mut Vec<TableEntry>, place: &Place, draw: u64) -> Result<
         Role::Module => file(draw, MODULE_X, MODULE_Y),
     };
     if let Some((kind, bytes)) = item {
-        entries.push(TableEntry {
+        entries.push(SampleEntry {
             path: place.path,
             kind,
-            bytes,
+            bytes: bytes.to_vec(alloc)?,
         })?;
     }
     Ok(())

@@ -6,7 +6,6 @@
 
 mod compare;
 mod contents;
-mod desk;
 mod known;
 mod made;
 mod records;

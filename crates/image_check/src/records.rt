@@ -1,4 +1,5 @@
-use cv_base::{Advisory, Affected, NoMemory, PackageName, Range, RangeKind, Seq, Text, Turn};
+use cv_base::{Advisory, NoMemory, RangeKind};
+use sample_data::{Flaw, advisory};
 use std::alloc::Global;
 
 /// A record about a package, whose flaw is present from the start.
@@ -53,37 +54,20 @@ static RECORDS: [Record; 5] = [
 pub fn all(alloc: Global) -> Result<Vec<Advisory>, NoMemory> {
     let mut out = Vec::new(alloc);
     for record in RECORDS.iter() {
-        out.push(advisory(alloc, record)?)?;
+        out.push(made(alloc, record)?)?;
     }
     Ok(out)
 }
 
-fn advisory(alloc: Global, record: &Record) -> Result<Advisory, NoMemory> {
-    let range = Range {
-        kind: record.kind,
-        turns: Seq::of(turns(alloc, record)?),
-    };
-    let affected = Affected {
-        package: Some(PackageName {
-            ecosystem: Text::of(alloc, record.ecosystem)?,
-            name: Text::of(alloc, record.name)?,
-        }),
-        ranges: Seq::of(vec![in alloc; range]?),
-        versions: Seq::of(Vec::new(alloc)),
-    };
-    Ok(Advisory {
-        id: Text::of(alloc, record.id)?,
-        modified: Text::of(alloc, "2024-01-01T00:00:00Z")?,
+fn made(alloc: Global, record: &Record) -> Result<Advisory, NoMemory> {
+    let flaw = Flaw {
+        id: record.id,
+        modified: "2024-01-01T00:00:00Z",
         withdrawn: false,
-        affected: Seq::of(vec![in alloc; affected]?),
-    })
-}
-
-fn turns(alloc: Global, record: &Record) -> Result<Vec<Turn>, NoMemory> {
-    let mut turns = Vec::new(alloc);
-    turns.push(Turn::Introduced(Text::of(alloc, "0")?))?;
-    if let Some(fixed) = record.fixed {
-        turns.push(Turn::Fixed(Text::of(alloc, fixed)?))?;
-    }
-    Ok(turns)
+        ecosystem: record.ecosystem,
+        name: record.name,
+        kind: record.kind,
+        ranges: &[("0", record.fixed)],
+    };
+    advisory(alloc, &flaw)
 }

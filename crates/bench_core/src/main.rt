@@ -1,0 +1,46 @@
+//! Applies events to the core of the service over generated images and records, so that `bench/core.sh` can time them.
+//!
+//! ```text
+//! bench_core [IMAGES [TIMES [UPDATES]]]
+//! ```
+//!
+//! It registers images, indexes their layers and applies further events of each kind. It prints the kinds of events with how many of
+//! each were applied, how many rows came of them and, with arguments, the nanoseconds of processor time for one.
+#![tactic(auto)]
+
+mod cost;
+mod service;
+
+use crate::cost::Cost;
+use crate::service::{Plan, costs_of};
+use cv_base::NoMemory;
+use sample_data::number;
+use std::{env, io};
+
+fn main(rt: HostRuntime) -> io::Result<()> {
+    let mut arguments = Vec::new(rt.alloc());
+    for argument in env::args(&rt)? {
+        arguments.push(argument)?;
+    }
+    let plan = Plan {
+        images: number(&arguments, 1, 8),
+        times: number(&arguments, 2, 2),
+        updates: number(&arguments, 3, 1),
+    };
+    match costs_of(&rt, plan) {
+        Ok(costs) => print_costs(&rt, &costs, arguments.len() > 1),
+        Err(NoMemory) => println!(rt; "core: out of memory"),
+    }
+}
+
+/// A line for each kind of work: how often it was done, how many rows came of it, and if it is timed the nanoseconds for one.
+fn print_costs(rt: &HostRuntime, costs: &[Cost], timed: bool) -> io::Result<()> {
+    for work in costs {
+        print!(rt; "core {} {} {}", work.name, work.count, work.rows)?;
+        if timed {
+            print!(rt; " {}", work.each())?;
+        }
+        println!(rt; "")?;
+    }
+    Ok(())
+}

@@ -1,0 +1,192 @@
+ghost use Rattle.std.specs.Prelude.{◌≡◌};
+ghost use Rattle.cv_core.specs.Core.{IsSound, act_of, opened};
+
+use crate::lanes::{Lane, Task, Work, run_lanes};
+use crate::speed::{Speed, Watch};
+use cv_base::{Digest, NoMemory};
+use cv_core::{Core, Event, Limits, MAX_FEEDS, MAX_IMAGES, Reply};
+use cv_hub::{Blank, Hub, Identity, Seat};
+use cv_records::By;
+use sample_data::{SampleDesk, image_facts, last_layer, manifest};
+use std::alloc::Global;
+use std::marker::Brand;
+use std::sync::Wait;
+use std::thread::Threads;
+use std::time::{Clock, CpuClock};
+
+/// How many seats the hub has.
+const SEATS: u32 = 8;
+
+/// How many threads work beside each other.
+const THREADS: [usize; 4] = [1, 2, 4, 8];
+
+const LIMITS: Limits = Limits {
+    images: MAX_IMAGES,
+    feeds: MAX_FEEDS,
+};
+
+const WORKER: u32 = 0;
+
+/// Registers and indexes images at a hub, at least one and at most as many as there may be besides one for each seat. Then threads
+/// submit so many events in all, and look up so many reports.
+pub fn speeds_of<W: Threads + Wait + Clock + CpuClock + Sync>(
+    rt: &W,
+    alloc: Global,
+    images: u64,
+    times: u64,
+) -> Result<Vec<Speed>, NoMemory> {
+    let core = Core::new(alloc, LIMITS)?;
+    measured::<Brand, W>(rt, alloc, Blank::new(8), core, images_of(images), times)
+}
+
+fn images_of(images: u64) -> u32 {
+    match u32::try_from(images) {
+        Ok(images) => images.clamp(1, MAX_IMAGES - SEATS),
+        Err(_) => MAX_IMAGES - SEATS,
+    }
+}
+
+fn measured<L: Identity + Send + Sync, W: Threads + Wait + Clock + CpuClock + Sync>(
+    rt: &W,
+    alloc: Global,
+    blank: Blank,
+    core: Core<SampleDesk>,
+    images: u32,
+    times: u64,
+) -> Result<Vec<Speed>, NoMemory>
+    requires name { blank.name ≡ L.name }
+    requires parts { (blank.parts ≡ L.parts) × (L.parts ≡ 8) }
+    requires book { blank.book ≡ L.book }
+    requires core { core ≡ opened L.limits }
+{
+    let (hub, seats) = Hub::<SampleDesk, L>::start(alloc, blank, core, SEATS)?;
+    let mut lanes = lanes_of(alloc, images, seats)?;
+    if let Some(first) = lanes.first_mut() {
+        fill(rt, alloc, &hub, &mut first.seat, images)?;
+    }
+    measure_all(rt, alloc, &hub, lanes.as_mut_slice(), images, times)
+}
+
+/// How fast each number of threads does each kind of work so many times in all.
+fn measure_all<L: Identity + Send + Sync, W: Threads + Wait + Clock + CpuClock + Sync>(
+    rt: &W,
+    alloc: Global,
+    hub: &Hub<SampleDesk, L>,
+    lanes: &mut [Lane<L>],
+    images: u32,
+    times: u64,
+) -> Result<Vec<Speed>, NoMemory> {
+    let mut speeds = Vec::new(alloc);
+    for threads in THREADS {
+        for work in [Work::Submit, Work::Report { images }] {
+            let task = Task {
+                alloc,
+                work,
+                times: times.checked_div(threads as u64).unwrap_or(0),
+            };
+            speeds.push(speed(rt, hub, &task, threads, lanes))?;
+        }
+    }
+    Ok(speeds)
+}
+
+/// A lane for each seat. Its layer is the last one of an image of its own.
+fn lanes_of<L: Identity>(
+    alloc: Global,
+    images: u32,
+    seats: Vec<Seat<SampleDesk, L>>,
+) -> Result<Vec<Lane<L>>, NoMemory> {
+    let mut lanes = Vec::new(alloc);
+    for seat in seats {
+        let number = (lanes.len() % SEATS as usize) as u32;
+        lanes.push(Lane {
+            seat,
+            number,
+            layer: last_layer(images.saturating_add(number)),
+            is_claimed: false,
+            done: 0,
+        })?;
+    }
+    Ok(lanes)
+}
+
+/// Registers and indexes images, and registers one more for each seat.
+fn fill<L: Identity, W: Wait>(
+    rt: &W,
+    alloc: Global,
+    hub: &Hub<SampleDesk, L>,
+    seat: &mut Seat<SampleDesk, L>,
+    images: u32,
+) -> Result<(), NoMemory> {
+    for image in 0..images {
+        for layer in register(rt, alloc, hub, seat, image)? {
+            index(rt, alloc, hub, seat, layer)?;
+        }
+    }
+    for image in 0..SEATS {
+        register(rt, alloc, hub, seat, images.saturating_add(image))?;
+    }
+    Ok(())
+}
+
+/// Registers an image, and gives its layers.
+fn register<L: Identity, W: Wait>(
+    rt: &W,
+    alloc: Global,
+    hub: &Hub<SampleDesk, L>,
+    seat: &mut Seat<SampleDesk, L>,
+    image: u32,
+) -> Result<Vec<Digest>, NoMemory> {
+    let manifest = manifest(alloc, image)?;
+    let layers = manifest.layers.as_slice().to_vec(alloc)?;
+    submit(rt, alloc, hub, seat, Event::Register(manifest))?;
+    Ok(layers)
+}
+
+/// Indexes a layer that is not indexed yet.
+fn index<L: Identity, W: Wait>(
+    rt: &W,
+    alloc: Global,
+    hub: &Hub<SampleDesk, L>,
+    seat: &mut Seat<SampleDesk, L>,
+    layer: Digest,
+) -> Result<(), NoMemory> {
+    let reply = submit(rt, alloc, hub, seat, Event::Claim(layer, WORKER))?;
+    if reply == Reply::Claimed {
+        let facts = image_facts(alloc, layer)?;
+        submit(rt, alloc, hub, seat, Event::Indexed(facts, WORKER))?;
+    }
+    Ok(())
+}
+
+fn submit<L: Identity, W: Wait>(
+    rt: &W,
+    alloc: Global,
+    hub: &Hub<SampleDesk, L>,
+    seat: &mut Seat<SampleDesk, L>,
+    event: Event<SampleDesk>,
+) -> Result<Reply, NoMemory>
+    requires sound { IsSound (act_of event) }
+{
+    let receipt = hub.submit(rt, alloc, seat, By::Worker(WORKER), event)?;
+    Ok(receipt.reply)
+}
+
+/// How fast so many threads do a task.
+fn speed<L: Identity + Send + Sync, W: Threads + Wait + Clock + CpuClock + Sync>(
+    rt: &W,
+    hub: &Hub<SampleDesk, L>,
+    task: &Task,
+    threads: usize,
+    lanes: &mut [Lane<L>],
+) -> Speed {
+    let watch = Watch::start(rt);
+    let mut count = 0;
+    if let Some(lanes) = lanes.get_mut(..threads) {
+        run_lanes(rt, hub, task, lanes);
+        for lane in lanes.iter() {
+            count = u64::saturating_add(count, lane.done);
+        }
+    }
+    watch.stop(rt, task.work.name(), threads, count)
+}

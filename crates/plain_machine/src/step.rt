@@ -1,0 +1,20 @@
+/// A layer, by its letter, and a worker.
+#[derive(Clone, Copy)]
+pub struct Work {
+    pub layer: u8,
+    pub worker: u32,
+}
+
+/// An event by letters. Layers may have blanks between them.
+#[derive(Clone, Copy)]
+pub enum Step<'a> {
+    Register { image: u8, layers: &'a [u8] },
+    DropImage(u8),
+    Claim(Work),
+    Indexed(Work),
+    Fault(Work),
+    Memory(Work),
+    /// A feed has the records of this number.
+    Update { feed: &'static str, code: u32 },
+    Ack(u64),
+}

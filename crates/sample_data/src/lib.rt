@@ -1,0 +1,29 @@
+//! Generated data for the benchmarks and for the programs that test the gate: records, packages, images, layers and a desk over
+//! them, and what the programs of the benchmarks share besides.
+//!
+//! ```text
+//! let records = FeedRecords { count: 100, every: 10, affecting: 2 };
+//! let advisories = records.at_revision(alloc, 1)?;
+//! let facts = image_facts(alloc, last_layer(0))?;
+//! ```
+#![tactic(auto)]
+
+mod arguments;
+mod clock;
+mod desk;
+mod facts;
+mod feed;
+mod flaw;
+mod images;
+mod installed;
+mod layers;
+
+pub use arguments::{number, numbered};
+pub use clock::{nanoseconds, processor_time};
+pub use desk::{SampleDesk, SampleEntry, SampleLayer};
+pub use facts::facts_of;
+pub use feed::FeedRecords;
+pub use flaw::{Flaw, advisory};
+pub use images::{hash, last_layer, manifest, manifest_over};
+pub use installed::{Installed, package};
+pub use layers::image_facts;
