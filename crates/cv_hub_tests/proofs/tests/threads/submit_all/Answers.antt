@@ -15,8 +15,8 @@ use Rattle.cv_desk.specs.contracts.table.TableDesk as desk
 use Rattle.cv_desk.specs.contracts.table.TableDeskDesk.TheImpl as desk_impl
 use Rattle.cv_hub.proofs.Crossing.{hub_sync}
 use Rattle.cv_hub.specs.contracts.hub.Hub as hub
-use Rattle.cv_hub.specs.contracts.tests.Sample as sample
-use Rattle.cv_hub.specs.contracts.tests.SampleTable.TheImpl as table_impl
+use Rattle.cv_hub_tests.specs.contracts.tests.Sample as sample
+use Rattle.cv_hub_tests.specs.contracts.tests.SampleTable.TheImpl as table_impl
 use Rattle.cv_hub_tests.proofs.tests.threads.submit_all.Goals as goal
 
 -- what a closure holds
