@@ -17,6 +17,8 @@ mod names;
 mod record;
 mod same;
 mod stock;
+#[cfg(test)]
+mod tests;
 
 pub use error::AdvError;
 pub use feeds::{Feeds, Listed, Touched};

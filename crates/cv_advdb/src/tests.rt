@@ -1,4 +1,4 @@
-use cv_advdb::{AdvError, Feeds, Touched};
+use super::*;
 use cv_base::{Advisory, Affected, NoMemory, PackageKind, PackageName, Seq, Text};
 use std::alloc::Global;
 use std::test::Fail;

@@ -1,7 +1,7 @@
 use denote.Param.Send.{param_send, param_sync, sendable}
 use Rattle.cv_advdb.proofs.Crossing.{feeds_send, feeds_sync}
-use Rattle.cv_advdb_tests.proofs.tests.feeds_are_shared_by_threads.Goals as goal
-use Rattle.cv_advdb_tests.proofs.tests.feeds_are_shared_by_threads.Lts as lts
+use Rattle.cv_advdb.proofs.tests.feeds_are_shared_by_threads.Goals as goal
+use Rattle.cv_advdb.proofs.tests.feeds_are_shared_by_threads.Lts as lts
 
 -- src/tests.rt:113:5
 pub is_shared-requires-send-T : goal.is_shared-requires-send-T
