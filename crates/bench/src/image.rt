@@ -2,7 +2,7 @@ ghost use Rattle.std.specs.Prelude.{◌≤◌, length};
 ghost use Rattle.cv_base.specs.declared.limits.TheConstants.{MAX_LAYERS};
 
 use cv_base::{Advisory, Digest, MAX_LAYERS, NoMemory, Text};
-use cv_desk::FolderDesk;
+use cv_folder_desk::FolderDesk;
 use cv_image::scan_layers;
 use cv_scan::{ImageError, scan_image};
 use std::alloc::Global;

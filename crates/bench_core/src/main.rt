@@ -8,14 +8,13 @@
 //! each were applied, how many rows came of them and, with arguments, the nanoseconds of processor time for one.
 #![tactic(auto)]
 
-mod cost;
 mod service;
 
-use crate::cost::Cost;
 use crate::service::{Plan, costs_of};
 use cv_base::NoMemory;
 use sample_data::number;
 use std::{env, io};
+use timed_core::Cost;
 
 fn main(rt: HostRuntime) -> io::Result<()> {
     let mut arguments = Vec::new(rt.alloc());

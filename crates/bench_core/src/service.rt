@@ -1,16 +1,15 @@
 ghost use Rattle.std.specs.Prelude.{◌≡◌, ◌<◌};
-ghost use Rattle.cv_core.specs.Core.{IsSound, act_of};
 
-use crate::cost::{Cost, add};
-use cv_base::{NoMemory, Steps, Text};
-use cv_core::{Core, Event, Limits, MAX_FEEDS, MAX_IMAGES, Reply};
+use cv_base::{NoMemory, Steps};
+use cv_core::{Event, MAX_IMAGES};
 use cv_facts::LayerFacts;
 use sample_data::{
-    FeedRecords, SampleDesk, hash, image_facts, last_layer, manifest, manifest_over, processor_time,
+    FeedRecords, SampleDesk, hash, image_facts, last_layer, manifest, manifest_over,
 };
 use std::marker::Brand;
 use std::ops::Range;
 use std::sync::ledger::{Blank, Ledger};
+use timed_core::{Cost, TimedCore};
 
 /// How many records the feed has.
 const RECORDS: u64 = 10_000;
@@ -21,8 +20,6 @@ const UPDATES: [(&str, u64); 3] = [
     ("update-1000", 10),
     ("update-10000", 1),
 ];
-
-const MOST_EVENTS: u64 = 1 << 63;
 
 const WORKER: u32 = 0;
 
@@ -46,9 +43,23 @@ fn run<L: Ledger>(rt: &HostRuntime, blank: Blank, plan: Plan) -> Result<Vec<Cost
     requires some { 0 < L.parts }
 {
     let mut steps = Steps::<L>::open(blank);
-    let mut service = Service::new(rt, images_of(plan))?;
-    service.follow(rt, plan, &mut steps)?;
-    Ok(service.costs)
+    let mut core = TimedCore::new(rt.alloc())?;
+    follow(rt, &mut core, plan, &mut steps)?;
+    Ok(core.into_costs())
+}
+
+/// Does what a plan says. The image that comes and goes has the number after the others.
+fn follow<L: Ledger>(
+    rt: &HostRuntime,
+    core: &mut TimedCore,
+    plan: Plan,
+    steps: &mut Steps<L>,
+) -> Result<(), NoMemory> {
+    let images = images_of(plan);
+    notify(rt, core, plan.times, steps)?;
+    fill(rt, core, 1..images, steps)?;
+    come_and_go(rt, core, images, plan.times, steps)?;
+    update_all(rt, core, plan.updates, steps)
 }
 
 fn images_of(plan: Plan) -> u32 {
@@ -58,224 +69,111 @@ fn images_of(plan: Plan) -> u32 {
     }
 }
 
-/// A core, and what its events took.
-#[derive(Drop)]
-struct Service {
-    core: Core<SampleDesk>,
-    /// How many images there are, without the one that comes and goes, which has this number.
-    images: u32,
-    /// The generation of the last update.
-    generation: u64,
-    /// The last notification that was acknowledged.
-    acknowledged: u64,
-    costs: Vec<Cost>,
-}
-
-impl Service {
-    fn new(rt: &HostRuntime, images: u32) -> Result<Service, NoMemory> {
-        let limits = Limits {
-            images: MAX_IMAGES,
-            feeds: MAX_FEEDS,
-        };
-        Ok(Service {
-            core: Core::new(rt.alloc(), limits)?,
-            images,
-            generation: 0,
-            acknowledged: 0,
-            costs: Vec::new(rt.alloc()),
-        })
-    }
-
-    /// Does what a plan says.
-    fn follow<L: Ledger>(
-        &mut self,
-        rt: &HostRuntime,
-        plan: Plan,
-        steps: &mut Steps<L>,
-    ) -> Result<(), NoMemory> {
-        let images = self.images;
-        self.notify(rt, plan.times, steps)?;
-        self.fill(rt, 1..images, steps)?;
-        self.come_and_go(rt, plan.times, steps)?;
-        self.update_all(rt, plan.updates, steps)
-    }
-
-    /// Registers and indexes the first image, makes so many notifications about it, and then updates the whole feed.
-    fn notify<L: Ledger>(
-        &mut self,
-        rt: &HostRuntime,
-        times: u64,
-        steps: &mut Steps<L>,
-    ) -> Result<(), NoMemory> {
-        self.fill(rt, 0..1, steps)?;
-        for _ in 0..times {
-            self.update(rt, "update-small", 1, 1, steps)?;
-        }
-        self.update(rt, "update-first", RECORDS, 1, steps)
-    }
-
-    /// Registers the images of these numbers, and indexes all layers.
-    fn fill<L: Ledger>(
-        &mut self,
-        rt: &HostRuntime,
-        images: Range<u32>,
-        steps: &mut Steps<L>,
-    ) -> Result<(), NoMemory> {
-        for image in images {
-            let manifest = manifest(rt.alloc(), image)?;
-            self.apply(rt, "first-register", Event::Register(manifest), steps)?;
-        }
-        for layer in self.core.queued(rt.alloc())?.into_vec() {
-            self.apply(rt, "first-claim", Event::Claim(layer, WORKER), steps)?;
-            let begun = processor_time(rt);
-            let facts = image_facts(rt.alloc(), layer)?;
-            add(rt, &mut self.costs, "index_layer", begun, 0)?;
-            self.apply(rt, "first-indexed", Event::Indexed(facts, WORKER), steps)?;
-        }
-        Ok(())
-    }
-
-    /// One more image comes and goes so many times: with a new layer, and with layers that are indexed. Each time a notification
-    /// is acknowledged.
-    fn come_and_go<L: Ledger>(
-        &mut self,
-        rt: &HostRuntime,
-        times: u64,
-        steps: &mut Steps<L>,
-    ) -> Result<(), NoMemory> {
-        let facts = image_facts(rt.alloc(), last_layer(self.images))?;
-        for _ in 0..times {
-            self.come_new(rt, &facts, steps)?;
-            self.come_indexed(rt, steps)?;
-            self.acknowledge(rt, "ack", steps)?;
-        }
-        Ok(())
-    }
-
-    /// An image with a new layer comes; the layer is claimed, given back, claimed again and indexed; and the image goes.
-    fn come_new<L: Ledger>(
-        &mut self,
-        rt: &HostRuntime,
-        facts: &LayerFacts<SampleDesk>,
-        steps: &mut Steps<L>,
-    ) -> Result<(), NoMemory> {
-        let layer = facts.digest();
-        let manifest = manifest_over(rt.alloc(), self.images, 0, self.images)?;
-        self.apply(rt, "register", Event::Register(manifest), steps)?;
-        self.apply(rt, "claim", Event::Claim(layer, WORKER), steps)?;
-        self.apply(rt, "fault", Event::Fault(layer, WORKER), steps)?;
-        self.apply(rt, "claim", Event::Claim(layer, WORKER), steps)?;
-        let event = Event::Indexed(facts.share()?, WORKER);
-        self.apply(rt, "indexed", event, steps)?;
-        self.apply(rt, "drop", Event::DropImage(hash(self.images)), steps)
-    }
-
-    /// An image whose layers are indexed comes and goes.
-    fn come_indexed<L: Ledger>(
-        &mut self,
-        rt: &HostRuntime,
-        steps: &mut Steps<L>,
-    ) -> Result<(), NoMemory> {
-        let manifest = manifest_over(rt.alloc(), self.images, 0, 0)?;
-        let image = manifest.hash;
-        self.apply(rt, "register-indexed", Event::Register(manifest), steps)?;
-        self.apply(rt, "drop-indexed", Event::DropImage(image), steps)
-    }
-
-    /// Updates the feed so many times in each way. Each time a notification is acknowledged.
-    fn update_all<L: Ledger>(
-        &mut self,
-        rt: &HostRuntime,
-        times: u64,
-        steps: &mut Steps<L>,
-    ) -> Result<(), NoMemory> {
-        for (name, every) in UPDATES {
-            self.update(rt, "update-first", RECORDS, every, steps)?;
-            self.acknowledge(rt, "ack-rows", steps)?;
-            for _ in 0..times {
-                self.update(rt, name, RECORDS, every, steps)?;
-                self.acknowledge(rt, "ack-rows", steps)?;
-            }
-        }
-        Ok(())
-    }
-
-    /// Replaces the records of the feed by so many of the next revision, which one of `every` has.
-    fn update<L: Ledger>(
-        &mut self,
-        rt: &HostRuntime,
-        name: &'static str,
-        count: u64,
-        every: u64,
-        steps: &mut Steps<L>,
-    ) -> Result<(), NoMemory> {
-        let feed = Text::of(rt.alloc(), "feed")?;
-        let records = FeedRecords {
-            count,
-            every,
-            affecting: 7,
-        };
-        let records = records.at_revision(rt.alloc(), self.generation.saturating_add(1))?;
-        self.apply(rt, name, Event::Update(feed, records), steps)
-    }
-
-    /// Acknowledges the next notification.
-    fn acknowledge<L: Ledger>(
-        &mut self,
-        rt: &HostRuntime,
-        name: &'static str,
-        steps: &mut Steps<L>,
-    ) -> Result<(), NoMemory> {
-        self.acknowledged = self.acknowledged.saturating_add(1);
-        self.apply(rt, name, Event::Ack(self.acknowledged), steps)
-    }
-
-    /// Applies an event of a kind.
-    fn apply<L: Ledger>(
-        &mut self,
-        rt: &HostRuntime,
-        name: &'static str,
-        event: Event<SampleDesk>,
-        steps: &mut Steps<L>,
-    ) -> Result<(), NoMemory>
-        requires sound { IsSound (act_of event) }
-    {
-        if self.core.count() >= MOST_EVENTS {
-            return Ok(());
-        }
-        let begun = processor_time(rt);
-        let reply = self.core.apply(rt.alloc(), event, steps)?;
-        self.note(rt, name, begun, &reply)
-    }
-
-    /// Notes an event of a kind that began at a time, or one that was refused.
-    fn note(
-        &mut self,
-        rt: &HostRuntime,
-        name: &'static str,
-        begun: u64,
-        reply: &Reply,
-    ) -> Result<(), NoMemory> {
-        match reply {
-            Reply::Updated { generation, rows } => {
-                self.generation = *generation;
-                add(rt, &mut self.costs, name, begun, *rows)
-            }
-            _ if is_change(reply) => add(rt, &mut self.costs, name, begun, 0),
-            _ => add(rt, &mut self.costs, "refused", begun, 0),
-        }
+/// Records of the feed, of which one of `every` differs from revision to revision.
+fn records(count: u64, every: u64) -> FeedRecords {
+    FeedRecords {
+        count,
+        every,
+        affecting: 7,
     }
 }
 
-/// Whether the core was changed, by an event other than an update.
-fn is_change(reply: &Reply) -> bool {
-    matches!(
-        reply,
-        Reply::Registered
-            | Reply::Dropped
-            | Reply::Claimed
-            | Reply::Entered
-            | Reply::Requeued
-            | Reply::Acked
-    )
+/// Registers and indexes the first image, makes so many notifications about it, and then updates the whole feed.
+fn notify<L: Ledger>(
+    rt: &HostRuntime,
+    core: &mut TimedCore,
+    times: u64,
+    steps: &mut Steps<L>,
+) -> Result<(), NoMemory> {
+    fill(rt, core, 0..1, steps)?;
+    for _ in 0..times {
+        core.update(rt, "update-small", records(1, 1), steps)?;
+    }
+    core.update(rt, "update-first", records(RECORDS, 1), steps)
+}
+
+/// Registers the images of these numbers, and indexes all layers.
+fn fill<L: Ledger>(
+    rt: &HostRuntime,
+    core: &mut TimedCore,
+    images: Range<u32>,
+    steps: &mut Steps<L>,
+) -> Result<(), NoMemory> {
+    for image in images {
+        let manifest = manifest(rt.alloc(), image)?;
+        core.apply(rt, "first-register", Event::Register(manifest), steps)?;
+    }
+    for layer in core.queued()?.into_vec() {
+        core.apply(rt, "first-claim", Event::Claim(layer, WORKER), steps)?;
+        let facts = core.facts(rt, "index_layer", layer)?;
+        core.apply(rt, "first-indexed", Event::Indexed(facts, WORKER), steps)?;
+    }
+    Ok(())
+}
+
+/// The image of a number comes and goes so many times: with a new layer, and with layers that are indexed. Each time a notification
+/// is acknowledged.
+fn come_and_go<L: Ledger>(
+    rt: &HostRuntime,
+    core: &mut TimedCore,
+    image: u32,
+    times: u64,
+    steps: &mut Steps<L>,
+) -> Result<(), NoMemory> {
+    let facts = image_facts(rt.alloc(), last_layer(image))?;
+    for _ in 0..times {
+        come_new(rt, core, image, &facts, steps)?;
+        come_indexed(rt, core, image, steps)?;
+        core.acknowledge(rt, "ack", steps)?;
+    }
+    Ok(())
+}
+
+/// An image with a new layer comes; the layer is claimed, given back, claimed again and indexed; and the image goes.
+fn come_new<L: Ledger>(
+    rt: &HostRuntime,
+    core: &mut TimedCore,
+    image: u32,
+    facts: &LayerFacts<SampleDesk>,
+    steps: &mut Steps<L>,
+) -> Result<(), NoMemory> {
+    let layer = facts.digest();
+    let manifest = manifest_over(rt.alloc(), image, 0, image)?;
+    core.apply(rt, "register", Event::Register(manifest), steps)?;
+    core.apply(rt, "claim", Event::Claim(layer, WORKER), steps)?;
+    core.apply(rt, "fault", Event::Fault(layer, WORKER), steps)?;
+    core.apply(rt, "claim", Event::Claim(layer, WORKER), steps)?;
+    let event = Event::Indexed(facts.share()?, WORKER);
+    core.apply(rt, "indexed", event, steps)?;
+    core.apply(rt, "drop", Event::DropImage(hash(image)), steps)
+}
+
+/// An image whose layers are indexed comes and goes.
+fn come_indexed<L: Ledger>(
+    rt: &HostRuntime,
+    core: &mut TimedCore,
+    image: u32,
+    steps: &mut Steps<L>,
+) -> Result<(), NoMemory> {
+    let manifest = manifest_over(rt.alloc(), image, 0, 0)?;
+    core.apply(rt, "register-indexed", Event::Register(manifest), steps)?;
+    core.apply(rt, "drop-indexed", Event::DropImage(hash(image)), steps)
+}
+
+/// Updates the feed so many times in each way. Each time a notification is acknowledged.
+fn update_all<L: Ledger>(
+    rt: &HostRuntime,
+    core: &mut TimedCore,
+    times: u64,
+    steps: &mut Steps<L>,
+) -> Result<(), NoMemory> {
+    for (name, every) in UPDATES {
+        core.update(rt, "update-first", records(RECORDS, every), steps)?;
+        core.acknowledge(rt, "ack-rows", steps)?;
+        for _ in 0..times {
+            core.update(rt, name, records(RECORDS, every), steps)?;
+            core.acknowledge(rt, "ack-rows", steps)?;
+        }
+    }
+    Ok(())
 }

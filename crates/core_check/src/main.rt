@@ -4,26 +4,18 @@
 //! say the same.
 #![tactic(auto)]
 
-mod layers;
 mod replay;
 mod script;
-mod show;
-mod step;
 mod tally;
 
-use crate::replay::replay_all;
+use crate::replay::{LIMITS, replay_all};
 use crate::script::run_script;
-use crate::step::Service;
 use cv_base::NoMemory;
-use cv_core::{Core, Limits};
+use cv_core::Core;
 use plain_machine::Lines;
+use sample_core::Service;
 use std::alloc::Global;
 use std::io;
-
-const LIMITS: Limits = Limits {
-    images: 4,
-    feeds: 2,
-};
 
 fn main(rt: HostRuntime) -> io::Result<()> {
     let script = io::read_to_string(rt.alloc(), rt.reader())?;

@@ -1,10 +1,8 @@
-use crate::script::tell;
-use crate::show::show_page;
-use crate::step::{Service, restart};
 use crate::tally::{Named, count, show_counts};
 use cv_base::NoMemory;
 use cv_core::Limits;
 use plain_machine::{Draws, Lines, Machine, Step};
+use sample_core::{Service, restart, show_page, tell};
 use std::alloc::Global;
 
 /// How many runs there are, and how many events each has. Each begins with a new core.
@@ -15,7 +13,8 @@ const EVENTS: u64 = 250;
 /// More rows than an update has.
 const SIZE: u64 = 1000;
 
-const LIMITS: Limits = Limits {
+/// How many images and feeds a core may have.
+pub const LIMITS: Limits = Limits {
     images: 4,
     feeds: 2,
 };

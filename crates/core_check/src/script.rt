@@ -1,10 +1,6 @@
-use crate::show::{
-    show_heads, show_page, show_queued, show_reply, show_report, show_state, word_of,
-};
-use crate::step::{Service, apply, restart};
-use cv_base::NoMemory;
 use cv_core::{Limits, MAX_FEEDS, MAX_IMAGES};
 use plain_machine::{Lines, Step, Work, code_of, feed_of};
+use sample_core::{Service, restart, show_heads, show_page, show_queued, show_report, tell};
 use std::alloc::Global;
 
 /// Does what each line of a script says, and writes the line and what came of it.
@@ -60,32 +56,6 @@ fn run_event(alloc: Global, core: &mut Service, step: Option<Step<'_>>, out: &mu
             let _ = tell(alloc, core, step, out);
         }
         None => out.word(" | not an event"),
-    }
-}
-
-/// Applies an event, and writes the reply and what is left. It gives the word of the reply.
-pub fn tell(alloc: Global, core: &mut Service, step: Step<'_>, out: &mut Lines) -> &'static str {
-    out.word(" -> ");
-    let word = tell_reply(alloc, core, step, out);
-    show_state(alloc, out, core);
-    word
-}
-
-/// Applies an event, and writes the reply.
-fn tell_reply(alloc: Global, core: &mut Service, step: Step<'_>, out: &mut Lines) -> &'static str {
-    match apply(alloc, core, step) {
-        Ok(Some(reply)) => {
-            show_reply(out, &reply);
-            word_of(&reply)
-        }
-        Ok(None) => {
-            out.word("not an event for a core");
-            ""
-        }
-        Err(NoMemory) => {
-            out.fail();
-            ""
-        }
     }
 }
 

@@ -1,4 +1,4 @@
-mod Crossing
+pub mod Crossing
 pub mod FeedLemmas
 pub mod IndexLemmas
 pub mod NameLemmas

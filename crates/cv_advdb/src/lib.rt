@@ -17,8 +17,6 @@ mod names;
 mod record;
 mod same;
 mod stock;
-#[cfg(test)]
-mod tests;
 
 pub use error::AdvError;
 pub use feeds::{Feeds, Listed, Touched};

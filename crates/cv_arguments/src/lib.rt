@@ -15,8 +15,6 @@ mod order;
 mod scan;
 mod serve;
 mod simple;
-#[cfg(test)]
-mod tests;
 
 pub use drill::seed_of;
 pub use laws::{drill_laws, order_laws, scan_law, serve_laws};

@@ -10,8 +10,8 @@ use Rattle.hex.specs.Hex.{IsBytes, decode_pairs, decode_sized, digit_or_error, e
 use Rattle.hex.specs.declared.error.FromHexError.{FromHexError}
 use Rattle.hex.proofs.HexLemmas.{IsDigits-lower_digits, decode_sized-encode_lower, decode_sized-ok, decode_sized-twice, decode_of-even}
 use Rattle.cv_base.specs.Digest.{digest_of, digest_text, is_lower_digit}
-use Rattle.cv_base.specs.Texts.{same}
-use Rattle.cv_base.proofs.Same.{same_is}
+use Rattle.cv_path.specs.Texts.{same}
+use Rattle.cv_path.proofs.Same.{same_is}
 
 -- The digits.
 

@@ -12,7 +12,7 @@ use Rattle.std.proofs.Common.{ap, sym, ◌∙◌}
 use Rattle.std.proofs.lemmas.List.Elements.{All-head, All-tail}
 use Rattle.std.proofs.lemmas.Map.Views.{All-insert_key}
 use Rattle.cv_base.specs.InOrder.{in_order}
-use Rattle.cv_base.proofs.Bools.{or_swap_inner}
+use Rattle.cv_path.proofs.Bools.{or_swap_inner}
 
 -- what comes after a key comes after one before it
 pub after_lower : {K A : Type 0} {cmp : K → K → Ordering} → IsTotalOrder cmp → (key : A → K) (p q : K) (xs : List A) → cmp p q ≡ Less

@@ -4,7 +4,7 @@
 use Rattle.std.specs.Prelude.{ℕ, Bool, ◌&&◌, ◌||◌, nat_le, if◌then◌else◌, List, ◌++◌, take, drop, codes, Option, Some, None, option_and_then}
 use Rattle.std.specs.List.{list_all}
 use Rattle.std.specs.Result.{result_ok}
-use Rattle.cv_base.specs.Texts.{same}
+use Rattle.cv_path.specs.Texts.{same}
 use Rattle.hex.specs.Hex.{decode_sized, encode_lower}
 
 -- a digit of 0-9 or a-f

@@ -109,32 +109,3 @@ fn is_lower_digit(byte: u8) -> bool
 {
     byte.is_ascii_digit() || (b'a'..=b'f').contains(&byte)
 }
-
-#[cfg(test)]
-mod tests {
-    use super::*;
-    use std::test::Fail;
-
-    #[test]
-    fn a_digest_is_written_as_it_is_read(rt: HostRuntime) -> Result<(), Fail> {
-        let text = "sha256:00ff0123456789abcdef00112233445566778899aabbccddeeff010203040506";
-        let digest = Digest::read(text.as_bytes())?;
-        assert_eq!(rt; digest.bytes()[1], 255);
-        assert_eq!(rt; digest.text(rt.alloc())?.as_str(), text);
-        Ok(())
-    }
-
-    #[test]
-    fn other_texts_are_no_digests(rt: HostRuntime) {
-        for text in [
-            "",
-            "sha256:",
-            "sha512:00ff0123456789abcdef00112233445566778899aabbccddeeff010203040506",
-            "sha256:00FF0123456789abcdef00112233445566778899aabbccddeeff010203040506",
-            "sha256:00ff0123456789abcdef00112233445566778899aabbccddeeff0102030405",
-            "sha256:00ff0123456789abcdef00112233445566778899aabbccddeeff01020304050600",
-        ] {
-            assert!(rt; Digest::read(text.as_bytes()).is_err(), "{text}");
-        }
-    }
-}

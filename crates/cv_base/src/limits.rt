@@ -1,4 +1,4 @@
-//! The limits of cvwatch (defined by this project).
+//! The limits of cvwatch (defined by this project), but for that of paths.
 
 /// The most layers of an image.
 pub const MAX_LAYERS: usize = 128;
@@ -8,9 +8,6 @@ pub const MAX_ADVISORIES: usize = 200_000;
 
 /// The most entries of a layer.
 pub const MAX_ENTRIES: usize = 1_000_000;
-
-/// The most bytes of a path.
-pub const MAX_PATH_LEN: usize = 4096;
 
 /// The most bytes of a package file that is read.
 pub const PACKAGE_FILE_LIMIT: u32 = 33_554_432;

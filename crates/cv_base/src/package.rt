@@ -1,4 +1,4 @@
-use crate::path::RelPath;
+use cv_path::RelPath;
 use cv_seq::Text;
 
 /// Which package manager a package is from, and so which order its versions have.

@@ -1,4 +1,4 @@
-use crate::path::RelPath;
+use cv_path::RelPath;
 use cv_seq::Seq;
 
 /// What stands at a path of a layer. A link or any special file is `Other`.

@@ -12,9 +12,9 @@ use Rattle.cv_seq.proofs.text.Text.TheSendSync as text
 use Rattle.cv_base.proofs.advisory.Advisory.TheSendSync as advisory
 use Rattle.cv_base.proofs.digest.Digest.TheSendSync as digest
 use Rattle.cv_base.proofs.«package».PackageName.TheSendSync as package_name
-use Rattle.cv_tree.proofs.branch.Branch.TheLaws.TheKnot as nodes
-use Rattle.cv_tree.proofs.share.Shared.TheSendSync as shared
-use Rattle.cv_tree.specs.contracts.branch.Branch as branch
+use Rattle.cv_avl.proofs.branch.Branch.TheLaws.TheKnot as nodes
+use Rattle.cv_avl.proofs.share.Shared.TheSendSync as shared
+use Rattle.cv_avl.specs.contracts.branch.Branch as branch
 use Rattle.cv_tree.specs.contracts.tree.Tree as tree
 use Rattle.cv_match.proofs.entry.PreparedEntries.TheSendSync as entries
 use Rattle.cv_match.specs.contracts.kinds.PreparedForKinds as kinds
@@ -33,8 +33,10 @@ use Rattle.cv_notice.proofs.notices.Notices.TheSendSync as notices
 use Rattle.cv_records.proofs.reply.Reply.TheSendSync as reply
 use Rattle.cv_registry.proofs.standing.Standing.TheSendSync as standing
 use Rattle.cv_registry.specs.contracts.registry.Registry as registry
+use Rattle.cv_knowledge.specs.contracts.knowledge.Knowledge as knowledge
 use Rattle.cv_inventory.specs.contracts.inventory.Inventory as inventory
-use Rattle.cv_core.specs.contracts.board.Board as board
+use Rattle.cv_board.specs.contracts.board.Board as board
+use Rattle.cv_steps.specs.contracts.machine.Machine as machine
 use Rattle.cv_core.specs.contracts.machine.Core as core
 use Rattle.cv_core.specs.contracts.plan.Planned as planned
 
@@ -133,17 +135,29 @@ registry_sync = search (standing.the_send, standing.the_sync, small, sendable, d
 ruleset parts = (feeds_send, feeds_sync, outcome.the_send, outcome.the_sync, notices.the_send, notices.the_sync, facts.the_send, facts.the_sync, small)
 
 module _ (D : RattleType) (g : desk.Ghosts D.Denot) where
+  knowledge_send : IsSend D → IsSync D → IsSend (knowledge.the_row D g)
+  knowledge_send s y = search (parts, sendable, declared_send) depth 30 fits 5000
+
+  knowledge_sync : IsSend D → IsSync D → IsSync (knowledge.the_row D g)
+  knowledge_sync s y = search (parts, sendable, declared_sync) depth 30 fits 5000
+
   inventory_send : IsSend D → IsSync D → IsSend (inventory.the_row D g)
-  inventory_send s y = search (registry_send, parts, sendable, declared_send) depth 30 fits 5000
+  inventory_send s y = search (registry_send, knowledge_send, sendable, declared_send) depth 30 fits 5000
 
   inventory_sync : IsSend D → IsSync D → IsSync (inventory.the_row D g)
-  inventory_sync s y = search (registry_sync, parts, sendable, declared_sync) depth 30 fits 5000
+  inventory_sync s y = search (registry_sync, knowledge_sync, sendable, declared_sync) depth 30 fits 5000
+
+  machine_send : IsSend D → IsSync D → IsSend (machine.the_row D g)
+  machine_send s y = search (inventory_send, parts, sendable, declared_send) depth 30 fits 5000
+
+  machine_sync : IsSend D → IsSync D → IsSync (machine.the_row D g)
+  machine_sync s y = search (inventory_sync, parts, sendable, declared_sync) depth 30 fits 5000
 
   pub core_send : IsSend D → IsSync D → IsSend (core.the_row D g)
-  core_send s y = search (inventory_send, parts, sendable, declared_send) depth 30 fits 5000
+  core_send s y = search (machine_send, sendable, declared_send) depth 30 fits 5000
 
   pub core_sync : IsSend D → IsSync D → IsSync (core.the_row D g)
-  core_sync s y = search (inventory_sync, parts, sendable, declared_sync) depth 30 fits 5000
+  core_sync s y = search (machine_sync, sendable, declared_sync) depth 30 fits 5000
 
   pub planned_send : IsSend D → IsSync D → IsSend (planned.the_row D g)
   planned_send s y = search (core_send, reply.the_send, sendable, declared_send) depth 30 fits 5000

@@ -1,4 +1,3 @@
 pub mod Crossing
 mod Examples
-pub mod BoardLemmas
-pub mod CoreLemmas
+pub mod ReadLemmas

@@ -1,4 +1,3 @@
-pub mod Core
+pub use Rattle.cv_board.specs.Reports
+pub use Rattle.cv_steps.specs.Core
 pub mod Planned
-pub mod Reports
-pub mod code

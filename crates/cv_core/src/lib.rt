@@ -1,6 +1,5 @@
 //! The core of the service: the machine of `cv_machine` with its events, its reports, its notifications and its boards. An event
-//! makes a new core that shares the rest with the old one, so that an event that runs out of memory, or is cancelled, changes
-//! nothing.
+//! that runs out of memory, or is cancelled, changes nothing.
 //!
 //! ```text
 //! let mut core = Core::<D>::new(alloc, Limits { images: MAX_IMAGES, feeds: MAX_FEEDS })?;
@@ -13,28 +12,17 @@
 //! ```
 #![tactic(auto)]
 
-mod ack;
 mod apply;
-mod board;
-mod claim;
-mod drop_image;
-mod event;
-mod index;
 mod machine;
-mod parts;
 mod plan;
-mod register;
-mod report;
-mod step;
-mod update;
+mod reads;
 
-pub use board::Board;
+pub use cv_board::{Board, Report, ReportRefusal};
 pub use cv_machine::{Limits, MAX_FEEDS, MAX_IMAGES};
 pub use cv_notice::{Notices, Page, PageError};
 pub use cv_records::{
     Act, Answer, By, EventEntry, NoticeHead, PageOutcome, ReadEntry, Reply, ReportOutcome,
 };
-pub use event::Event;
+pub use cv_steps::Event;
 pub use machine::Core;
 pub use plan::Planned;
-pub use report::{Report, ReportRefusal};

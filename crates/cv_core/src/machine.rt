@@ -1,37 +1,34 @@
-ghost use Rattle.std.specs.Prelude.{◌≡◌, ◌≤◌, IfOk};
+ghost use Rattle.std.specs.Prelude.{◌≡◌, ◌+◌, ◌^◌, ◌<◌, ◌≤◌, false, IfOk};
 ghost use Rattle.cv_machine.specs.Layers.{queued};
-ghost use Rattle.cv_core.specs.Core.{IsRegular, opened};
+ghost use Rattle.cv_machine.specs.Scans.{IsKnown, Trees, trees_of};
+ghost use Rattle.cv_machine.specs.Step.{step};
 ghost use Rattle.cv_machine.specs.declared.limits.TheConstants.{MAX_FEEDS, MAX_IMAGES};
+ghost use Rattle.cv_steps.specs.Core.{IsRegular, IsSound, act_of, counted, is_update, opened};
 
-use cv_base::Digest;
+use cv_base::{Digest, Steps};
 use cv_desk::Desk;
-use cv_inventory::Inventory;
 use cv_machine::Limits;
 use cv_notice::Notices;
+use cv_records::Reply;
 use cv_seq::{NoMemory, Seq};
-use cv_tree::Shared;
+use cv_steps::{Event, Machine};
 use std::alloc::Global;
 use std::marker::Model;
+use std::sync::ledger::Ledger;
 
 /// The machine of the service. Contracts see its state, and how many events it replied to. The outcome of each image is kept, so
 /// that reports are read without matching.
 #[derive(Drop)]
 pub struct Core<D: Desk> {
-    pub(crate) inventory: Inventory<D>,
-    pub(crate) notices: Shared<Notices>,
-    pub(crate) generation: u64,
-    pub(crate) count: u64,
+    pub(crate) machine: Machine<D>,
 }
 
 impl<D: Desk> Model for Core<D> {
-    ghost use Rattle.cv_core.specs.Core.{CoreView, IsRegular};
-    ghost use Rattle.cv_core.specs.code.Parts.{core_of};
+    ghost use Rattle.cv_steps.specs.Core.{CoreView};
 
     ghost Value = { CoreView };
 
-    ghost view = { λ c. core_of c.inventory c.notices c.generation c.count };
-
-    ghost invariant = { λ c. IsRegular (core_of c.inventory c.notices c.generation c.count) };
+    ghost view = { λ c. c.machine };
 }
 
 impl<D: Desk + Drop> Core<D> {
@@ -41,36 +38,53 @@ impl<D: Desk + Drop> Core<D> {
         requires feeds { (1 ≤ limits.feeds) × (limits.feeds ≤ MAX_FEEDS) }
         ensures { IfOk result (λ core. core ≡ opened limits) }
     {
-        let notices = Shared::of(alloc, Notices::new(alloc))?;
-        let inventory = Inventory::new(alloc, limits)?;
-        Ok(Core::of(inventory, notices, 0, 0))
+        Ok(Core {
+            machine: Machine::new(alloc, limits)?,
+        })
     }
 
     /// How many events it replied to. It takes no memory.
     pub fn count(&self) -> u64
         ensures { result ≡ self.now.count }
     {
-        self.count
+        self.machine.count()
     }
 
     /// The notifications that are not acknowledged. It takes no memory.
     pub fn notices(&self) -> &Notices
         ensures { result.now ≡ self.now.state.notifications }
     {
-        self.notices.value()
+        self.machine.notices().value()
     }
 
     /// The layers that wait for a worker, in ascending order.
     pub fn queued(&self, alloc: Global) -> Result<Seq<Digest>, NoMemory>
         ensures { IfOk result (λ layers. layers ≡ queued self.now.state.layers) }
     {
-        Ok(Seq::of(self.inventory.queued(alloc)?))
+        self.machine.queued(alloc)
     }
 
     /// The state is consistent. For proofs: it has no effect at run time.
     pub fn regular(&self)
         ensures { IsRegular self.now }
     {
-        let _inventory = &self.inventory;
+        self.machine.regular();
+    }
+
+    /// The core after an event, with its reply. This one stays as it is.
+    pub(crate) fn next<L: Ledger>(
+        &self,
+        alloc: Global,
+        event: Event<D>,
+        steps: &mut Steps<L>,
+    ) -> Result<(Core<D>, Reply), NoMemory>
+        requires room { self.now.count < 2 ^ 63 }
+        requires sound { IsSound (act_of event) }
+        ensures stepped { IsKnown D.tree → IfOk result (λ after. after ≡ counted self.now (step (trees_of D.tree) self.now.state (act_of event))) }
+        ensures others { (trees : Trees) → is_update (act_of event) ≡ false → IfOk result (λ after. after ≡ counted self.now (step trees self.now.state (act_of event))) }
+        ensures count { IfOk result (λ after. after.0.count ≡ self.now.count + 1) }
+    {
+        let (machine, reply) = self.machine.next(alloc, event, steps)?;
+        Ok((Core { machine }, reply))
     }
 }

@@ -2,16 +2,16 @@ ghost use Rattle.std.specs.Prelude.{◌≡◌, ◌+◌, ◌^◌, ◌<◌, false,
 ghost use Rattle.cv_machine.specs.Board.{board_of};
 ghost use Rattle.cv_machine.specs.Scans.{IsKnown, Trees, trees_of};
 ghost use Rattle.cv_machine.specs.Step.{step};
-ghost use Rattle.cv_core.specs.Core.{IsSound, act_of, counted, is_update};
+ghost use Rattle.cv_steps.specs.Core.{IsSound, act_of, counted, is_update};
 ghost use Rattle.cv_core.specs.Planned.{plan_of};
 
-use crate::board::Board;
-use crate::event::Event;
 use crate::machine::Core;
 use cv_base::Steps;
+use cv_board::Board;
 use cv_desk::Desk;
 use cv_records::Reply;
 use cv_seq::NoMemory;
+use cv_steps::Event;
 use std::alloc::Global;
 use std::marker::Model;
 use std::sync::ledger::Ledger;

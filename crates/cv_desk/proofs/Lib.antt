@@ -1,6 +1,3 @@
-pub mod Failures
-pub mod GeneratedOrder
 pub mod LoadedLayers
 pub mod PathSets
 pub mod ReadCounts
-pub mod Walks

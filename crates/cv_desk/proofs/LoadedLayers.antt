@@ -13,7 +13,7 @@ use Rattle.cv_base.specs.declared.tree.ListEntry.{ListEntry}
 use Rattle.cv_base.specs.declared.tree.Node.TheVariants as node
 use Rattle.cv_base.specs.declared.tree.Tree.{Tree}
 use Rattle.cv_base.specs.declared.tree.TreeEntry.{TreeEntry}
-use Rattle.cv_base.proofs.Same.{path_self}
+use Rattle.cv_path.proofs.Same.{path_self}
 use Rattle.cv_desk.specs.declared.desk.DeskFault.{DeskFault}
 use Rattle.cv_desk.specs.Loaded.{answered, loaded, loaded_by, loaded_kind, node_of}
 use Rattle.cv_desk.specs.Stored.{Item, Dir, File, Other, Stored, IsDistinctIn, is_distinct, item_at, kind_of, listed}

@@ -1,9 +1,5 @@
 pub mod Counts
-pub mod Failing
 pub mod Fault
-pub mod Folder
-pub mod Gate
-pub mod Generated
 pub mod Loaded
 pub mod Row
 pub mod Stored

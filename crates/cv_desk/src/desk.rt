@@ -6,7 +6,7 @@ ghost use Rattle.cv_desk.specs.Stored.{IsDistinctIn, Stored, file_read, item_in,
 
 use cv_base::{Digest, ListEntry, RelPath};
 use cv_seq::{NoMemory, Seq};
-use std::alloc::{AllocFailed, Global};
+use std::alloc::Global;
 use thiserror::Error;
 
 /// Why a desk gave no answer.
@@ -25,18 +25,6 @@ impl From<NoMemory> for DeskFault {
     ghost from_gives = { λ _ e. e ≡ desk.NoMemory };
 
     fn from(_error: NoMemory) -> DeskFault {
-        DeskFault::NoMemory
-    }
-}
-
-/// The rejected value is dropped.
-impl<T: Drop> From<AllocFailed<T>> for DeskFault {
-    ghost use Rattle.std.specs.Prelude.{◌≡◌};
-    ghost use Rattle.cv_desk.specs.declared.desk.DeskFault.TheVariants as desk;
-
-    ghost from_gives = { λ _ e. e ≡ desk.NoMemory };
-
-    fn from(_failed: AllocFailed<T>) -> DeskFault {
         DeskFault::NoMemory
     }
 }

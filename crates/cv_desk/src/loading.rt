@@ -1,4 +1,4 @@
-ghost use Rattle.std.specs.Prelude.{◌≡◌, ◌+◌, ◌^◌, ◌<◌, ◌≤◌, ◌||◌, true, cond, is_none, map, IfOk, IfSome, OnOk, Some};
+ghost use Rattle.std.specs.Prelude.{◌≡◌, ◌+◌, ◌^◌, ◌<◌, ◌≤◌, ◌||◌, ◌++◌, ◌∷◌, [], true, cond, is_none, map, IfOk, IfSome, OnOk, Some};
 ghost use Rattle.std.specs.List.{count_by, list_all};
 ghost use Rattle.std.specs.Option.{option_map};
 ghost use Rattle.cv_base.specs.Place.{place_of};
@@ -71,9 +71,15 @@ fn load_entries<D: Desk>(
     let mut out = Vec::new(alloc);
     for entry in listed {
         let loaded = load_entry(alloc, desk, layer, entry)?;
-        out.push(loaded)?;
+        append(&mut out, loaded)?;
     }
     Ok(out)
+}
+
+fn append(entries: &mut Vec<TreeEntry>, entry: TreeEntry) -> Result<(), NoMemory>
+    ensures { OnOk result (entries.new.items ≡ entries.old.items ++ entry ∷ []) }
+{
+    Ok(entries.push(entry)?)
 }
 
 #[tactic(auto, using(crate::proofs::ReadCounts::answer_read))]

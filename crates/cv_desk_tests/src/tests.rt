@@ -1,41 +1,32 @@
 ghost use Rattle.std.specs.Prelude.{◌≡◌};
 ghost use Rattle.cv_desk_tests.specs.Sample.{sample_rows};
 
-use cv_base::{Content, Digest, Kind, ListEntry, Node, RelPath, Tree, TreeEntry};
-use cv_desk::{
-    Desk, DeskFault, Faulty, FileRead, FolderDesk, GateDesk, GenDesk, Table, TableDesk, TableEntry,
-    load,
-};
+use cv_base::{Digest, Kind, ListEntry, RelPath};
+use cv_desk::{Desk, DeskFault, FileRead, Table, TableDesk, TableEntry};
+use cv_desk_wrappers::{Faulty, GateDesk};
+use cv_drill_desk::GenDesk;
+use cv_folder_desk::FolderDesk;
 use cv_seq::Seq;
 use std::alloc::Global;
+use std::str;
 use std::test::Fail;
 
+macro_rules! entry {
+    ($path:literal, $kind:ident, $bytes:literal) => {
+        TableEntry {
+            path: $path,
+            kind: Kind::$kind,
+            bytes: $bytes,
+        }
+    };
+}
+
 static ROWS: [TableEntry; 5] = [
-    TableEntry {
-        path: "etc",
-        kind: Kind::Dir,
-        bytes: b"",
-    },
-    TableEntry {
-        path: "etc/os-release",
-        kind: Kind::File,
-        bytes: b"ID=debian\n",
-    },
-    TableEntry {
-        path: "etc//shadow",
-        kind: Kind::File,
-        bytes: b"",
-    },
-    TableEntry {
-        path: "etc/os-release",
-        kind: Kind::Dir,
-        bytes: b"",
-    },
-    TableEntry {
-        path: "notes",
-        kind: Kind::File,
-        bytes: b"four",
-    },
+    entry!("etc", Dir, b""),
+    entry!("etc/os-release", File, b"ID=debian\n"),
+    entry!("etc//shadow", File, b""),
+    entry!("etc/os-release", Dir, b""),
+    entry!("notes", File, b"four"),
 ];
 
 /// One layer, for all digests. Its third row is no path, and the fourth has the path of the second.
@@ -49,125 +40,8 @@ impl Table for Sample {
     }
 }
 
-fn entry(alloc: Global, path: &str, kind: Kind, size: u64) -> Result<ListEntry, Fail> {
-    let path = RelPath::read(alloc, path)?;
-    Ok(ListEntry { path, kind, size })
-}
-
-/// What a listing of the sample tells.
-fn entries(alloc: Global) -> Result<Seq<ListEntry>, Fail> {
-    let first = entry(alloc, "etc", Kind::Dir, 0)?;
-    let second = entry(alloc, "etc/os-release", Kind::File, 10)?;
-    let third = entry(alloc, "notes", Kind::File, 4)?;
-    Ok(Seq::of(vec![in alloc; first, second, third]?))
-}
-
-/// What a read of the sample gives.
-fn read(alloc: Global, path: &str, limit: u32) -> Result<FileRead, Fail> {
-    let mut desk = TableDesk::<Sample>::new();
-    let path = RelPath::read(alloc, path)?;
-    Ok(desk.read(alloc, &Digest::of([0; 32]), &path, limit)?)
-}
-
-fn bytes(alloc: Global, text: &str) -> Result<FileRead, Fail> {
-    Ok(FileRead::Bytes(Seq::of(text.as_bytes().to_vec(alloc)?)))
-}
-
-fn node(alloc: Global, path: &str, node: Node) -> Result<TreeEntry, Fail> {
-    let path = RelPath::read(alloc, path)?;
-    Ok(TreeEntry { path, node })
-}
-
-#[test]
-fn rows_of_no_path_or_of_one_that_stands_are_no_entries(rt: HostRuntime) -> Result<(), Fail> {
-    let mut desk = TableDesk::<Sample>::new();
-    let found = desk.list(rt.alloc(), &Digest::of([0; 32]))?;
-    assert_eq!(rt; found, Some(entries(rt.alloc())?));
-    Ok(())
-}
-
-#[test]
-fn a_file_of_the_limits_size_is_read_and_none_above(rt: HostRuntime) -> Result<(), Fail> {
-    assert_eq!(rt; read(rt.alloc(), "notes", 4)?, bytes(rt.alloc(), "four")?);
-    assert_eq!(rt; read(rt.alloc(), "notes", 3)?, FileRead::TooLarge);
-    Ok(())
-}
-
-#[test]
-fn of_two_rows_with_one_path_the_first_is_read(rt: HostRuntime) -> Result<(), Fail> {
-    let found = read(rt.alloc(), "etc/os-release", 10)?;
-    assert_eq!(rt; found, bytes(rt.alloc(), "ID=debian\n")?);
-    Ok(())
-}
-
-#[test]
-fn a_directory_and_an_absent_path_are_no_files(rt: HostRuntime) -> Result<(), Fail> {
-    assert_eq!(rt; read(rt.alloc(), "etc", 10)?, FileRead::NotFile);
-    assert_eq!(rt; read(rt.alloc(), "etc/shadow", 10)?, FileRead::NotFile);
-    Ok(())
-}
-
-#[test]
-fn only_files_at_package_places_are_loaded_with_their_bytes(rt: HostRuntime) -> Result<(), Fail> {
-    let alloc = rt.alloc();
-    let mut desk = TableDesk::<Sample>::new();
-    let found = load(alloc, &mut desk, &Digest::of([0; 32]))?;
-    let known = Content::Bytes(Seq::of("ID=debian\n".as_bytes().to_vec(alloc)?));
-    let first = node(alloc, "etc", Node::Dir)?;
-    let second = node(alloc, "etc/os-release", Node::File(known))?;
-    let third = node(alloc, "notes", Node::File(Content::Unread))?;
-    let entries = Seq::of(vec![in alloc; first, second, third]?);
-    assert_eq!(rt; found, Some(Tree { entries }));
-    Ok(())
-}
-
-#[test]
-fn the_second_and_third_call_fail_be_they_listings_or_reads(rt: HostRuntime) -> Result<(), Fail> {
-    let alloc = rt.alloc();
-    let layer = Digest::of([0; 32]);
-    let path = RelPath::read(alloc, "notes")?;
-    let fails = Seq::of(vec![in alloc; 2, 3]?);
-    let mut desk = Faulty::new(TableDesk::<Sample>::new(), fails);
-    assert_eq!(rt; desk.list(alloc, &layer), Ok(Some(entries(alloc)?)));
-    assert_eq!(rt; desk.read(alloc, &layer, &path, 4), Err(DeskFault::Failed));
-    assert_eq!(rt; desk.list(alloc, &layer), Err(DeskFault::Failed));
-    assert_eq!(rt;
-        desk.read(alloc, &layer, &path, 4),
-        Ok(bytes(alloc, "four")?)
-    );
-    Ok(())
-}
-
-/// Only a type that threads may share is one for which this can be called.
-fn is_shared<T: Send + Sync>() {}
-
-#[test]
-fn threads_may_share_desks(_rt: HostRuntime) -> Result<(), Fail> {
-    is_shared::<TableDesk<Sample>>();
-    is_shared::<Faulty<TableDesk<Sample>>>();
-    is_shared::<FolderDesk<HostRuntime>>();
-    is_shared::<GateDesk<TableDesk<Sample>>>();
-    is_shared::<GenDesk>();
-    is_shared::<DeskFault>();
-    is_shared::<FileRead>();
-    Ok(())
-}
-
-#[test]
-fn a_file_that_is_not_there_is_a_failure_with_its_path(rt: HostRuntime) -> Result<(), Fail> {
-    let alloc = rt.alloc();
-    let path = RelPath::read(alloc, "etc/os-release")?;
-    let mut desk = FolderDesk::new(rt.clone()?);
-    assert!(rt; desk.last_failure().is_none());
-    let read = desk.read(alloc, &Digest::of([0x1a; 32]), &path, 10);
-    assert_eq!(rt; read, Err(DeskFault::Failed));
-    let Some(failure) = desk.last_failure() else {
-        return Err(Fail::from("no failure was kept"));
-    };
-    assert!(rt; failure.path.as_str().starts_with("layers/sha256/1a1a"));
-    assert!(rt; failure.path.as_str().ends_with("1a/etc/os-release"));
-    Ok(())
-}
+/// What a listing of the sample is.
+const LISTING: &str = "Dir etc 0\nFile etc/os-release 10\nFile notes 4\n";
 
 fn sample_desk() -> TableDesk<Sample>
     ensures { ⟦<TableDesk<Sample> as Desk>⟧.listings result ≡ 0 }
@@ -175,39 +49,129 @@ fn sample_desk() -> TableDesk<Sample>
     TableDesk::new()
 }
 
+fn layer() -> Digest {
+    Digest::of([0; 32])
+}
+
+/// The entries of a listing, a line each, or that it failed.
+fn listing(
+    alloc: Global,
+    found: Result<Option<Seq<ListEntry>>, DeskFault>,
+) -> Result<String, Fail> {
+    let Ok(Some(entries)) = found else {
+        return Ok(String::from_str(alloc, "failed")?);
+    };
+    let mut out = String::new(alloc);
+    for entry in entries.as_slice() {
+        let path = entry.path.text();
+        let line = format!(in alloc; "{:?} {path} {}\n", entry.kind, entry.size)?;
+        out.push_str(line.as_str())?;
+    }
+    Ok(out)
+}
+
+/// Reads a file of the layer: its text, or why there is none.
+fn read<D: Desk>(alloc: Global, desk: &mut D, path: &str, limit: u32) -> Result<String, Fail>
+    ensures { D.listings desk.new ≡ D.listings desk.old }
+{
+    let path = RelPath::read(alloc, path)?;
+    let read = desk.read(alloc, &layer(), &path, limit);
+    let text = match &read {
+        Ok(FileRead::Bytes(bytes)) => str::from_utf8(bytes.as_slice())?,
+        Ok(FileRead::TooLarge) => "too large",
+        Ok(FileRead::NotFile) => "no file",
+        Err(_) => "failed",
+    };
+    Ok(String::from_str(alloc, text)?)
+}
+
 #[test]
-fn two_desks_pass_whose_goals_are_reached_in_turn(rt: HostRuntime) -> Result<(), Fail> {
+fn rows_of_a_table_are_listed_and_read(rt: HostRuntime) -> Result<(), Fail> {
     let alloc = rt.alloc();
-    let layer = Digest::of([0; 32]);
-    let (mut first, mut second) = GateDesk::pair(alloc, sample_desk(), sample_desk(), 1, 2)?;
-    assert_eq!(rt; first.list(alloc, &layer), Ok(Some(entries(alloc)?)));
-    assert_eq!(rt; second.list(alloc, &layer), Ok(Some(entries(alloc)?)));
-    assert!(rt; first.passed());
-    assert!(rt; second.passed());
+    let found = sample_desk().list(alloc, &layer());
+    assert_eq!(rt; listing(alloc, found)?.as_str(), LISTING);
+    for (path, limit, want) in [
+        ("notes", 4, "four"),
+        ("notes", 3, "too large"),
+        ("etc/os-release", 10, "ID=debian\n"),
+        ("etc", 10, "no file"),
+        ("etc/shadow", 10, "no file"),
+    ] {
+        let read = read(alloc, &mut sample_desk(), path, limit)?;
+        assert_eq!(rt; read.as_str(), want);
+    }
     Ok(())
 }
 
 #[test]
-fn a_desk_that_made_no_listing_has_not_passed(rt: HostRuntime) -> Result<(), Fail> {
+fn the_second_and_third_call_fail_be_they_listings_or_reads(rt: HostRuntime) -> Result<(), Fail> {
     let alloc = rt.alloc();
-    let layer = Digest::of([0; 32]);
-    let path = RelPath::read(alloc, "notes")?;
-    let (mut first, mut second) = GateDesk::pair(alloc, sample_desk(), sample_desk(), 1, 0)?;
-    first.list(alloc, &layer)?;
-    let found = second.read(alloc, &layer, &path, 4)?;
-    assert_eq!(rt; found, bytes(alloc, "four")?);
-    assert!(rt; !second.passed());
+    let mut desk = Faulty::new(sample_desk(), Seq::of(vec![in alloc; 2, 3]?));
+    let first = desk.list(alloc, &layer());
+    assert_eq!(rt; listing(alloc, first)?.as_str(), LISTING);
+    assert_eq!(rt; read(alloc, &mut desk, "notes", 4)?.as_str(), "failed");
+    let third = desk.list(alloc, &layer());
+    assert_eq!(rt; listing(alloc, third)?.as_str(), "failed");
+    assert_eq!(rt; read(alloc, &mut desk, "notes", 4)?.as_str(), "four");
     Ok(())
 }
 
+/// Only a type that threads may share is one for which this can be called.
+fn is_shared<T: Send + Sync>() {}
+
 #[test]
-fn a_desk_has_not_passed_once_a_listing_missed_its_goal(rt: HostRuntime) -> Result<(), Fail> {
-    let alloc = rt.alloc();
-    let layer = Digest::of([0; 32]);
-    let (mut alone, _) = GateDesk::pair(alloc, sample_desk(), sample_desk(), 2, 2)?;
-    assert_eq!(rt; alone.list(alloc, &layer), Ok(Some(entries(alloc)?)));
-    assert!(rt; !alone.passed());
-    alone.list(alloc, &layer)?;
-    assert!(rt; !alone.passed());
+fn threads_may_share_desks() {
+    is_shared::<TableDesk<Sample>>();
+    is_shared::<Faulty<TableDesk<Sample>>>();
+    is_shared::<FolderDesk<HostRuntime>>();
+    is_shared::<GateDesk<TableDesk<Sample>>>();
+    is_shared::<GenDesk>();
+    is_shared::<DeskFault>();
+    is_shared::<FileRead>();
+}
+
+#[test]
+fn a_desk_has_passed_once_all_its_listings_reached_the_goal(rt: HostRuntime) -> Result<(), Fail> {
+    for (goals, listings, want) in [
+        ((1, 2), (1, 1), (true, true)),
+        ((1, 0), (1, 0), (true, false)),
+        ((2, 2), (1, 0), (false, false)),
+        ((2, 2), (2, 0), (false, false)),
+    ] {
+        let passed = passed(rt.alloc(), goals, listings)?;
+        assert_eq!(rt;
+            passed,
+            want,
+            "{listings:?} listings and the goals {goals:?}"
+        );
+    }
+    Ok(())
+}
+
+/// Whether two desks with these goals have passed after so many listings of the first and then of the second, at most two each.
+fn passed(alloc: Global, goals: (u64, u64), listings: (u8, u8)) -> Result<(bool, bool), Fail> {
+    let (mut first, mut second) = GateDesk::pair(
+        alloc,
+        sample_desk(),
+        sample_desk(),
+        goals.0,
+        goals.1,
+    )?;
+    list(alloc, &mut first, listings.0)?;
+    list(alloc, &mut second, listings.1)?;
+    Ok((first.passed(), second.passed()))
+}
+
+/// Reads a file, and then lists the layer at most twice.
+fn list<D: Desk>(alloc: Global, desk: &mut D, times: u8) -> Result<(), Fail>
+    requires { D.listings desk.old ≡ 0 }
+{
+    read(alloc, desk, "notes", 4)?;
+    if times > 0 {
+        desk.list(alloc, &layer())?;
+    }
+    if times > 1 {
+        desk.list(alloc, &layer())?;
+    }
     Ok(())
 }

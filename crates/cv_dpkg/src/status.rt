@@ -26,6 +26,3 @@ pub fn read_status(
 {
     Ok(Seq::of(read_blocks(alloc, &rule, bytes)?))
 }
-
-#[cfg(test)]
-mod tests;

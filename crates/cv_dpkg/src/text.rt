@@ -9,7 +9,7 @@ ghost use Rattle.cv_dpkg.specs.code.NextWord.{next_word};
 use cv_base::is_blank;
 
 /// A text without the blanks at its end.
-#[tactic(auto, using(cv_base::proofs::Ends::end_more, cv_base::proofs::Ends::end_done))]
+#[tactic(auto, using(cv_path::proofs::Ends::end_more, cv_path::proofs::Ends::end_done))]
 pub fn trim_end(text: &[u8]) -> &[u8]
     ensures { result.now ≡ without_end is_blank text.now }
 {
@@ -48,7 +48,7 @@ pub fn begins_with_blank(text: &[u8]) -> bool
 }
 
 /// What stands before the first blank, and what after it.
-#[tactic(auto, using(cv_base::proofs::Cuts::cut_is))]
+#[tactic(auto, using(cv_path::proofs::Cuts::cut_is))]
 fn cut_at_blank(text: &[u8]) -> Option<(&[u8], &[u8])>
     ensures { option_map (λ p. (p.0.now, p.1.now)) result ≡ cut is_blank text.now }
 {

@@ -1,35 +1,8 @@
--- The script and the summary on worked examples.
-use Rattle.std.proofs.Common.{◌≡◌, ℕ, true, false, List, [], ◌∷◌, codes, map, refl, Some, None}
-use Rattle.std.specs.Prelude.{replicate}
+-- The summary on worked examples.
+use Rattle.std.proofs.Common.{◌≡◌, ℕ, List, [], ◌∷◌, codes, refl, Some, None}
 use Rattle.serde_json.specs.Data.{Data, Items, array, null, number, unsigned, object, string, no_items, item, no_members, member}
-use Rattle.cv_drill.specs.Images.{role_digest, layers}
-use Rattle.cv_drill.specs.Lines.{json_text, lines_text}
-use Rattle.cv_drill.specs.Records.{is_kept, minor}
+use Rattle.cv_drill_input.specs.Lines.{json_text}
 use Rattle.cv_drill.specs.Summary.{findings, generation, last_report, numberless_list, replies, rows, standing}
-use Rattle.cv_drill.specs.declared.digest.Role.TheVariants.{System, Database, Modules, Opaque, Image}
-use Rattle.cv_drill.specs.declared.record.Update.TheVariants.{Second}
-
--- a number in a digest has its most significant byte first
-number_bytes : role_digest Image 258 ≡ 255 ∷ 0 ∷ 0 ∷ 1 ∷ 2 ∷ replicate 27 0
-number_bytes = refl
-
--- the layers of the first two images of the script of 7
-even_layers : layers 7 0 ≡ role_digest System 7 ∷ role_digest Database 8 ∷ role_digest Modules 9 ∷ []
-even_layers = refl
-
-odd_layers : layers 7 1 ≡ role_digest System 8 ∷ role_digest Database 11 ∷ role_digest Modules 16 ∷ role_digest Opaque 8 ∷ role_digest Modules 13 ∷ []
-odd_layers = refl
-
--- an empty line ends a round
-lines_end : lines_text (codes "a" ∷ [] ∷ codes "b" ∷ []) ≡ codes "a\n\nb\n"
-lines_end = refl
-
--- the second update leaves out every third record, and changes the one after it
-kept : map (is_kept Second) (0 ∷ 1 ∷ 2 ∷ 3 ∷ []) ≡ false ∷ true ∷ true ∷ false ∷ []
-kept = refl
-
-changed : map (minor Second) (79 ∷ 80 ∷ 82 ∷ []) ≡ 2 ∷ 2 ∷ 3 ∷ []
-changed = refl
 
 -- a reply is counted by its word
 said : List ℕ → Data

@@ -1,7 +1,5 @@
+pub use Rattle.cv_drill_input.proofs.Lists
 mod Examples
-mod Floats
 mod Items
-mod Lists
 mod Numbers
 mod Reports
-mod Sizes

@@ -8,7 +8,7 @@ use Rattle.cv_base.specs.InOrder.{in_order}
 use Rattle.cv_base.specs.Path.{Path, path_cmp}
 use Rattle.cv_base.specs.Place.{place_of}
 use Rattle.cv_base.specs.declared.limits.TheConstants.{PACKAGE_FILE_LIMIT}
-use Rattle.cv_base.specs.declared.places.Place.{Place}
+use Rattle.cv_path.specs.declared.places.Place.{Place}
 use Rattle.cv_base.specs.declared.tree.Content.TheVariants.{Bytes, TooLarge, Unread}
 use Rattle.cv_base.specs.declared.tree.ListEntry.{ListEntry}
 use Rattle.cv_base.specs.declared.tree.Node.TheVariants as node
@@ -23,8 +23,8 @@ use Rattle.cv_overlay.specs.Mark.{Outline, is_dir_kind, is_dir_node, listed, mar
 use Rattle.cv_overlay.specs.declared.fault.TreeFault.{TreeFault}
 use Rattle.cv_packages.specs.Files.{file_of}
 use Rattle.cv_packages.specs.Found.{found_at}
-use Rattle.cv_packages.specs.declared.found.FileFound.{FileFound}
-use Rattle.cv_packages.specs.declared.found.Found.TheVariants as found
+use Rattle.cv_package_files.specs.declared.found.FileFound.{FileFound}
+use Rattle.cv_package_files.specs.declared.found.Found.TheVariants as found
 use Rattle.cv_facts.specs.Cover.{covers, opaque_dirs, place_dirs, targets}
 use Rattle.cv_facts.specs.Files.{own_file, own_files}
 use Rattle.cv_facts.specs.Reduction.{shape_by, shape_of}

@@ -4,7 +4,7 @@ use Rattle.std.proofs.Common.{ap, sym, ◌∙◌}
 use Rattle.cv_base.specs.Path.{Path}
 use Rattle.cv_base.specs.Place.{place_of}
 use Rattle.cv_base.specs.declared.limits.TheConstants.{PACKAGE_FILE_LIMIT}
-use Rattle.cv_base.specs.declared.places.Place.{Place}
+use Rattle.cv_path.specs.declared.places.Place.{Place}
 use Rattle.cv_base.specs.declared.tree.Content.{Content}
 use Rattle.cv_base.specs.declared.tree.Content.TheVariants as content
 use Rattle.cv_base.specs.declared.tree.Kind.{Kind}
@@ -18,7 +18,7 @@ use Rattle.cv_overlay.specs.Lay.{is_plain}
 use Rattle.cv_overlay.specs.Mark.{is_dir_node, mark_of}
 use Rattle.cv_packages.specs.Files.{file_of}
 use Rattle.cv_packages.specs.Found.{found_in}
-use Rattle.cv_packages.specs.declared.found.FileFound.{FileFound}
+use Rattle.cv_package_files.specs.declared.found.FileFound.{FileFound}
 use Rattle.cv_facts.specs.Files.{own_file}
 use Rattle.cv_facts.specs.code.Listing.{content_of, listed_kind}
 

@@ -8,7 +8,7 @@ use Rattle.std.proofs.lemmas.List.{drop_all, drop_more}
 use Rattle.std.proofs.lemmas.List.Sums.{sum_by-cons}
 use Rattle.cv_base.specs.Path.{Path}
 use Rattle.cv_base.specs.Place.{place_of}
-use Rattle.cv_base.specs.declared.places.Place.{Place}
+use Rattle.cv_path.specs.declared.places.Place.{Place}
 use Rattle.cv_base.specs.declared.tree.Content.TheVariants.{Bytes}
 use Rattle.cv_base.specs.declared.tree.Kind.{Kind}
 use Rattle.cv_base.specs.declared.tree.Kind.TheVariants as kind
@@ -23,7 +23,7 @@ use Rattle.cv_overlay.specs.Lay.{is_plain}
 use Rattle.cv_overlay.specs.Mark.{is_dir_kind, listed, mark_of}
 use Rattle.cv_overlay.specs.declared.fault.TreeFault.{TreeFault}
 use Rattle.cv_packages.specs.Files.{file_of}
-use Rattle.cv_packages.specs.declared.found.FileFound.{FileFound}
+use Rattle.cv_package_files.specs.declared.found.FileFound.{FileFound}
 use Rattle.cv_facts.specs.Cover.{covers, is_place}
 use Rattle.cv_facts.specs.Files.{own_file, own_files}
 use Rattle.cv_facts.specs.Reads.{HasReads, file_count, place_count}

@@ -4,10 +4,10 @@ use Rattle.std.specs.List.{list_all, list_any}
 use Rattle.std.proofs.Common.{ap, arith, suc, zero, ◌∙◌, length-append}
 use Rattle.std.proofs.lemmas.Bool.Decides.{nat_tests}
 use Rattle.cv_base.specs.Path.{IsPath, Path, beside, file_name_of, is_component, is_name, is_slash, is_special, parent_of, path_text}
-use Rattle.cv_base.specs.Reading.{is_path_memory}
-use Rattle.cv_base.specs.declared.limits.TheConstants.{MAX_PATH_LEN}
-use Rattle.cv_base.specs.declared.path.PathError.{PathError}
-use Rattle.cv_base.specs.declared.path.PathError.TheVariants as error
+use Rattle.cv_path.specs.Reading.{is_path_memory}
+use Rattle.cv_path.specs.declared.limits.TheConstants.{MAX_PATH_LEN}
+use Rattle.cv_path.specs.declared.path.PathError.{PathError}
+use Rattle.cv_path.specs.declared.path.PathError.TheVariants as error
 use Rattle.cv_base.proofs.Bools.{and_left, and_right}
 use Rattle.cv_base.proofs.PathReads.{at_most, names}
 use Rattle.cv_overlay.specs.Mark.{has_mark, is_bad, is_opaque, is_reserved, is_whiteout, is_whiteout_name, mark_of, name_of, target_of}

@@ -1,7 +1,7 @@
 ghost use Rattle.std.specs.Prelude.{◌≡◌, ◌++◌, ◌∷◌, [], true, false, drop, map, IfOk, OnOk};
 ghost use Rattle.std.specs.Option.{option_to_list};
 ghost use Rattle.cv_base.specs.Path.{IsPath};
-ghost use Rattle.cv_base.specs.Reading.{is_path_memory};
+ghost use Rattle.cv_path.specs.Reading.{is_path_memory};
 ghost use Rattle.cv_overlay.specs.Mark.{has_mark, is_dir_kind, listed, mark_of, name_of, target_of};
 ghost use Rattle.cv_overlay.specs.declared.mark.Mark.TheVariants.{Whiteout};
 ghost use Rattle.cv_facts.specs.Cover.{cover_by, covers, opaque_by, opaque_dirs, place_dir_by, place_dirs, target_by, targets};

@@ -1,5 +1,4 @@
 mod Examples
-pub mod FoundLemmas
 pub mod LookupLemmas
 pub mod Lookups
 pub mod PartLemmas

@@ -1,17 +1,15 @@
-ghost use Rattle.std.specs.Prelude.{◌≡◌, ◌+◌, ◌++◌, ◌≤◌, IfOk, OnOk, option_and_then};
+ghost use Rattle.std.specs.Prelude.{◌≡◌, ◌+◌, ◌++◌, ◌≤◌, IfOk, OnOk};
 ghost use Rattle.std.specs.List.{flat_map};
-ghost use Rattle.std.specs.Option.{option_copied, option_map, option_to_list};
-ghost use Rattle.cv_match.specs.Answer.{text_at};
-ghost use Rattle.cv_match.specs.Findings.{findings, found};
+ghost use Rattle.std.specs.Option.{option_copied};
+ghost use Rattle.cv_match.specs.Findings.{findings};
 ghost use Rattle.cv_match.specs.Keys.{is_key, is_named};
 ghost use Rattle.cv_findings.specs.Pairs.{about_count, pair_count};
 ghost use Rattle.cv_findings.specs.code.Lookup.{found_by, found_once, found_under, is_tried, looked_up, tries_by, tries_once, tries_under};
 
 use cv_advdb::{Feeds, Listed};
-use cv_base::{Advisory, Finding, NoMemory, Package, PackageName, Seq, Steps, Text};
-use cv_match::{
-    FixedAt, Hit, ReadyPackage, affects, fixed_text, in_order, package_keys, prepare_package,
-};
+use cv_base::{Advisory, Finding, NoMemory, Package, PackageName, Seq, Steps};
+use cv_finding::find_one;
+use cv_match::{ReadyPackage, in_order, package_keys, prepare_package};
 use std::alloc::Global;
 use std::sync::ledger::Ledger;
 
@@ -154,7 +152,8 @@ fn match_listed<L: Ledger>(
     if is_tried(earlier, listed.advisory) {
         return Ok(());
     }
-    if let Some(finding) = find_one(alloc, package, prepared, listed, steps)? {
+    let (feed, advisory, ready) = (listed.feed, listed.advisory, listed.ready);
+    if let Some(finding) = find_one(alloc, package, prepared, feed, advisory, ready, steps)? {
         out.push(finding)?;
     }
     Ok(())
@@ -186,47 +185,5 @@ fn is_key(key: &PackageName, named: &Option<PackageName>) -> bool
     match named {
         Some(name) => name.cmp(key).is_eq(),
         None => false,
-    }
-}
-
-/// The finding of a package with a record, if it affects the package.
-#[tactic(auto, using(crate::proofs::FoundLemmas::found_not, crate::proofs::FoundLemmas::found_yes))]
-fn find_one<L: Ledger>(
-    alloc: Global,
-    package: &Package,
-    prepared: &ReadyPackage,
-    listed: &Listed<'_>,
-    steps: &mut Steps<L>,
-) -> Result<Option<Finding>, NoMemory>
-    requires prepared { prepared.now ≡ «package».now }
-    requires ready { listed.now.ready.now ≡ record { kind = «package».now.kind; advisory = listed.now.advisory.now } }
-    ensures found { IfOk result (λ finding. option_to_list finding ≡ found «package».now listed.now.feed.now listed.now.advisory.now) }
-    ensures counted { steps.new ≡ steps.old + 1 }
-{
-    match affects(listed.ready, prepared, steps) {
-        Hit::No => Ok(None),
-        Hit::Yes { fixed } => Ok(Some(Finding {
-            package: package.clone()?,
-            feed: listed.feed.clone()?,
-            advisory: listed.advisory.id.clone()?,
-            fixed: fixed_of(alloc, listed.advisory, fixed)?,
-        })),
-    }
-}
-
-/// The fixed version at a place of the record.
-fn fixed_of(
-    alloc: Global,
-    advisory: &Advisory,
-    place: Option<FixedAt>,
-) -> Result<Option<Text>, NoMemory>
-    ensures { IfOk result (λ text. text ≡ option_and_then (text_at advisory.now) place) }
-{
-    let Some(at) = place else {
-        return Ok(None);
-    };
-    match fixed_text(advisory, at) {
-        None => Ok(None),
-        Some(text) => Ok(Some(Text::of(alloc, text)?)),
     }
 }

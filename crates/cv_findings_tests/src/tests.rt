@@ -28,39 +28,20 @@ fn package(alloc: Global, name: &str) -> Result<Package, Fail> {
     })
 }
 
-fn packages(alloc: Global, names: &[&str]) -> Result<Vec<Package>, Fail> {
-    let mut all = Vec::new(alloc);
-    for name in names {
-        all.push(package(alloc, name)?)?;
-    }
-    Ok(all)
-}
-
-/// The finding of a package, an advisory and a fixed version.
-fn finding(alloc: Global, row: &(&str, &str, &str)) -> Result<Finding, Fail> {
-    let (name, advisory, fixed) = *row;
-    Ok(Finding {
-        package: package(alloc, name)?,
-        feed: Text::of(alloc, "deb")?,
-        advisory: Text::of(alloc, advisory)?,
-        fixed: Some(Text::of(alloc, fixed)?),
-    })
-}
-
-fn findings(alloc: Global, rows: &[(&str, &str, &str)]) -> Result<Vec<Finding>, Fail> {
-    let mut all = Vec::new(alloc);
-    for row in rows {
-        all.push(finding(alloc, row)?)?;
-    }
-    Ok(all)
-}
-
+/// Findings of the feed `deb`, each of a package, an advisory and a fixed version.
 fn sorted(alloc: Global, rows: &[(&str, &str, &str)]) -> Result<Seq<Finding>, Fail>
     ensures { IfOk result (λ out. IsStrictlySortedBy finding_cmp out) }
 {
-    let all = findings(alloc, rows)?;
-    let out = in_order(alloc, all)?;
-    Ok(out)
+    let mut all = Vec::new(alloc);
+    for (name, advisory, fixed) in rows {
+        all.push(Finding {
+            package: package(alloc, name)?,
+            feed: Text::of(alloc, "deb")?,
+            advisory: Text::of(alloc, advisory)?,
+            fixed: Some(Text::of(alloc, fixed)?),
+        })?;
+    }
+    Ok(in_order(alloc, all)?)
 }
 
 /// One row, with the name of its reason.
@@ -99,25 +80,20 @@ fn rows_name_removed_changed_and_added_findings(rt: HostRuntime) -> Result<(), F
     Ok(())
 }
 
-/// A range that is fixed in version 2.
-fn range(alloc: Global) -> Result<Range, NoMemory> {
-    let mut turns = Vec::new(alloc);
-    turns.push(Turn::Introduced(Text::of(alloc, "0")?))?;
-    turns.push(Turn::Fixed(Text::of(alloc, "2")?))?;
-    Ok(Range {
-        kind: RangeKind::Ecosystem,
-        turns: Seq::of(turns),
-    })
-}
-
+/// An entry about a package that is fixed in version 2.
 fn entry(alloc: Global, ecosystem: &str, name: &str) -> Result<Affected, NoMemory> {
-    let ranges = Seq::of(vec![in alloc; range(alloc)?]?);
+    let introduced = Turn::Introduced(Text::of(alloc, "0")?);
+    let fixed = Turn::Fixed(Text::of(alloc, "2")?);
+    let range = Range {
+        kind: RangeKind::Ecosystem,
+        turns: Seq::of(vec![in alloc; introduced, fixed]?),
+    };
     Ok(Affected {
         package: Some(PackageName {
             ecosystem: Text::of(alloc, ecosystem)?,
             name: Text::of(alloc, name)?,
         }),
-        ranges,
+        ranges: Seq::of(vec![in alloc; range]?),
         versions: Seq::of(Vec::new(alloc)),
     })
 }
@@ -136,21 +112,11 @@ fn record(alloc: Global, id: &str, name: &str, ecosystems: &[&str]) -> Result<Ad
     })
 }
 
-fn add_feed(alloc: Global, feeds: &mut Feeds, feed: &str, record: Advisory) -> Result<(), Fail> {
-    let records = Seq::of(vec![in alloc; record]?);
-    let name = Text::of(alloc, feed)?;
-    let _touched = feeds.replace(alloc, name, records)?;
-    Ok(())
-}
-
-/// A feed with a record under both keys of curl, and one with a record under the short key of zlib.
-fn two_feeds(alloc: Global) -> Result<Feeds, Fail> {
-    let mut feeds = Feeds::new(alloc, 2)?;
-    let both = record(alloc, "X-1", "curl", &["Debian:12", "Debian"])?;
-    add_feed(alloc, &mut feeds, "b", both)?;
-    let short = record(alloc, "X-2", "zlib", &["Debian", "Debian:11"])?;
-    add_feed(alloc, &mut feeds, "a", short)?;
-    Ok(feeds)
+/// A finding by its package, its feed and its advisory.
+fn named(alloc: Global, finding: &Finding) -> Result<String, Fail> {
+    let (name, feed) = (finding.package.name.as_str(), finding.feed.as_str());
+    let advisory = finding.advisory.as_str();
+    Ok(format!(in alloc; "{name} {feed} {advisory}")?)
 }
 
 fn match_counted<L: Ledger>(
@@ -174,15 +140,20 @@ fn matched(alloc: Global, packages: &[Package], feeds: &Feeds) -> Result<Seq<Fin
 #[test]
 fn packages_are_matched_under_whole_and_short_ecosystems(rt: HostRuntime) -> Result<(), Fail> {
     let alloc = rt.alloc();
-    let feeds = two_feeds(alloc)?;
-    let installed = packages(alloc, &["zlib", "curl"])?;
+    let mut feeds = Feeds::new(alloc, 2)?;
+    for (feed, id, name, ecosystems) in [
+        ("b", "X-1", "curl", ["Debian:12", "Debian"]),
+        ("a", "X-2", "zlib", ["Debian", "Debian:11"]),
+    ] {
+        let records = vec![in alloc; record(alloc, id, name, &ecosystems)?]?;
+        let _touched = feeds.replace(alloc, Text::of(alloc, feed)?, Seq::of(records))?;
+    }
+    let installed = vec![in alloc; package(alloc, "zlib")?, package(alloc, "curl")?]?;
     let found = matched(alloc, &installed, &feeds)?;
-    let want = [("curl", "b", "X-1"), ("zlib", "a", "X-2")];
+    let want = ["curl b X-1", "zlib a X-2"];
     assert_eq!(rt; found.as_slice().len(), want.len());
-    for (finding, (name, feed, advisory)) in found.as_slice().iter().zip(want) {
-        assert_eq!(rt; finding.package.name.as_str(), name);
-        assert_eq!(rt; finding.feed.as_str(), feed);
-        assert_eq!(rt; finding.advisory.as_str(), advisory);
+    for (finding, text) in found.as_slice().iter().zip(want) {
+        assert_eq!(rt; named(alloc, finding)?.as_str(), text);
     }
     Ok(())
 }

@@ -1,180 +1,181 @@
-ghost use Rattle.std.specs.Prelude.{◌≡◌, ◌≤◌, ◌<◌, true, length, IfOk};
+ghost use Rattle.std.specs.Prelude.{◌≡◌, ◌<◌, true, length};
 ghost use Rattle.cv_core.specs.Core.{opened};
 ghost use Rattle.cv_hub.specs.Seats.{AreNumbered};
-ghost use Rattle.cv_hub_tests.specs.Sample.{sample_rows};
-
-use cv_hub::{Blank, Hub, Identity, Note, Receipt, Seat};
 
 mod draws;
-mod threads;
+mod replay;
 
-use cv_base::{Digest, Kind, Manifest, Seq};
-use cv_core::{Core, Event, Limits, Report, ReportRefusal};
-use cv_desk::{Desk, Table, TableDesk, TableEntry};
+use cv_core::{Core, Limits};
+use cv_hub::{Blank, Hub, Identity, Seat};
 use cv_records::{By, EventEntry, Reply};
 use cv_seq::NoMemory;
+use draws::{IMAGES, event, hash};
+use replay::{add_line, replayed};
+use sample_data::SampleDesk;
 use std::alloc::Global;
 use std::marker::Brand;
-use std::sync::Wait;
+use std::sync::{Wait, ledger};
 use std::test::*;
-
-/// How many layers there are.
-const LAYERS: u64 = 20;
+use std::thread::{self, Threads};
 
 const LIMITS: Limits = Limits {
     images: 10,
     feeds: 2,
 };
 
-static ROWS: [TableEntry; 3] = [
-    TableEntry {
-        path: "node_modules",
-        kind: Kind::Dir,
-        bytes: b"",
-    },
-    TableEntry {
-        path: "node_modules/x",
-        kind: Kind::Dir,
-        bytes: b"",
-    },
-    TableEntry {
-        path: "node_modules/x/package.json",
-        kind: Kind::File,
-        bytes: b"{\"name\":\"x\",\"version\":\"1.0.0\"}",
-    },
-];
+/// How many seats submit events, each in a thread of its own.
+const LANES: usize = 8;
 
-/// One layer with one package, for all digests.
-struct Sample;
+/// How many events each of them submits.
+const LINES: u64 = 1250;
 
-impl Table for Sample {
-    ghost rows = { sample_rows };
-
-    fn layer(_digest: &Digest) -> Option<&'static [TableEntry]> {
-        Some(&ROWS)
-    }
-}
-
-/// The desk of the tests.
-type Sampled = TableDesk<Sample>;
-
-/// Only a type that threads may share is one for which this can be called.
-fn is_shared<T: Send + Sync>() {}
-
-/// Only a type that may go to another thread is one for which this can be called.
-fn is_sent<T: Send>() {}
-
-/// It holds for all desks that threads may share.
-fn hub_is_shared<D: Desk + Send + Sync, L: Identity + Send + Sync>() {
-    is_shared::<Hub<D, L>>();
-}
-
-/// It holds for all desks that threads may share.
-fn note_is_shared<D: Desk + Send + Sync, L: Identity + Send + Sync>() {
-    is_shared::<Note<D, L>>();
-}
-
-/// It holds for all desks that threads may share.
-fn receipt_is_shared<D: Desk + Send + Sync, L: Identity + Send + Sync>() {
-    is_shared::<Receipt<D, L>>();
-}
-
-/// It holds for all desks that threads may share.
-fn seat_is_sent<D: Desk + Send + Sync, L: Identity + Send + Sync>() {
-    is_sent::<Seat<D, L>>();
-}
-
-#[test]
-fn threads_may_share_a_hub() {
-    hub_is_shared::<Sampled, Brand>();
-    note_is_shared::<Sampled, Brand>();
-    receipt_is_shared::<Sampled, Brand>();
-    seat_is_sent::<Sampled, Brand>();
-}
-
-/// What two seats get of one event: the receipt, the first seat's view, the front of the other's, and what is taken.
+/// A seat that submits events in a thread, with the numbers and the replies of its receipts.
 #[derive(Drop)]
-struct Learned {
-    number: u64,
-    reply: Reply,
-    front: u64,
-    is_pending: bool,
-    learned_front: u64,
+struct Lane<L: Identity> {
+    seat: Seat<SampleDesk, L>,
+    receipts: Vec<(u64, Reply)>,
+}
+
+/// What came of events that seats submitted together: the receipts of each, the entries that all took, how many events a seat has seen
+/// that learned a note, and what the hub shows.
+#[derive(Drop)]
+struct Together {
+    receipts: Vec<Vec<(u64, Reply)>>,
     entries: Vec<EventEntry>,
-    queued: Seq<Digest>,
-    noted: u64,
+    seen: u64,
+    shown: String,
 }
 
 #[test]
-fn a_learned_note_shows_in_the_next_view(rt: HostRuntime) -> Result<(), Fail> {
+fn seats_in_threads_submit_one_list_of_events(rt: HostRuntime) -> Result<(), Fail> {
     let core = Core::new(rt.alloc(), LIMITS)?;
-    let seen = learn_and_view::<Brand, _>(&rt, rt.alloc(), Blank::new(2), core)?;
-    assert_eq!(rt; seen.number, 1);
-    assert_eq!(rt; seen.reply, Reply::Registered);
-    assert!(rt; seen.front == 1 && seen.is_pending);
-    assert_eq!(rt; seen.learned_front, 1);
-    assert_eq!(rt; seen.entries.len(), 1);
-    assert_eq!(rt; seen.queued.as_slice(), &[layer(1)][..]);
-    assert!(rt; seen.noted >= 1);
+    let all = submit_together::<Brand, _>(&rt, rt.alloc(), Blank::new(8), core)?;
+    let entries = all.entries.as_slice();
+    assert_eq!(rt; entries.len() as u64, LANES as u64 * LINES);
+    assert_eq!(rt; all.seen, LANES as u64 * LINES);
+    assert_eq!(rt; all.receipts.len(), LANES);
+    for (lane, receipts) in all.receipts.iter().enumerate() {
+        assert!(rt;
+            are_entries((lane % LANES) as u8, receipts, entries),
+            "lane {lane}"
+        );
+    }
+    let Some(shown) = replayed::<Brand>(rt.alloc(), ledger::Blank::new(1), entries)? else {
+        return Err(Fail::from("the entries do not replay"));
+    };
+    assert!(rt; shown.as_str() == all.shown.as_str());
     Ok(())
 }
 
-/// Two seats: one submits an event, and the other learns of it.
-fn learn_and_view<L: Identity, W: Wait>(
+/// All seats submit their events together, and take them.
+fn submit_together<L: Identity + Send + Sync, W: Threads + Wait + Sync>(
     rt: &W,
     alloc: Global,
     blank: Blank,
-    core: Core<Sampled>,
-) -> Result<Learned, NoMemory>
+    core: Core<SampleDesk>,
+) -> Result<Together, NoMemory>
     requires name { blank.name ≡ L.name }
-    requires parts { (blank.parts ≡ L.parts) × (L.parts ≡ 2) }
+    requires parts { (blank.parts ≡ L.parts) × (L.parts ≡ 8) }
     requires book { blank.book ≡ L.book }
     requires core { core ≡ opened L.limits }
 {
-    let (mut hub, mut seats) = Hub::<Sampled, L>::start(alloc, blank, core, 2)?;
-    let (receipt, front, is_pending) = submit_and_view(rt, alloc, &hub, &mut seats[0])?;
-    let Receipt {
-        number,
-        reply,
-        note,
-    } = receipt;
-    seats[1].learn(note);
-    let learned_front = hub.view(rt, &mut seats[1]).front();
+    let (mut hub, seats) = Hub::<SampleDesk, L>::start(alloc, blank, core, 8)?;
+    let mut lanes = lanes_of(alloc, seats)?;
+    submit_all(rt, alloc, &hub, lanes.as_mut_slice());
+    let (mut seats, receipts) = taken_apart(alloc, lanes)?;
+    if seats.len() != LANES {
+        return Err(NoMemory);
+    }
+    let seen = learned(rt, &hub, &mut seats[0]);
     let entries = taken(rt, &mut hub, seats.as_mut_slice())?;
-    let queued = hub.queued(rt, alloc)?;
-    let noted = hub.note(rt).number();
+    let shown = shown(rt, alloc, &hub, &mut seats[0])?;
     hub.end(seats);
-    Ok(Learned {
-        number,
-        reply,
-        front,
-        is_pending,
-        learned_front,
+    Ok(Together {
+        receipts,
         entries,
-        queued,
-        noted,
+        seen,
+        shown,
     })
 }
 
-/// A seat registers an image of one layer, and looks at its report.
-fn submit_and_view<L: Identity, W: Wait>(
-    rt: &W,
+/// A lane for each seat, without receipts.
+fn lanes_of<L: Identity>(
     alloc: Global,
-    hub: &Hub<Sampled, L>,
-    seat: &mut Seat<Sampled, L>,
-) -> Result<(Receipt<Sampled, L>, u64, bool), NoMemory> {
-    let event = Event::Register(manifest(alloc, 1, 1)?);
-    let receipt = hub.submit(rt, alloc, seat, By::Lane { lane: 0, line: 1 }, event)?;
-    let view = hub.view(rt, seat);
-    let is_pending = is_pending(&view.report(&hash(1)), &layer(1));
-    Ok((receipt, view.front(), is_pending))
+    seats: Vec<Seat<SampleDesk, L>>,
+) -> Result<Vec<Lane<L>>, NoMemory> {
+    let mut lanes = Vec::new(alloc);
+    for seat in seats {
+        lanes.push(Lane {
+            seat,
+            receipts: Vec::new(alloc),
+        })?;
+    }
+    Ok(lanes)
+}
+
+/// Each lane submits its events in a thread of its own. A lane that runs out of memory stops.
+fn submit_all<L: Identity + Send + Sync, R: Threads + Wait + Sync>(
+    rt: &R,
+    alloc: Global,
+    hub: &Hub<SampleDesk, L>,
+    lanes: &mut [Lane<L>],
+) {
+    thread::for_each_mut(
+        rt,
+        lanes,
+        LANES,
+        &|index: usize, lane: &mut Lane<L>| {
+            let _ = submit_lines(rt, alloc, hub, (index % LANES) as u8, lane);
+        },
+    );
+}
+
+fn submit_lines<L: Identity, R: Wait>(
+    rt: &R,
+    alloc: Global,
+    hub: &Hub<SampleDesk, L>,
+    index: u8,
+    lane: &mut Lane<L>,
+) -> Result<(), NoMemory> {
+    for line in 1..=LINES {
+        let by = By::Lane { lane: index, line };
+        let event = event(alloc, index, line)?;
+        let receipt = hub.submit(rt, alloc, &mut lane.seat, by, event)?;
+        lane.receipts.push((receipt.number, receipt.reply))?;
+    }
+    Ok(())
+}
+
+/// The seats of lanes, and the receipts of each.
+fn taken_apart<L: Identity>(
+    alloc: Global,
+    lanes: Vec<Lane<L>>,
+) -> Result<(Vec<Seat<SampleDesk, L>>, Vec<Vec<(u64, Reply)>>), NoMemory> {
+    let mut seats = Vec::new(alloc);
+    let mut all = Vec::new(alloc);
+    for lane in lanes {
+        let Lane { seat, receipts } = lane;
+        seats.push(seat)?;
+        all.push(receipts)?;
+    }
+    Ok((seats, all))
+}
+
+/// A seat learns a note of all events. How many its next view shows.
+fn learned<L: Identity, W: Wait>(
+    rt: &W,
+    hub: &Hub<SampleDesk, L>,
+    seat: &mut Seat<SampleDesk, L>,
+) -> u64 {
+    seat.learn(hub.note(rt));
+    hub.view(rt, seat).front()
 }
 
 /// The entries that all seats take.
 fn taken<L: Identity, W: Wait>(
     rt: &W,
-    hub: &mut Hub<Sampled, L>,
-    seats: &mut [Seat<Sampled, L>],
+    hub: &mut Hub<SampleDesk, L>,
+    seats: &mut [Seat<SampleDesk, L>],
 ) -> Result<Vec<EventEntry>, NoMemory>
     requires all { length seats.old ≡ L.parts }
     requires some { 0 < length seats.old }
@@ -187,7 +188,7 @@ fn taken<L: Identity, W: Wait>(
 }
 
 /// Whether seats have these numbers in turn.
-fn are_numbered<D: Desk, L: Identity>(index: u64, seats: &[Seat<D, L>]) -> bool
+fn are_numbered<L: Identity>(index: u64, seats: &[Seat<SampleDesk, L>]) -> bool
     ensures { result ≡ true → AreNumbered index seats.now }
 {
     match seats.split_first() {
@@ -198,35 +199,37 @@ fn are_numbered<D: Desk, L: Identity>(index: u64, seats: &[Seat<D, L>]) -> bool
     }
 }
 
-/// Whether there is no report, since this layer is not indexed.
-fn is_pending(report: &Result<Report<'_>, ReportRefusal<'_>>, layer: &Digest) -> bool {
-    match report {
-        Err(ReportRefusal::Pending(found)) => found == layer,
-        _ => false,
+/// What a hub whose events were all taken shows of the reports, the queued layers and the notifications, a line each.
+fn shown<L: Identity, W: Wait>(
+    rt: &W,
+    alloc: Global,
+    hub: &Hub<SampleDesk, L>,
+    seat: &mut Seat<SampleDesk, L>,
+) -> Result<String, NoMemory> {
+    let queued = hub.queued(rt, alloc)?;
+    let view = hub.view(rt, seat);
+    let mut out = String::new(alloc);
+    for image in 0..IMAGES {
+        add_line(alloc, &mut out, &view.report(&hash(image)))?;
     }
+    add_line(alloc, &mut out, &queued)?;
+    add_line(alloc, &mut out, &view.list(alloc)?)?;
+    Ok(out)
 }
 
-/// The manifest of an image of one to three layers.
-fn manifest(alloc: Global, image: u64, first: u64) -> Result<Manifest, NoMemory>
-    ensures { IfOk result (λ manifest. (1 ≤ length manifest.layers) × (length manifest.layers ≤ 128)) }
-{
-    let layers = match image % 3 {
-        0 => vec![in alloc; layer(image), layer(first)]?,
-        1 => vec![in alloc; layer(image)]?,
-        _ => vec![in alloc; layer(image), layer(7), layer(first)]?,
-    };
-    Ok(Manifest {
-        hash: hash(image),
-        layers: Seq::of(layers),
-    })
-}
-
-/// The hash of an image.
-fn hash(image: u64) -> Digest {
-    Digest::of([(image % 100) as u8; 32])
-}
-
-/// One of the layers.
-fn layer(number: u64) -> Digest {
-    Digest::of([100 + (number % LAYERS) as u8; 32])
+/// Whether a lane has a receipt for each of its lines, whose numbers rise, and the entry of each number is that line with that reply.
+fn are_entries(lane: u8, receipts: &[(u64, Reply)], entries: &[EventEntry]) -> bool {
+    let mut last = 0;
+    let mut line = 0;
+    for (number, reply) in receipts {
+        line = u64::wrapping_add(line, 1);
+        let Some(entry) = entries.get(number.wrapping_sub(1) as usize) else {
+            return false;
+        };
+        if *number <= last || entry.by != (By::Lane { lane, line }) || entry.reply != *reply {
+            return false;
+        }
+        last = *number;
+    }
+    line == LINES
 }

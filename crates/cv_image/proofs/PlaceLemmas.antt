@@ -4,8 +4,8 @@ use Rattle.std.proofs.Common.{zero, suc, ap, arith, get_or, subst, sym, ◌∙�
 use Rattle.std.proofs.lemmas.List.Elements.{All-from_recursion}
 use Rattle.cv_base.specs.Texts.{has_text, same}
 use Rattle.cv_facts.specs.Reduction.{Known}
-use Rattle.cv_scan.specs.Layers.{distinct}
-use Rattle.cv_scan.proofs.Scanned.{all_seen}
+use Rattle.cv_layers.specs.Distinct.{distinct}
+use Rattle.cv_layers.proofs.Seen.{all_seen}
 
 -- the digest of the facts at a place
 pub digest_at : (facts : List Known) (k : ℕ) (known : Known) (layer : List ℕ) → k < length facts → known ≡ get_or facts k known → known.digest ≡ layer

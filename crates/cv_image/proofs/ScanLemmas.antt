@@ -12,7 +12,7 @@ use Rattle.cv_desk.specs.Stored.{Stored}
 use Rattle.cv_overlay.specs.declared.fault.ImageFault.{ImageFault}
 use Rattle.cv_scan.specs.Layers.{IsScanned, stored_layers, whole_layers}
 use Rattle.cv_scan.specs.Scan.{scan}
-use Rattle.cv_scan.specs.declared.error.ImageError.{ImageError}
+use Rattle.cv_layers.specs.declared.error.ImageError.{ImageError}
 use Rattle.cv_image.specs.code.Packages.{packages_in}
 
 packages_answer : (found : Result (List Package) ImageFault) → packages_in (answer_of found) ≡ found

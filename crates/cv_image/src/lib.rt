@@ -6,9 +6,9 @@
 //! ```
 #![tactic(auto)]
 
-mod layers;
+mod indexer;
 mod places;
 mod scan;
 
-pub use cv_scan::ImageError;
+pub use cv_layers::ImageError;
 pub use scan::scan_layers;

@@ -1,17 +1,19 @@
 ghost use Rattle.std.specs.Prelude.{◌≡◌, ◌^◌, ◌<◌, ◌≤◌, ◌∷◌, [], false, length, map, IfSome};
 ghost use Rattle.cv_coalesce.specs.Image.{image_findings};
 ghost use Rattle.cv_image.specs.code.Packages.{packages_in};
-ghost use Rattle.cv_scan.specs.Layers.{AreListed, IsScanned, distinct, is_desk_fault, stored_layers, whole_layers};
+ghost use Rattle.cv_layers.specs.Distinct.{distinct};
+ghost use Rattle.cv_layers.specs.Failed.{is_desk_fault};
+ghost use Rattle.cv_scan.specs.Layers.{IsScanAnswer, IsScanned, stored_layers, whole_layers};
 ghost use Rattle.cv_scan.specs.Scan.{scan};
-ghost use Rattle.cv_seq.specs.Cause.{CausedBy};
 
-use crate::layers::index_layers;
+use crate::indexer::Indexer;
 use crate::places::places_of;
 use cv_base::{Advisory, Digest, Finding, MAX_LAYERS, Text};
 use cv_coalesce::{ImagePackages, coalesce};
 use cv_desk::Desk;
 use cv_facts::LayerFacts;
-use cv_scan::{ImageError, find_all};
+use cv_feed::find_all;
+use cv_layers::{ImageError, read_layers};
 use cv_seq::Seq;
 use std::alloc::Global;
 
@@ -19,7 +21,7 @@ use std::alloc::Global;
 /// the image with the records of the feed. Layers are given with the base first. `Bad` comes if all layers were indexed and
 /// the image cannot be scanned: a layer is missing, a tree is not good, or a package file is refused. `Desk` names the
 /// layer that the desk failed at. Neither it nor `NoMemory` says anything of the image.
-#[tactic(auto, using(cv_scan::proofs::Scanned::failed_answer, cv_scan::proofs::Scanned::failed_listed, cv_scan::proofs::Scanned::listed_then))]
+#[tactic(auto, using(cv_scan::proofs::ScanAnswers::read_answer, cv_scan::proofs::ScanAnswers::unread_answer))]
 pub fn scan_layers<D: Desk>(
     alloc: Global,
     desk: &mut D,
@@ -29,11 +31,9 @@ pub fn scan_layers<D: Desk>(
 ) -> Result<Seq<Finding>, ImageError>
     requires room { D.listings desk.old < 2 ^ 62 }
     requires at_most_128_layers { length layers.now ≤ MAX_LAYERS }
-    ensures answer { IfSome (stored_layers D.tree layers.now) (λ stored. IsScanned result (scan (whole_layers stored) ((feed.now, advisories.now) ∷ []))) }
-    ensures listed { AreListed layers.now (D.listings desk.old) (D.listings desk.new) result }
-    ensures cause { CausedBy (D.faults desk.old) (D.faults desk.new) (is_desk_fault result) }
+    ensures { IsScanAnswer D.tree D.listings D.faults desk.old desk.new layers.now ((feed.now, advisories.now) ∷ []) result }
 {
-    match index_layers(alloc, desk, layers) {
+    match read_layers::<D, Indexer>(alloc, desk, layers) {
         Ok(facts) => scan_facts(alloc, &facts, layers, feed, advisories),
         Err(error) => Err(error),
     }

@@ -1,14 +1,10 @@
 -- What an inventory holds (defined by this project): all of the machine but the generation and the notifications.
-use Rattle.std.specs.Prelude.{◌≡◌, ℕ, [], Option, Some, None}
+use Rattle.std.specs.Prelude.{◌≡◌, []}
 use Rattle.cv_advdb.specs.Feeds.{FeedTable}
-use Rattle.cv_records.specs.declared.read.ReportOutcome.{ReportOutcome}
-use Rattle.cv_records.specs.declared.read.ReportOutcome.TheVariants as report
 use Rattle.cv_records.specs.declared.reply.Reply.{Reply}
 use Rattle.cv_machine.specs.Laws.{IsConsistent}
 use Rattle.cv_machine.specs.State.{Feeds, Images, Layers, State, opening}
 use Rattle.cv_machine.specs.declared.limits.Limits.{Limits}
-use Rattle.cv_outcome.specs.Truth.{report_with}
-use Rattle.cv_outcome.specs.declared.outcome.Outcome.{Outcome}
 
 -- the images with their layers, the layers with their status, the feeds with their records, and how many there may be
 pub record Holdings : Type 0 where
@@ -42,8 +38,3 @@ IsRegular h = IsConsistent (alone h)
 -- the feeds, and how many there may be
 abbrev pub feed_table : Holdings → FeedTable
 feed_table h = record { feeds = h.feeds; limit = h.limits.feeds }
-
--- the report by the outcome of an image, or that it is not registered
-abbrev pub report_by : ℕ → Option Outcome → ReportOutcome
-report_by generation (Some outcome) = report_with generation outcome
-report_by generation None = report.NotRegistered

@@ -1,21 +1,16 @@
-ghost use Rattle.std.specs.Prelude.{◌≡◌, ◌≤◌, length, Some, IfOk};
+ghost use Rattle.std.specs.Prelude.{◌≡◌, ◌≤◌, length, IfOk};
 ghost use Rattle.cv_base.specs.declared.limits.TheConstants.{MAX_LAYERS};
-ghost use Rattle.std.specs.Option.{is_some};
-ghost use Rattle.cv_machine.specs.State.{value_at};
 ghost use Rattle.cv_machine.specs.Step.{drop_image, register};
 ghost use Rattle.cv_inventory.specs.Holdings.{Leads, feed_table};
-ghost use Rattle.cv_inventory.specs.code.Changes.{remaining_after, remaining_facts};
 ghost use Rattle.cv_inventory.specs.code.Kept.{held, registrations, with_image, without_image};
 
-use crate::inventory::{Facts, Inventory};
+use crate::inventory::Inventory;
 use crate::replies::is_registered;
 use cv_base::{Digest, Manifest, Steps};
 use cv_desk::Desk;
-use cv_outcome::outcome_of;
 use cv_records::Reply;
 use cv_registry::Registry;
 use cv_seq::NoMemory;
-use cv_tree::Share;
 use std::alloc::Global;
 use std::sync::ledger::Ledger;
 
@@ -68,11 +63,10 @@ impl<D: Desk + Drop> Inventory<D> {
         ensures { IfOk result (λ after. after ≡ held registry (feed_table self.now)) }
     {
         let layers = manifest.layers.as_slice();
-        let outcome = outcome_of(alloc, &self.facts, self.feeds.value(), layers, steps)?;
-        let facts = self.facts.share()?;
-        let feeds = self.feeds.share()?;
-        let outcomes = self.outcomes.set(alloc, manifest.hash, outcome)?;
-        Ok(Inventory::of(registry, facts, outcomes, feeds))
+        let knowledge = self
+            .knowledge
+            .with_image(alloc, &manifest.hash, layers, steps)?;
+        Ok(Inventory::of(registry, knowledge))
     }
 
     /// The inventory without an image of these layers, which the registry does not have.
@@ -87,49 +81,10 @@ impl<D: Desk + Drop> Inventory<D> {
         ensures { IfOk result (λ after. after ≡ held registry (feed_table self.now)) }
     {
         self.registry.regular();
-        self.facts.ascends();
-        let feeds = self.feeds.share()?;
-        let facts = remaining_facts(alloc, &self.facts, layers, &registry)?;
-        let outcomes = self.outcomes.without(alloc, image)?;
-        Ok(Inventory::of(registry, facts, outcomes, feeds))
+        self.knowledge.sorted();
+        let knowledge = self
+            .knowledge
+            .without_image(alloc, image, layers, &registry)?;
+        Ok(Inventory::of(registry, knowledge))
     }
-}
-
-/// The facts without those of these layers that the registry does not know.
-fn remaining_facts<D: Desk + Drop>(
-    alloc: Global,
-    facts: &Facts<D>,
-    layers: &[Digest],
-    registry: &Registry,
-) -> Result<Facts<D>, NoMemory>
-    ensures { IfOk result (λ after. after ≡ remaining_facts facts.now layers.now registry.now.layers) }
-{
-    let mut remaining = facts.share()?;
-    for layer in layers {
-        let next = remaining_after(alloc, &remaining, layer, registry)?;
-        remaining = next;
-    }
-    Ok(remaining)
-}
-
-/// The facts without that of a layer, if the registry does not know it.
-fn remaining_after<D: Desk + Drop>(
-    alloc: Global,
-    facts: &Facts<D>,
-    layer: &Digest,
-    registry: &Registry,
-) -> Result<Facts<D>, NoMemory>
-    ensures { IfOk result (λ after. after ≡ remaining_after facts.now layer.now registry.now.layers) }
-{
-    if is_known(registry, layer) {
-        return facts.share();
-    }
-    facts.without(alloc, layer)
-}
-
-/// Whether a registry has a layer in its table.
-fn is_known(registry: &Registry, layer: &Digest) -> bool
-    ensures { result ≡ is_some (value_at registry.now.layers layer.now) }
-{
-    registry.status(layer).is_some()
 }

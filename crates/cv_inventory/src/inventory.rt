@@ -1,32 +1,21 @@
 ghost use Rattle.std.specs.Prelude.{◌≡◌, IfOk};
 ghost use Rattle.cv_inventory.specs.Holdings.{IsRegular, nothing};
 
-use cv_advdb::Feeds;
-use cv_base::Digest;
 use cv_desk::Desk;
-use cv_facts::LayerFacts;
+use cv_knowledge::Knowledge;
 use cv_machine::Limits;
-use cv_outcome::Outcome;
 use cv_registry::Registry;
 use cv_seq::NoMemory;
-use cv_tree::{Share, Shared, Tree};
+use cv_tree::Share;
 use std::alloc::Global;
 use std::marker::Model;
 
-/// The facts of the layers that are indexed, by digest.
-pub(crate) type Facts<D> = Tree<Digest, Shared<LayerFacts<D>>>;
-
-/// The outcome of each registered image, by hash.
-pub type Outcomes = Tree<Digest, Outcome>;
-
-/// Images, layers and feeds. Contracts see what it holds as the machine has it. Beside that it keeps the facts of the layers that
+/// Images, layers and feeds. Contracts see what it holds as the machine has it. Beside that it knows the facts of the layers that
 /// are indexed, and the outcome of each image, which is that of its layers' facts and the feeds as they are.
 #[derive(Drop)]
 pub struct Inventory<D: Desk> {
     pub(crate) registry: Registry,
-    pub(crate) facts: Facts<D>,
-    pub(crate) outcomes: Outcomes,
-    pub(crate) feeds: Shared<Feeds>,
+    pub(crate) knowledge: Knowledge<D>,
 }
 
 impl<D: Desk> Model for Inventory<D> {
@@ -35,9 +24,9 @@ impl<D: Desk> Model for Inventory<D> {
 
     ghost Value = { Holdings };
 
-    ghost view = { λ i. held i.registry i.feeds };
+    ghost view = { λ i. held i.registry i.knowledge.feeds };
 
-    ghost invariant = { λ i. IsKept D.tree i.registry i.facts i.outcomes i.feeds };
+    ghost invariant = { λ i. IsKept D.tree i.registry i.knowledge };
 }
 
 impl<D: Desk + Drop> Inventory<D> {
@@ -45,13 +34,8 @@ impl<D: Desk + Drop> Inventory<D> {
     pub fn new(alloc: Global, limits: Limits) -> Result<Inventory<D>, NoMemory>
         ensures { IfOk result (λ inventory. inventory ≡ nothing limits) }
     {
-        let feeds = Feeds::new(alloc, limits.feeds)?;
-        Ok(Inventory {
-            registry: Registry::new(limits.images),
-            facts: Tree::new(),
-            outcomes: Tree::new(),
-            feeds: Shared::of(alloc, feeds)?,
-        })
+        let knowledge = Knowledge::new(alloc, limits.feeds)?;
+        Ok(Inventory::of(Registry::new(limits.images), knowledge))
     }
 
     /// What it holds is consistent. For proofs: it has no effect at run time.
@@ -59,18 +43,18 @@ impl<D: Desk + Drop> Inventory<D> {
         ensures { IsRegular self.now }
     {
         self.registry.regular();
-        self.feeds.value().sorted();
+        self.knowledge.sorted();
     }
 }
 
 /// An equal inventory, which shares all parts. It takes no memory, and fails only if a count of owners is at its last value.
 impl<D: Desk + Drop> Share for Inventory<D> {
     fn share(&self) -> Result<Inventory<D>, NoMemory> {
+        let registry = self.registry.share()?;
+        let knowledge = self.knowledge.share()?;
         Ok(Inventory {
-            registry: self.registry.share()?,
-            facts: self.facts.share()?,
-            outcomes: self.outcomes.share()?,
-            feeds: self.feeds.share()?,
+            registry,
+            knowledge,
         })
     }
 }

@@ -12,7 +12,6 @@ use cv_machine::Status;
 use cv_records::Reply;
 use cv_registry::Registry;
 use cv_seq::NoMemory;
-use cv_tree::{Share, Shared};
 use std::alloc::Global;
 use std::sync::ledger::Ledger;
 
@@ -79,12 +78,9 @@ impl<D: Desk + Drop> Inventory<D> {
     {
         self.registry.regular();
         indexed.known();
-        let layer = indexed.digest();
-        let users = self.registry.users_of(alloc, &layer)?;
-        let feeds = self.feeds.share()?;
-        let shared = Shared::of(alloc, indexed)?;
-        let facts = self.facts.set(alloc, layer, shared)?;
-        let outcomes = self.all_renewed(alloc, &facts, &self.outcomes, &users, &layer, steps)?;
-        Ok(Inventory::of(registry, facts, outcomes, feeds))
+        let knowledge = self
+            .knowledge
+            .with_facts(alloc, indexed, &self.registry, steps)?;
+        Ok(Inventory::of(registry, knowledge))
     }
 }

@@ -14,8 +14,8 @@ mod inventory;
 mod layers;
 mod parts;
 mod reads;
-mod renew;
 mod replies;
 mod update;
 
-pub use inventory::{Inventory, Outcomes};
+pub use cv_knowledge::Outcomes;
+pub use inventory::Inventory;

@@ -7,14 +7,15 @@ ghost use Rattle.cv_machine.specs.Scans.{IsKnown, trees_of};
 ghost use Rattle.cv_machine.specs.State.{State};
 ghost use Rattle.cv_outcome.specs.Truth.{report_with};
 ghost use Rattle.cv_tree.specs.Entries.{map_values};
-ghost use Rattle.cv_inventory.specs.Holdings.{holding, report_by};
+ghost use Rattle.cv_knowledge.specs.Knowledge.{report_by};
+ghost use Rattle.cv_inventory.specs.Holdings.{holding};
 
-use crate::inventory::{Inventory, Outcomes};
+use crate::inventory::Inventory;
 use cv_base::Digest;
 use cv_desk::Desk;
+use cv_knowledge::Outcomes;
 use cv_outcome::Outcome;
 use cv_seq::NoMemory;
-use cv_tree::Share;
 use std::alloc::Global;
 
 impl<D: Desk + Drop> Inventory<D> {
@@ -22,14 +23,14 @@ impl<D: Desk + Drop> Inventory<D> {
     pub fn outcome(&self, image: &Digest) -> Option<&Outcome>
         ensures { IsKnown D.tree → (state : State) → report_by state.generation (option_map (λ outcome. outcome.now) result) ≡ report_of (trees_of D.tree) (holding state self.now) image.now }
     {
-        self.outcomes.get(image)
+        self.knowledge.outcome(image)
     }
 
     /// The outcomes of all images by hash, shared.
     pub fn outcomes(&self) -> Result<Outcomes, NoMemory>
         ensures { IsKnown D.tree → IfOk result (λ outcomes. (state : State) → map_values (report_with state.generation) outcomes ≡ (board_of (trees_of D.tree) (holding state self.now)).reports) }
     {
-        self.outcomes.share()
+        self.knowledge.outcomes()
     }
 
     /// The layers that wait for a worker, in ascending order.

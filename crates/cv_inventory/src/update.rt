@@ -10,8 +10,7 @@ use crate::inventory::Inventory;
 use cv_advdb::{AdvError, Feeds};
 use cv_base::{Advisory, NoMemory, Row, Seq, Steps, Text};
 use cv_desk::Desk;
-use cv_outcome::Rematch;
-use cv_tree::{Share, Shared};
+use cv_tree::Share;
 use std::alloc::Global;
 use std::sync::ledger::Ledger;
 
@@ -42,7 +41,7 @@ impl<D: Desk + Drop> Inventory<D> {
         ensures room { IfOk result (λ _. is_full (feed_table self.now) feed ≡ false) }
         ensures full { IsErrOf result AdvError.TooManyFeeds → is_full (feed_table self.now) feed ≡ true }
     {
-        let mut feeds = self.feeds.value().copy()?;
+        let mut feeds = self.knowledge.feeds().copy()?;
         feeds.replace(alloc, feed, records)?;
         Ok(feeds)
     }
@@ -59,15 +58,7 @@ impl<D: Desk + Drop> Inventory<D> {
         ensures rows { IsKnown D.tree → IfOk result (λ after. (state : State) → after.1 ≡ rows_of (trees_of D.tree) (holding state self.now) feeds.feeds) }
     {
         let registry = self.registry.share()?;
-        let facts = self.facts.share()?;
-        let mut rows = Vec::new(alloc);
-        let outcomes = self
-            .outcomes
-            .remake(alloc, &Rematch::<L>::new(&feeds), &mut rows, steps)?;
-        let feeds = Shared::of(alloc, feeds)?;
-        Ok((
-            Inventory::of(registry, facts, outcomes, feeds),
-            Seq::of(rows),
-        ))
+        let (knowledge, rows) = self.knowledge.with_feeds(alloc, feeds, steps)?;
+        Ok((Inventory::of(registry, knowledge), rows))
     }
 }

@@ -11,6 +11,7 @@
 mod calm;
 mod chunk;
 mod copies;
+mod counted;
 mod fault;
 mod gather;
 mod gathering;

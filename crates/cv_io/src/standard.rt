@@ -1,6 +1,7 @@
-ghost use Rattle.std.specs.Prelude.{◌≡◌, ◌≤◌, ◌<◌, ℕ, None, IfOk, length};
+ghost use Rattle.std.specs.Prelude.{◌≡◌, ◌≤◌, ◌<◌, IfOk, length};
 ghost use Rattle.cv_io.specs.Writes.{WritesFront};
 
+use crate::counted::Counted;
 use crate::fault::IoFault;
 use crate::sink::Sink;
 use crate::source::Source;
@@ -9,11 +10,13 @@ use std::io::{self, ErrorKind, Read, Write};
 /// Reads from a reader of std, as standard input. The remaining bytes are those that the reader's contract knows: of
 /// standard input none are known. It counts each error, and keeps the last one.
 #[derive(Drop)]
-pub struct StdSource<R> {
-    reader: R,
-    faults: u64,
-    last_error: Option<io::Error>,
-}
+pub struct StdSource<R>(Counted<R>);
+
+/// Writes to a writer of std, as standard output, and flushes after each write. The contents are those that the
+/// writer's contract knows: of standard output none are known. It counts each error and each write that takes
+/// nothing, and keeps the last error. A write whose flush failed is a failure, though its bytes may have been written.
+#[derive(Drop)]
+pub struct StdSink<W>(Counted<W>);
 
 impl<R: Read + Drop> StdSource<R> {
     /// A source that has not failed yet.
@@ -21,44 +24,13 @@ impl<R: Read + Drop> StdSource<R> {
         ensures faults { ⟦<StdSource<R> as Source>⟧.faults result ≡ 0 }
         ensures remaining { ⟦<StdSource<R> as Source>⟧.remaining result ≡ R.remaining reader }
     {
-        StdSource {
-            reader,
-            faults: 0,
-            last_error: None,
-        }
+        StdSource(Counted::new(reader))
     }
 
     /// Why the last read that failed did so, as the system says. It is meant for people.
     pub fn last_error(&self) -> Option<io::Error> {
-        self.last_error
+        self.0.last_error
     }
-}
-
-impl<R: Read + Drop> Source for StdSource<R> {
-    ghost remaining = { λ s. R.remaining s.reader };
-
-    ghost faults = { λ s. s.faults };
-
-    fn read(&mut self, buf: &mut [u8]) -> Result<usize, IoFault> {
-        match self.reader.read(buf) {
-            Ok(count) => Ok(count),
-            Err(error) => {
-                self.faults = self.faults.saturating_add(1);
-                self.last_error = Some(error);
-                Err(IoFault::Failed)
-            }
-        }
-    }
-}
-
-/// Writes to a writer of std, as standard output, and flushes after each write. The contents are those that the
-/// writer's contract knows: of standard output none are known. It counts each error and each write that takes
-/// nothing, and keeps the last error. A write whose flush failed is a failure, though its bytes may have been written.
-#[derive(Drop)]
-pub struct StdSink<W> {
-    writer: W,
-    faults: u64,
-    last_error: Option<io::Error>,
 }
 
 impl<W: Write + Drop> StdSink<W> {
@@ -67,32 +39,37 @@ impl<W: Write + Drop> StdSink<W> {
         ensures faults { ⟦<StdSink<W> as Sink>⟧.faults result ≡ 0 }
         ensures contents { ⟦<StdSink<W> as Sink>⟧.contents result ≡ W.contents writer }
     {
-        StdSink {
-            writer,
-            faults: 0,
-            last_error: None,
-        }
+        StdSink(Counted::new(writer))
     }
 
     /// Why the last write that failed did so, as the system says. It is meant for people.
     pub fn last_error(&self) -> Option<io::Error> {
-        self.last_error
+        self.0.last_error
+    }
+}
+
+impl<R: Read + Drop> Source for StdSource<R> {
+    ghost remaining = { λ s. R.remaining s.0.stream };
+
+    ghost faults = { λ s. s.0.faults };
+
+    fn read(&mut self, buf: &mut [u8]) -> Result<usize, IoFault> {
+        match self.0.stream.read(buf) {
+            Ok(count) => Ok(count),
+            Err(error) => Err(self.0.note(error)),
+        }
     }
 }
 
 impl<W: Write + Drop> Sink for StdSink<W> {
-    ghost contents = { λ s. W.contents s.writer };
+    ghost contents = { λ s. W.contents s.0.stream };
 
-    ghost faults = { λ s. s.faults };
+    ghost faults = { λ s. s.0.faults };
 
     fn write(&mut self, bytes: &[u8]) -> Result<usize, IoFault> {
-        match write_through(&mut self.writer, bytes) {
+        match write_through(&mut self.0.stream, bytes) {
             Ok(count) => Ok(count),
-            Err(error) => {
-                self.faults = self.faults.saturating_add(1);
-                self.last_error = Some(error);
-                Err(IoFault::Failed)
-            }
+            Err(error) => Err(self.0.note(error)),
         }
     }
 }

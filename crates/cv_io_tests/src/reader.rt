@@ -53,7 +53,7 @@ fn read_pieces(
 }
 
 #[test]
-fn limits_hold_in_pieces_of_any_length(rt: HostRuntime) -> Result<(), Fail> {
+fn lines_are_cut_in_pieces_of_any_length(rt: HostRuntime) -> Result<(), Fail> {
     let cases = [
         ("abcd\nabcde\n", 4, 100, "abcd|line too long|"),
         ("abcd\n", 4, 5, "abcd|input too long|"),
@@ -67,30 +67,17 @@ fn limits_hold_in_pieces_of_any_length(rt: HostRuntime) -> Result<(), Fail> {
         ("", 0, 1, "end"),
         ("", 0, 0, "input too long|"),
         ("\n\n", 0, 3, "||end"),
+        ("a\r\nb\n", 100, 100, "a|b|end"),
+        ("a\r\r\n", 100, 100, "a\r|end"),
+        ("a\rb\n", 100, 100, "a\rb|end"),
+        ("\r\n", 100, 100, "|end"),
+        ("a\nb\r", 100, 100, "a|b|end"),
+        ("\r", 100, 100, "|end"),
+        ("a\nb", 100, 100, "a|b|end"),
     ];
     for (text, max_line, max_input, want) in cases {
         for piece in 1..4 {
             let output = read_pieces(rt.alloc(), text, piece, max_line, max_input)?;
-            assert_eq!(rt; output.as_str(), want, "{text} in pieces of {piece}");
-        }
-    }
-    Ok(())
-}
-
-#[test]
-fn one_carriage_return_is_dropped_at_the_end(rt: HostRuntime) -> Result<(), Fail> {
-    let cases = [
-        ("a\r\nb\n", "a|b|end"),
-        ("a\r\r\n", "a\r|end"),
-        ("a\rb\n", "a\rb|end"),
-        ("\r\n", "|end"),
-        ("a\nb\r", "a|b|end"),
-        ("\r", "|end"),
-        ("a\nb", "a|b|end"),
-    ];
-    for (text, want) in cases {
-        for piece in 1..4 {
-            let output = read_pieces(rt.alloc(), text, piece, 100, 100)?;
             assert_eq!(rt; output.as_str(), want, "{text} in pieces of {piece}");
         }
     }

@@ -1,60 +1,42 @@
+ghost use Rattle.std.specs.Prelude.{◌≤◌, IfOk};
+
 use cv_io::{IoFault, Sink, Source, StdSink, StdSource};
-use std::io::{self, Cursor, ErrorKind, Read, Write};
-use std::test::Fail;
+use std::io::{self, ErrorKind, Read, Write};
 
-/// A stream without bytes, or one of which each call fails.
+/// A stream of which each call has the same answer.
 #[derive(Drop)]
-struct Broken {
-    fails: bool,
+struct Scripted {
+    moved: Result<usize, ErrorKind>,
+    flushed: Result<(), ErrorKind>,
 }
 
-impl Broken {
-    fn count(&self) -> io::Result<usize> {
-        if self.fails {
-            return Err(io::Error::from(ErrorKind::BrokenPipe));
-        }
-        Ok(0)
-    }
-}
-
-impl Read for Broken {
-    fn read(&mut self, _buf: &mut [u8]) -> io::Result<usize> {
-        match self.count() {
-            Ok(_) => Ok(0),
-            Err(error) => Err(error),
+impl Scripted {
+    fn moved(&self, room: usize) -> io::Result<usize>
+        ensures { IfOk result (λ n. n ≤ room) }
+    {
+        match self.moved {
+            Ok(count) => Ok(count.min(room)),
+            Err(kind) => Err(io::Error::from(kind)),
         }
     }
 }
 
-impl Write for Broken {
-    fn write(&mut self, _buf: &[u8]) -> io::Result<usize> {
-        match self.count() {
-            Ok(_) => Ok(0),
-            Err(error) => Err(error),
-        }
-    }
-
-    fn flush(&mut self) -> io::Result<()> {
-        Ok(())
+impl Read for Scripted {
+    fn read(&mut self, buf: &mut [u8]) -> io::Result<usize> {
+        self.moved(buf.len())
     }
 }
 
-/// Memory whose flush fails once it has bytes.
-#[derive(Drop)]
-struct Unflushed {
-    bytes: Vec<u8>,
-}
-
-impl Write for Unflushed {
+impl Write for Scripted {
     fn write(&mut self, buf: &[u8]) -> io::Result<usize> {
-        self.bytes.write(buf)
+        self.moved(buf.len())
     }
 
     fn flush(&mut self) -> io::Result<()> {
-        if self.bytes.is_empty() {
-            return Ok(());
+        match self.flushed {
+            Ok(()) => Ok(()),
+            Err(kind) => Err(io::Error::from(kind)),
         }
-        Err(io::Error::from(ErrorKind::StorageFull))
     }
 }
 
@@ -66,40 +48,31 @@ fn kind(error: Option<io::Error>) -> Option<ErrorKind> {
 }
 
 #[test]
-fn an_error_of_a_reader_is_a_fault_and_is_kept(rt: HostRuntime) {
+fn a_fault_of_a_standard_stream_is_kept(rt: HostRuntime) {
+    let failed = Err(IoFault::Failed);
+    let broken = ErrorKind::BrokenPipe;
+    let full = ErrorKind::StorageFull;
     let mut buf = [0u8; 4];
-    let mut source = StdSource::new(Broken { fails: true });
-    assert_eq!(rt; kind(source.last_error()), None);
-    assert_eq!(rt; source.read(&mut buf), Err(IoFault::Failed));
-    assert_eq!(rt; kind(source.last_error()), Some(ErrorKind::BrokenPipe));
-    let mut over = StdSource::new(Broken { fails: false });
-    assert_eq!(rt; over.read(&mut buf), Ok(0));
-}
-
-#[test]
-fn an_error_of_a_writer_and_a_write_of_nothing_are_faults(rt: HostRuntime) {
-    for (fails, want) in [(false, ErrorKind::WriteZero), (true, ErrorKind::BrokenPipe)] {
-        let mut sink = StdSink::new(Broken { fails });
-        assert_eq!(rt; sink.write(b"ab"), Err(IoFault::Failed));
-        assert_eq!(rt; kind(sink.last_error()), Some(want));
+    for (moved, want, error) in [
+        (Ok(3), Ok(3), None),
+        (Ok(0), Ok(0), None),
+        (Err(broken), failed, Some(broken)),
+    ] {
+        let mut source = StdSource::new(Scripted {
+            moved,
+            flushed: Ok(()),
+        });
+        assert_eq!(rt; source.read(&mut buf), want);
+        assert_eq!(rt; kind(source.last_error()), error);
     }
-}
-
-#[test]
-fn a_failing_flush_fails_its_write(rt: HostRuntime) {
-    let bytes = Vec::new(rt.alloc());
-    let mut sink = StdSink::new(Unflushed { bytes });
-    assert_eq!(rt; sink.write(b"ab"), Err(IoFault::Failed));
-    assert_eq!(rt; kind(sink.last_error()), Some(ErrorKind::StorageFull));
-}
-
-#[test]
-fn bytes_pass_through(rt: HostRuntime) -> Result<(), Fail> {
-    let mut buf = [0u8; 4];
-    let mut source = StdSource::new(Cursor::new(b"abc".as_slice()));
-    assert_eq!(rt; source.read(&mut buf), Ok(3));
-    assert_eq!(rt; &buf[..3], b"abc".as_slice());
-    let mut sink = StdSink::new(Vec::new(rt.alloc()));
-    assert_eq!(rt; sink.write(b"ab"), Ok(2));
-    Ok(())
+    for (moved, flushed, want, error) in [
+        (Ok(3), Ok(()), Ok(3), None),
+        (Ok(0), Ok(()), failed, Some(ErrorKind::WriteZero)),
+        (Err(broken), Ok(()), failed, Some(broken)),
+        (Ok(3), Err(full), failed, Some(full)),
+    ] {
+        let mut sink = StdSink::new(Scripted { moved, flushed });
+        assert_eq!(rt; sink.write(b"abcd"), want);
+        assert_eq!(rt; kind(sink.last_error()), error);
+    }
 }

@@ -1,29 +1,21 @@
-use cv_io::{CalmSink, MemSink, WriteError, write_all};
+use cv_io::{MemSink, WriteError, write_all};
 use cv_seq::Seq;
 use std::test::Fail;
 
 #[test]
-fn all_bytes_are_written_in_pieces(rt: HostRuntime) -> Result<(), Fail> {
-    for piece in 1..4 {
-        let mut output = CalmSink::new(rt.alloc(), piece);
-        write_all(&mut output, b"abcd")?;
-        write_all(&mut output, b"")?;
-        write_all(&mut output, b"e")?;
-        assert_eq!(rt; output.bytes(), b"abcde".as_slice());
+fn bytes_are_written_up_to_a_failing_write(rt: HostRuntime) -> Result<(), Fail> {
+    let cases: [(usize, u64, Result<(), WriteError>, &[u8]); 5] = [
+        (1, 9, Ok(()), b"abcde"),
+        (3, 9, Ok(()), b"abcde"),
+        (2, 1, Err(WriteError::WriteFault), b""),
+        (2, 2, Err(WriteError::WriteFault), b"ab"),
+        (2, 3, Err(WriteError::WriteFault), b"abcd"),
+    ];
+    for (piece, call, want, written) in cases {
+        let fails = Seq::of(vec![in rt.alloc(); call]?);
+        let mut output = MemSink::new(rt.alloc(), piece, fails);
+        assert_eq!(rt; write_all(&mut output, b"abcde"), want, "call {call}");
+        assert_eq!(rt; output.bytes(), written, "call {call}");
     }
-    Ok(())
-}
-
-#[test]
-fn a_failing_write_leaves_a_front_part(rt: HostRuntime) -> Result<(), Fail> {
-    let fails = Seq::of(vec![in rt.alloc(); 2]?);
-    let mut output = MemSink::new(rt.alloc(), 2, fails);
-    assert_eq!(rt;
-        write_all(&mut output, b"abcde"),
-        Err(WriteError::WriteFault)
-    );
-    assert_eq!(rt; output.bytes(), b"ab".as_slice());
-    assert_eq!(rt; write_all(&mut output, b"cde"), Ok(()));
-    assert_eq!(rt; output.bytes(), b"abcde".as_slice());
     Ok(())
 }

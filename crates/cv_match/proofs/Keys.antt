@@ -16,7 +16,7 @@ use Rattle.cv_base.proofs.Bools.{or_swap_inner}
 use Rattle.cv_base.proofs.Same.{same_is}
 use Rattle.cv_match.specs.Affects.{affects, family, is_affected_by, key_name, matches}
 use Rattle.cv_match.specs.Findings.{found, found_in}
-use Rattle.cv_match.specs.Keys.{family_key, feeds_about, is_about, is_key, is_named, keys_of, name_cmp, whole_key}
+use Rattle.cv_match.specs.Keys.{family_key, feeds_about, is_about, is_key, is_named, name_cmp, whole_key}
 
 -- Names of packages.
 

@@ -2,7 +2,6 @@
 -- are how the ecosystem of a record matches that of a package, and the choice of the fixed version.
 use Rattle.std.specs.Prelude.{ℕ, Bool, false, not, ◌&&◌, ◌||◌, ◌==◌, List, take, Option, Some, None, map, find, filter, option_and_then}
 use Rattle.std.specs.List.{flat_map, list_any, position}
-use Rattle.std.specs.declared.cmp.Ordering.{Ordering}
 use Rattle.cv_base.specs.Texts.{same}
 use Rattle.cv_base.specs.declared.«package».Package.{Package}
 use Rattle.cv_base.specs.declared.«package».PackageName.{PackageName}
@@ -11,11 +10,9 @@ use Rattle.cv_base.specs.declared.«package».PackageKind.TheVariants.{Deb, Apk,
 use Rattle.cv_base.specs.declared.advisory.Advisory.{Advisory}
 use Rattle.cv_base.specs.declared.advisory.Affected.{Affected}
 use Rattle.cv_base.specs.declared.advisory.Range.{Range}
-use Rattle.cv_match.specs.declared.placed.Placed.{Placed}
-use Rattle.cv_match.specs.declared.placed.Placed.TheVariants.{Introduced, Fixed, LastAffected, Limit}
-use Rattle.cv_match.specs.declared.placed.Bound.TheVariants.{At}
-use Rattle.cv_match.specs.Order.{version_cmp_of}
-use Rattle.cv_match.specs.Within.{lt, placed, within}
+use Rattle.cv_range.specs.Fix.{fix_text, is_least_fix}
+use Rattle.cv_range.specs.Order.{version_cmp_of}
+use Rattle.cv_range.specs.Within.{placed, within}
 
 -- 58 is `:`
 abbrev pub is_colon : ℕ → Bool
@@ -74,27 +71,6 @@ is_affected_by p entry = matches p entry.«package» && (lists p entry || list_a
 -- the record affects the package; takes a record and a package
 unfoldable pub affects : Advisory → Package → Bool
 affects a p = not a.withdrawn && list_any (is_affected_by p) a.affected
-
--- a fix that is above v and below f
-abbrev pub is_fix_between : {V : Type 0} → (V → V → Ordering) → V → V → Placed V → Bool
-is_fix_between R v f (Introduced i) = false
-is_fix_between R v f (Fixed g) = lt R (At v) (At g) && lt R (At g) (At f)
-is_fix_between R v f (LastAffected l) = false
-is_fix_between R v f (Limit l) = false
-
--- a fix above v, and none of all is above v and below it
-abbrev pub is_least_fix : {V : Type 0} → (V → V → Ordering) → List (Placed V) → V → Placed V → Bool
-is_least_fix R all v (Introduced i) = false
-is_least_fix R all v (Fixed f) = lt R (At v) (At f) && not (list_any (is_fix_between R v f) all)
-is_least_fix R all v (LastAffected l) = false
-is_least_fix R all v (Limit l) = false
-
--- the version of a fix
-abbrev pub fix_text : Placed (List ℕ) → Option (List ℕ)
-fix_text (Introduced i) = None
-fix_text (Fixed f) = Some f
-fix_text (LastAffected l) = None
-fix_text (Limit l) = None
 
 -- the least fix of the range above the version, the first listed of equal ones
 abbrev pub least_fix : Package → Range → Option (List ℕ)

@@ -2,7 +2,7 @@ pub mod Affects
 pub mod Answer
 pub mod Findings
 pub mod Keys
-pub mod Order
 pub mod Prepared
-pub mod Within
 pub mod code
+pub use Rattle.cv_range.specs.Order
+pub use Rattle.cv_range.specs.Within

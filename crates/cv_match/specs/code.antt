@@ -1,5 +1,4 @@
+pub mod Entries
 pub mod Hit
 pub mod Keyed
 pub mod Kinds
-pub mod Reading
-pub mod Walk

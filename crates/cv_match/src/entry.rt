@@ -1,7 +1,5 @@
-use crate::placed::Placed;
-use crate::semantic::SemanticVersion;
-use crate::version::{ApkVersion, DebVersion};
 use cv_base::{PackageName, Seq, Text};
+use cv_range::{ApkVersion, DebVersion, Placed, SemanticVersion};
 
 /// An affected entry of an advisory with its versions read. A range in which nothing can lie has no events.
 #[derive(Drop)]

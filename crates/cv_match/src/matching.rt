@@ -3,17 +3,16 @@ ghost use Rattle.std.specs.List.{list_any, position_from, slice_get};
 ghost use Rattle.std.specs.Option.{option_and_then};
 ghost use Rattle.cv_base.specs.Texts.{same};
 ghost use Rattle.cv_match.specs.Affects.{matches_ecosystem};
-ghost use Rattle.cv_match.specs.code.Hit.{entry_holds, entry_lists, fix_in, fixed_at, fixed_in, hit_listed, hit_of, hit_within, key_matches, range_holds};
-ghost use Rattle.cv_match.specs.Order.{version_cmp_of};
-ghost use Rattle.cv_match.specs.code.Reading.{entry_text, range_text};
+ghost use Rattle.cv_match.specs.code.Hit.{entry_holds, entry_lists, fixed_at, fixed_in, hit_listed, hit_of, hit_within, key_matches};
+ghost use Rattle.cv_match.specs.code.Entries.{entry_text};
+ghost use Rattle.cv_range.specs.Order.{version_cmp_of};
+ghost use Rattle.cv_range.specs.ReadRange.{range_holds, range_text};
 
 use crate::answer::{FixedAt, Hit};
 use crate::entry::PreparedEntry;
 use crate::key::{PackageKey, family};
-use crate::placed::Placed;
-use crate::version::Version;
-use crate::within::{holds, least_fix};
 use cv_base::{PackageName, Seq, Text};
+use cv_range::{Placed, Version, fix_in, range_holds};
 
 /// The answer of a record's entries about a package. `version` is `None` if the text of the package is not a
 /// valid version.
@@ -30,7 +29,7 @@ pub(crate) fn hit<V: Version>(
     }
 }
 
-#[tactic(auto, using(crate::proofs::Mapped::get_map))]
+#[tactic(auto, using(cv_range::proofs::Mapped::get_map))]
 fn hit_within<V: Version>(
     entries: &[PreparedEntry<V>],
     key: &PackageKey,
@@ -47,7 +46,7 @@ fn hit_within<V: Version>(
     }
 }
 
-#[tactic(auto, using(crate::proofs::Mapped::get_map))]
+#[tactic(auto, using(cv_range::proofs::Mapped::get_map))]
 fn fixed_at_place<V: Version>(
     entries: &[PreparedEntry<V>],
     place: usize,
@@ -131,24 +130,6 @@ fn some_range<V: Version>(ranges: &[Option<Seq<Placed<V>>>], version: &V) -> boo
     ranges.iter().any(|range| range_holds(range, version))
 }
 
-fn range_holds<V: Version>(range: &Option<Seq<Placed<V>>>, version: &V) -> bool
-    ensures { result ≡ range_holds (version_cmp_of V.kind) (V.text version.now) (range_text V.text range.now) }
-{
-    match range {
-        Some(events) => holds(events.as_slice(), version),
-        None => false,
-    }
-}
-
-fn fix_in<V: Version>(range: &Option<Seq<Placed<V>>>, version: &V) -> Option<usize>
-    ensures { result ≡ fix_in (version_cmp_of V.kind) (V.text version.now) (range_text V.text range.now) }
-{
-    match range {
-        Some(events) => least_fix(events.as_slice(), version),
-        None => None,
-    }
-}
-
 /// The fixed version of an entry, which has this number: that of its first range that has the version within.
 fn fixed_at<V: Version>(place: usize, entry: &PreparedEntry<V>, version: &V) -> Option<FixedAt>
     ensures { result ≡ fixed_at (version_cmp_of V.kind) (V.text version.now) place (entry_text V.text entry.now) }
@@ -160,7 +141,7 @@ fn fixed_at<V: Version>(place: usize, entry: &PreparedEntry<V>, version: &V) -> 
     }
 }
 
-#[tactic(auto, using(crate::proofs::Mapped::get_map))]
+#[tactic(auto, using(cv_range::proofs::Mapped::get_map))]
 fn fixed_in<V: Version>(
     place: usize,
     ranges: &[Option<Seq<Placed<V>>>],

@@ -3,17 +3,16 @@ ghost use Rattle.cv_match.specs.Affects.{matched_version};
 ghost use Rattle.cv_match.specs.Answer.{Answers};
 ghost use Rattle.cv_match.specs.code.Hit.{hit_of, key_of};
 ghost use Rattle.cv_match.specs.code.Kinds.{entries_kind, entries_text, version_kind, version_text};
-ghost use Rattle.cv_match.specs.Order.{version_in};
-ghost use Rattle.cv_match.specs.code.Reading.{prepared_entry};
+ghost use Rattle.cv_range.specs.Order.{version_in};
+ghost use Rattle.cv_match.specs.code.Entries.{prepared_entry};
 
 use crate::answer::Hit;
 use crate::entry::{PreparedEntries, PreparedVersion};
 use crate::key::{PackageKey, key_name};
 use crate::matching::hit;
 use crate::reading::prepare_entries;
-use crate::semantic::SemanticVersion;
-use crate::version::{ApkVersion, DebVersion, Version};
 use cv_base::{Advisory, Affected, NoMemory, Package, PackageKind, Text};
+use cv_range::{ApkVersion, DebVersion, SemanticVersion, Version};
 use std::alloc::{AllocError, Global};
 use std::marker::Model;
 use std::snapshot::Snapshot;
@@ -59,7 +58,7 @@ impl Model for PreparedRecord {
     ghost use Rattle.std.specs.Prelude.{◌≡◌, map};
     ghost use Rattle.cv_match.specs.Prepared.{Prepared};
     ghost use Rattle.cv_match.specs.code.Kinds.{entries_kind, entries_text};
-    ghost use Rattle.cv_match.specs.code.Reading.{prepared_entry};
+    ghost use Rattle.cv_match.specs.code.Entries.{prepared_entry};
 
     ghost Value = { Prepared };
 
@@ -82,7 +81,7 @@ impl Model for ReadyPackage {
     ghost use Rattle.cv_match.specs.Affects.{matched_version};
     ghost use Rattle.cv_match.specs.code.Hit.{key_of};
     ghost use Rattle.cv_match.specs.code.Kinds.{version_kind, version_text};
-    ghost use Rattle.cv_match.specs.Order.{version_in};
+    ghost use Rattle.cv_range.specs.Order.{version_in};
 
     ghost Value = { Package };
 

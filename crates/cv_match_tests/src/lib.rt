@@ -2,6 +2,4 @@
 #![tactic(auto)]
 
 #[cfg(test)]
-mod order;
-#[cfg(test)]
 mod tests;

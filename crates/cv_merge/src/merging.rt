@@ -105,6 +105,3 @@ fn is_ahead(read: &ReadEntry, entry: &Entry) -> bool
         Entry::Read(other) => read.front < other.front,
     }
 }
-
-#[cfg(test)]
-mod tests;

@@ -10,7 +10,7 @@ use Rattle.std.proofs.lemmas.Option.{none-some}
 use Rattle.cv_base.specs.Texts.{same}
 use Rattle.cv_base.specs.declared.advisory.Advisory.{Advisory}
 use Rattle.cv_osv.specs.Records.{HasDistinctIds}
-use Rattle.cv_osv.specs.code.Appended.{index_of, Indexes}
+use Rattle.cv_osv.specs.code.Appended.{index_of, Indexes, IsIndexed}
 
 -- an appended item is found if no earlier one is
 position_snoc : {X : Type 0} (p : X → Bool) (i : ℕ) (xs : List X) (x : X) → position_from p i (xs ++ x ∷ []) ≡ option_or (position_from p i xs) (cond (p x) (Some (i + length xs)) None)
@@ -52,7 +52,7 @@ found_by_order x y = sym (texts_ties x y) ∙ nat_list_eq_equiv.symm x y
 -- if no record had the id of the new one, a map that has it at the new index has all indices
 pub indexes_more : (indices more : BTreeMap (List ℕ) ℕ) (records : List Advisory) (here : Advisory)
     → Indexes indices records → get (slice_cmp nat_cmp) indices here.id ≡ None
-    → ((id : List ℕ) → get (slice_cmp nat_cmp) more id ≡ cond (is_eq (slice_cmp nat_cmp here.id id)) (Some (length records)) (get (slice_cmp nat_cmp) indices id))
+    → IsIndexed indices more here.id (length records)
     → Indexes more (records ++ here ∷ [])
 indexes_more indices more records here indexed fresh updated id =
     updated id ∙ ap (λ found. cond found (Some (length records)) (get (slice_cmp nat_cmp) indices id)) (found_by_order here.id id)

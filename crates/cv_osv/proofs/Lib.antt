@@ -1,5 +1,3 @@
 pub mod Appended
 mod Examples
-pub mod FirstFault
 pub mod Indices
-pub mod Onto

@@ -1,3 +1,2 @@
 -- Words that only retell private functions.
 pub mod Appended
-pub mod Member

@@ -1,14 +1,17 @@
-ghost use Rattle.std.specs.Prelude.{◌≡◌, ◌+◌, ◌<◌, ◌≤◌, [], length, nat_le, IfOk, OnOk};
+ghost use Rattle.std.specs.Prelude.{◌≡◌, ◌+◌, ◌<◌, ◌≤◌, [], ◌∷◌, ◌++◌, length, nat_le, IfOk, OnOk};
+ghost use Rattle.std.specs.BTreeMap.{get};
+ghost use Rattle.std.specs.Cmp.Lexicographic.{slice_cmp};
+ghost use Rattle.std.specs.Ordering.{nat_cmp};
 ghost use Rattle.cv_base.specs.Answer.{Yields};
 ghost use Rattle.cv_osv.specs.Answer.{fault_of};
-ghost use Rattle.cv_osv.specs.Record.{advisory_of};
+ghost use Rattle.cv_osv_record.specs.Record.{advisory_of};
 ghost use Rattle.cv_osv.specs.Records.{HasDistinctIds, appended};
-ghost use Rattle.cv_osv.specs.code.Appended.{at_index, Indexes, pushed_reading};
+ghost use Rattle.cv_osv.specs.code.Appended.{at_index, Indexes, IsIndexed, pushed_reading};
 ghost use Rattle.serde_json.specs.View.{view};
 
-use crate::error::{AdvisoryError, OsvError};
-use crate::record::{RecordRead, read_advisory};
-use cv_base::{Advisory, MAX_ADVISORIES, Seq, Text};
+use crate::error::OsvError;
+use cv_base::{Advisory, MAX_ADVISORIES, NoMemory, Seq, Text};
+use cv_osv_record::{AdvisoryError, RecordRead, read_advisory};
 use serde_json::Value;
 use std::alloc::Global;
 use std::collections::BTreeMap;
@@ -107,14 +110,32 @@ fn push_record(
 {
     let index = records.len() as u32;
     let record = record_at(found, index)?;
-    if let Some(first) = indices.insert(record.id.clone()?, index)? {
+    if let Some(first) = replace_index(indices, &record.id, index)? {
         return Err(OsvError::DuplicateId {
             first,
             second: index,
         });
     }
-    records.push(record)?;
+    push(records, record)?;
     Ok(())
+}
+
+/// Gives an id this index, and answers the one that it had.
+fn replace_index(
+    indices: &mut BTreeMap<Text, u32>,
+    id: &Text,
+    index: u32,
+) -> Result<Option<u32>, NoMemory>
+    ensures old { IfOk result (λ first. first ≡ get (slice_cmp nat_cmp) indices.old id.now) }
+    ensures new { OnOk result (IsIndexed indices.old indices.new id.now index) }
+{
+    Ok(indices.insert(id.clone()?, index)?)
+}
+
+fn push(records: &mut Vec<Advisory>, advisory: Advisory) -> Result<(), NoMemory>
+    ensures { OnOk result (records.new.items ≡ records.old.items ++ advisory ∷ []) }
+{
+    Ok(records.push(advisory)?)
 }
 
 /// The record, whose fault has this index.

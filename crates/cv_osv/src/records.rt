@@ -43,6 +43,3 @@ fn read_all(alloc: Global, items: &[Value]) -> Result<Seq<Advisory>, OsvError>
     }
     Ok(records.into_seq())
 }
-
-#[cfg(test)]
-mod tests;

@@ -12,7 +12,5 @@ mod node;
 mod numbers;
 mod reader;
 mod shared;
-#[cfg(test)]
-mod tests;
 
 pub use reader::RecordReader;

@@ -1,15 +1,15 @@
 ghost use Rattle.std.specs.Prelude.{◌≡◌, Ok};
 ghost use Rattle.std.specs.Option.{ok_or};
 ghost use Rattle.cv_base.specs.Answer.{Yields};
-ghost use Rattle.cv_osv.specs.Record.{advisory_of};
+ghost use Rattle.cv_osv_record.specs.Record.{advisory_of};
 ghost use Rattle.cv_request.specs.Fault.{fault_of};
 ghost use Rattle.cv_request.specs.declared.error.RequestFault.TheVariants.{BadJson};
-ghost use Rattle.cv_osv_text.specs.Tree.{data_view, line_read, tree_of};
+ghost use Rattle.cv_osv_text.specs.Tree.{line_read, tree_of};
 ghost use Rattle.json.specs.Value.{value_view};
 
 use crate::numbers::has_number;
 use crate::shared::SharedTexts;
-use cv_osv::{AdvisoryError, RecordRead, read_advisory, read_node};
+use cv_osv_record::{AdvisoryError, NewTexts, Node, RecordRead, Texts, read_node};
 use cv_request::{RequestError, read_json};
 use json::{Error, Reader, Scratch, Value};
 use std::alloc::Global;
@@ -18,9 +18,10 @@ use std::str;
 /// How deep arrays and objects nest at most, as for serde_json.
 const MAX_DEPTH: usize = 127;
 
-/// Reads a line as a record, as `read_json` of cv_request and `read_advisory` of cv_osv do. No text of the line that is not
-/// kept is copied. `BadJson` if the line is not UTF-8 or not JSON. A line with a number is read by these two: serde_json
-/// decides which numbers are in range.
+/// Reads a line as a record, as `read_json` of cv_request and `read_advisory` of cv_osv_record do. `BadJson` if the line is
+/// not UTF-8 or not JSON. Of a line without a number only the texts that are kept are copied, but for those with escapes. A
+/// line with a number is read a second time, by these two, which copy all of its texts: serde_json decides which numbers are
+/// in range.
 #[tactic(auto, using(cv_seq::proofs::Utf8::text_found, cv_seq::proofs::Utf8::none_found, crate::proofs::Data::json_found, crate::proofs::Data::json_none, crate::proofs::Data::json_bytes))]
 pub(crate) fn read_line(
     alloc: Global,
@@ -62,14 +63,15 @@ fn read_tree<'a>(
     }
 }
 
-fn read_record(
+/// Reads a value as a record. `texts` makes the texts of its entries.
+fn read_record<V: Node<T>, T: Texts>(
     alloc: Global,
-    texts: &mut SharedTexts,
-    tree: &Value<'_>,
+    texts: &mut T,
+    value: &V,
 ) -> Result<RecordRead, RequestError>
-    ensures { Yields fault_of (λ found. found) result (Ok (advisory_of (data_view tree.now))) }
+    ensures { Yields fault_of (λ found. found) result (Ok (advisory_of (V.data_of value.now))) }
 {
-    match read_node(alloc, texts, tree) {
+    match read_node(alloc, texts, value) {
         Ok(record) => Ok(Ok(record)),
         Err(AdvisoryError::Bad(what)) => Ok(Err(what)),
         Err(AdvisoryError::NoMemory) => Err(RequestError::NoMemory),
@@ -81,9 +83,6 @@ fn read_owned(alloc: Global, line: &[u8]) -> Result<RecordRead, RequestError>
     ensures { Yields fault_of (λ found. found) result (line_read line.now) }
 {
     let value = read_json(alloc, line)?;
-    match read_advisory(alloc, &value) {
-        Ok(record) => Ok(Ok(record)),
-        Err(AdvisoryError::Bad(what)) => Ok(Err(what)),
-        Err(AdvisoryError::NoMemory) => Err(RequestError::NoMemory),
-    }
+    let mut texts = NewTexts;
+    read_record(alloc, &mut texts, &value)
 }

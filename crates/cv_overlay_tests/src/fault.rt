@@ -15,6 +15,8 @@ fn threads_may_share_faults_and_roots(rt: HostRuntime) -> Result<(), Fail> {
         path: RelPath::read(alloc, "etc/os-release")?,
     };
     assert_eq!(rt; shared(fault.clone()?), fault);
-    assert_eq!(rt; shared(Root::empty(alloc)).entries().len(), 0);
+    let root = shared(Root::empty(alloc));
+    assert_eq!(rt; root.entries().len(), 0);
+    assert!(rt; root.get(&RelPath::read(alloc, "etc")?).is_none());
     Ok(())
 }

@@ -3,6 +3,9 @@ use cv_overlay::{OverlayError, Root, TreeFault};
 use std::alloc::Global;
 use std::test::Fail;
 
+/// The entries of a layer.
+type Rows = &'static [(&'static str, Kind)];
+
 fn node(kind: Kind) -> Node {
     match kind {
         Kind::Dir => Node::Dir,
@@ -11,7 +14,7 @@ fn node(kind: Kind) -> Node {
     }
 }
 
-fn tree(alloc: Global, rows: &[(&str, Kind)]) -> Result<Tree, Fail> {
+fn tree(alloc: Global, rows: Rows) -> Result<Tree, Fail> {
     let mut entries = Vec::new(alloc);
     for (text, kind) in rows {
         let path = RelPath::read(alloc, text)?;
@@ -25,140 +28,114 @@ fn tree(alloc: Global, rows: &[(&str, Kind)]) -> Result<Tree, Fail> {
     })
 }
 
-fn base(alloc: Global) -> Result<Tree, Fail> {
-    tree(
-        alloc,
-        &[
-            ("etc", Kind::Dir),
-            ("etc/os-release", Kind::Other),
-            ("var", Kind::Dir),
-            ("var/lib", Kind::Dir),
-            ("var/lib/status", Kind::File),
-        ],
-    )
-}
-
-fn modules(alloc: Global) -> Result<Tree, Fail> {
-    tree(
-        alloc,
-        &[
-            ("app", Kind::Dir),
-            ("app/node_modules", Kind::Dir),
-            ("app/node_modules/x", Kind::Dir),
-            ("app/node_modules/x/package.json", Kind::File),
-            ("srv", Kind::Dir),
-            ("srv/package.json", Kind::File),
-        ],
-    )
-}
-
-/// The paths of a root, each with a blank after it.
-fn paths(alloc: Global, root: &Root) -> Result<String, Fail> {
+/// A root as one line: its paths, with `/` after a directory and `?` after what is no file either.
+fn line(alloc: Global, root: &Root) -> Result<String, Fail> {
     let mut all = String::new(alloc);
     for entry in root.entries() {
         all.push_str(entry.path.text())?;
-        all.push_str(" ")?;
+        all.push_str(match root.get(&entry.path) {
+            Some(Node::Dir) => "/ ",
+            Some(Node::File(_)) => " ",
+            Some(Node::Other) => "? ",
+            None => " is missing ",
+        })?;
     }
     Ok(all)
 }
 
-#[test]
-fn a_whiteout_hides_a_lower_file_until_it_comes_again(rt: HostRuntime) -> Result<(), Fail> {
-    let alloc = rt.alloc();
-    let status = RelPath::read(alloc, "var/lib/status")?;
-    let mut root = Root::empty(alloc);
-    root.lay(alloc, &base(alloc)?)?;
-    assert!(rt; root.get(&status).is_some());
-    let upper = tree(
-        alloc,
-        &[
-            ("var", Kind::Dir),
-            ("var/lib", Kind::Dir),
-            ("var/lib/.wh.status", Kind::File),
-        ],
-    )?;
-    root.lay(alloc, &upper)?;
-    assert_eq!(rt;
-        paths(alloc, &root)?.as_str(),
-        "etc etc/os-release var var/lib "
-    );
-    assert!(rt; root.get(&status).is_none());
-    root.lay(alloc, &base(alloc)?)?;
-    assert_eq!(rt;
-        paths(alloc, &root)?.as_str(),
-        "etc etc/os-release var var/lib var/lib/status "
-    );
-    Ok(())
+const EMPTY: Rows = &[];
+
+const BASE: Rows = &[
+    ("etc", Kind::Dir),
+    ("etc/os-release", Kind::Other),
+    ("var", Kind::Dir),
+    ("var/lib", Kind::Dir),
+    ("var/lib/status", Kind::File),
+];
+
+const HIDDEN: Rows = &[
+    ("var", Kind::Dir),
+    ("var/lib", Kind::Dir),
+    ("var/lib/.wh.status", Kind::File),
+];
+
+const REPLACED: Rows = &[
+    ("var", Kind::Dir),
+    ("var/lib", Kind::Dir),
+    ("var/lib/.wh.status", Kind::File),
+    ("var/lib/status", Kind::Other),
+];
+
+const MODULES: Rows = &[
+    ("app", Kind::Dir),
+    ("app/node_modules", Kind::Dir),
+    ("app/node_modules/x", Kind::Dir),
+    ("app/node_modules/x/package.json", Kind::File),
+    ("srv", Kind::Dir),
+    ("srv/package.json", Kind::File),
+];
+
+const OPAQUE: Rows = &[
+    ("app", Kind::Dir),
+    ("app/node_modules", Kind::Dir),
+    ("app/node_modules/.wh..wh..opq", Kind::File),
+];
+
+const ONE_FILE: Rows = &[("app", Kind::File)];
+
+const BAD: Rows = &[("etc", Kind::File), ("etc/x", Kind::File)];
+
+/// Lays layers on an empty root, and returns what came of the last one.
+fn lay_all(
+    alloc: Global,
+    root: &mut Root,
+    layers: &[Rows],
+) -> Result<Result<(), OverlayError>, Fail> {
+    let mut last = Ok(());
+    for layer in layers {
+        last = root.lay(alloc, &tree(alloc, layer)?);
+    }
+    Ok(last)
 }
 
 #[test]
-fn a_whiteout_does_not_hide_its_own_layer(rt: HostRuntime) -> Result<(), Fail> {
+fn layers_are_laid_one_on_the_other(rt: HostRuntime) -> Result<(), Fail> {
     let alloc = rt.alloc();
-    let mut root = Root::empty(alloc);
-    root.lay(alloc, &base(alloc)?)?;
-    let upper = tree(
-        alloc,
-        &[
-            ("var", Kind::Dir),
-            ("var/lib", Kind::Dir),
-            ("var/lib/.wh.status", Kind::File),
-            ("var/lib/status", Kind::Other),
-        ],
-    )?;
-    root.lay(alloc, &upper)?;
-    assert_eq!(rt;
-        root.get(&RelPath::read(alloc, "var/lib/status")?),
-        Some(&Node::Other)
-    );
-    Ok(())
-}
-
-#[test]
-fn an_opaque_mark_hides_what_lies_in_the_folders_of_its_directory(
-    rt: HostRuntime,
-) -> Result<(), Fail> {
-    let alloc = rt.alloc();
-    let mut root = Root::empty(alloc);
-    root.lay(alloc, &modules(alloc)?)?;
-    let upper = tree(
-        alloc,
-        &[
-            ("app", Kind::Dir),
-            ("app/node_modules", Kind::Dir),
-            ("app/node_modules/.wh..wh..opq", Kind::File),
-        ],
-    )?;
-    root.lay(alloc, &upper)?;
-    assert_eq!(rt;
-        paths(alloc, &root)?.as_str(),
-        "app app/node_modules srv srv/package.json "
-    );
-    Ok(())
-}
-
-#[test]
-fn a_file_hides_what_lies_below_its_path(rt: HostRuntime) -> Result<(), Fail> {
-    let alloc = rt.alloc();
-    let mut root = Root::empty(alloc);
-    root.lay(alloc, &modules(alloc)?)?;
-    root.lay(alloc, &tree(alloc, &[("app", Kind::File)])?)?;
-    assert_eq!(rt; paths(alloc, &root)?.as_str(), "app srv srv/package.json ");
-    Ok(())
-}
-
-#[test]
-fn a_bad_tree_leaves_the_root(rt: HostRuntime) -> Result<(), Fail> {
-    let alloc = rt.alloc();
-    let mut root = Root::empty(alloc);
-    root.lay(alloc, &base(alloc)?)?;
-    let bad = tree(alloc, &[("etc", Kind::File), ("etc/x", Kind::File)])?;
-    assert_eq!(rt;
-        root.lay(alloc, &bad),
-        Err(OverlayError::BadTree(TreeFault::NoParent(1)))
-    );
-    assert_eq!(rt;
-        paths(alloc, &root)?.as_str(),
-        "etc etc/os-release var var/lib var/lib/status "
-    );
+    let good = "etc/ etc/os-release? var/ var/lib/ var/lib/status ";
+    let bad = Err(OverlayError::BadTree(TreeFault::NoParent(1)));
+    let cases: [(&str, [Rows; 3], Result<(), OverlayError>, &str); 7] = [
+        ("one layer", [EMPTY, EMPTY, BASE], Ok(()), good),
+        (
+            "a whiteout hides a lower file",
+            [BASE, EMPTY, HIDDEN],
+            Ok(()),
+            "etc/ etc/os-release? var/ var/lib/ ",
+        ),
+        ("until it comes again", [BASE, HIDDEN, BASE], Ok(()), good),
+        (
+            "a whiteout does not hide its own layer",
+            [BASE, EMPTY, REPLACED],
+            Ok(()),
+            "etc/ etc/os-release? var/ var/lib/ var/lib/status? ",
+        ),
+        (
+            "an opaque mark hides what lies in the folders of its directory",
+            [MODULES, EMPTY, OPAQUE],
+            Ok(()),
+            "app/ app/node_modules/ srv/ srv/package.json ",
+        ),
+        (
+            "a file hides what lies below its path",
+            [MODULES, EMPTY, ONE_FILE],
+            Ok(()),
+            "app srv/ srv/package.json ",
+        ),
+        ("a bad tree leaves the root", [BASE, EMPTY, BAD], bad, good),
+    ];
+    for (what, layers, last, want) in cases {
+        let mut root = Root::empty(alloc);
+        assert_eq!(rt; lay_all(alloc, &mut root, &layers)?, last, "{what}");
+        assert_eq!(rt; line(alloc, &root)?.as_str(), want, "{what}");
+    }
     Ok(())
 }

@@ -1,21 +1,18 @@
 -- The packages of small roots, computed.
-use Rattle.std.specs.Prelude.{◌≡◌, ℕ, nat_lt, true, List, [], ◌∷◌, codes, length, Option, Some, None, Ok, Err, refl}
+use Rattle.std.specs.Prelude.{◌≡◌, ℕ, List, [], ◌∷◌, codes, Option, Some, None, Ok, Err, refl}
 use lib.Utf8.{encode}
 use Rattle.std.specs.Str.{is_utf8, chars}
 use Rattle.cv_base.specs.Path.{components}
 use Rattle.cv_base.specs.declared.fault.What.TheVariants as what
-use Rattle.cv_base.specs.declared.limits.TheConstants.{PACKAGE_FILE_LIMIT}
 use Rattle.cv_base.specs.declared.«package».Package.{Package}
 use Rattle.cv_base.specs.declared.«package».PackageKind.TheVariants.{Deb, Apk, Npm}
-use Rattle.cv_base.specs.declared.places.Place.{Place}
 use Rattle.cv_base.specs.declared.tree.Content.TheVariants as content
 use Rattle.cv_base.specs.declared.tree.Node.TheVariants as node
 use Rattle.cv_base.specs.declared.tree.TreeEntry.{TreeEntry}
-use Rattle.cv_packages.specs.Found.{found_in}
 use Rattle.cv_packages.specs.Packages.{assembled, packages}
 use Rattle.cv_npm.specs.declared.package.NpmPackage.{NpmPackage}
-use Rattle.cv_packages.specs.declared.found.FileFound.{FileFound}
-use Rattle.cv_packages.specs.declared.found.Found.TheVariants as found
+use Rattle.cv_package_files.specs.declared.found.FileFound.{FileFound}
+use Rattle.cv_package_files.specs.declared.found.Found.TheVariants as found
 use Rattle.cv_packages.specs.declared.error.FileFault.TheVariants.{BadFile, TooLarge}
 
 abbrev file : List ℕ → List ℕ → TreeEntry
@@ -130,7 +127,3 @@ first_refused = (refl, refl)
 ignored : packages (large (codes "srv/data") ∷ other (codes "var/lib/dpkg/status") ∷ []) ≡ Ok []
 unfolding packages
 ignored = refl
-
--- a file of more bytes than the limit is too large at each place
-large_file : (place : Place) (bytes : List ℕ) → nat_lt PACKAGE_FILE_LIMIT (length bytes) ≡ true → found_in place (content.Bytes bytes) ≡ found.TooLarge
-large_file place bytes h = rw h refl

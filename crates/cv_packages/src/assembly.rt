@@ -6,12 +6,13 @@ ghost use Rattle.cv_packages.specs.Faults.{refused_file};
 ghost use Rattle.cv_packages.specs.Packages.{all_packages, assembled, counted, is_etc_os, is_usr_os, packages_in, system, system_in};
 
 use crate::error::{FileFault, PackagesError};
-use crate::found::{FileFound, Found};
-use crate::package::{apk_packages, deb_packages, npm_packages};
+use crate::package::packages_of;
 use cv_base::{FileBad, Package, Place, RelPath, place};
 use cv_osrel::OsName;
+use cv_package_files::{FileFound, Found};
 use cv_seq::{NoMemory, Seq};
 use std::alloc::Global;
+use std::slice;
 
 /// The packages of the package files of a root, which stand in the order of their paths, or the first file that is refused.
 /// The first os-release names the system, and `usr/lib/os-release` does not count beside `etc/os-release`.
@@ -110,10 +111,10 @@ fn packages_in(
     ensures { Yields refused_file (λ packages. packages.items) result (packages_in (option_map (λ name. name.now) os.entry) path.now found.now) }
 {
     match found {
-        Found::Status(found) => Ok(deb_packages(alloc, os, path, found.as_slice())?),
-        Found::Installed(found) => Ok(apk_packages(alloc, os, path, found.as_slice())?),
-        Found::Os(_) => Ok(Vec::new(alloc)),
-        Found::Npm(found) => Ok(npm_packages(alloc, os, path, found.as_ref())?),
+        Found::Status(found) => Ok(packages_of(alloc, os, path, found.as_slice())?),
+        Found::Installed(found) => Ok(packages_of(alloc, os, path, found.as_slice())?),
+        Found::Npm(Some(found)) => Ok(packages_of(alloc, os, path, slice::from_ref(found))?),
+        Found::Npm(None) | Found::Os(_) => Ok(Vec::new(alloc)),
         Found::Bad(bad) => Err(PackagesError::Refused(FileFault::BadFile {
             path: path.clone()?,
             line: bad.line,

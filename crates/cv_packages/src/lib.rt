@@ -1,5 +1,4 @@
-//! Reads the packages of a root: what each package file has, by its place alone, and then the packages of all files, of which
-//! the os-release names the system.
+//! Assembles the packages of a root from its package files, of which the os-release names the system.
 //!
 //! ```text
 //! let found = read_file(alloc, Place::Status, &content)?;
@@ -10,13 +9,10 @@
 
 mod assembly;
 mod error;
-mod found;
 mod package;
-mod read;
 mod root;
 
 pub use assembly::assemble;
+pub use cv_package_files::{FileFound, Found, read_file};
 pub use error::{FileFault, PackagesError};
-pub use found::{FileFound, Found};
-pub use read::read_file;
 pub use root::read_packages;

@@ -1,6 +1,8 @@
-ghost use Rattle.std.specs.Prelude.{◌≡◌, map, IfOk, Option};
-ghost use Rattle.std.specs.Option.{option_map, option_to_list};
-ghost use Rattle.cv_packages.specs.Packages.{apk_package, deb_package, npm_package};
+ghost use Rattle.std.specs.Prelude.{◌≡◌, map, IfOk};
+ghost use Rattle.std.specs.Option.{option_map};
+ghost use Rattle.cv_base.specs.declared.package.PackageKind.{PackageKind};
+ghost use Rattle.cv_osrel.specs.Ecosystem.{eco};
+ghost use Rattle.cv_packages.specs.code.Texts.{Texts, package_with, texts_in};
 
 use cv_apkdb::ApkPackage;
 use cv_base::{Package, PackageKind, RelPath};
@@ -10,90 +12,145 @@ use cv_osrel::{OsName, ecosystem};
 use cv_seq::{NoMemory, Text};
 use std::alloc::Global;
 
-/// Packages of a dpkg status file.
-pub fn deb_packages(
+/// The texts of a package of any kind. Without an architecture it is the empty text.
+pub(crate) struct PackageTexts<'a> {
+    name: &'a Text,
+    version: &'a Text,
+    source: &'a Text,
+    source_version: &'a Text,
+    arch: Option<&'a Text>,
+}
+
+/// A package as the reader of its kind gives it.
+pub(crate) trait KindPackage: Sized {
+    ghost kind: { PackageKind };
+
+    ghost texts_of: { Self → Texts };
+
+    fn kind() -> PackageKind
+        ensures { result ≡ kind };
+
+    fn texts(&self) -> PackageTexts<'_>
+        ensures { texts_in result ≡ texts_of self.now };
+}
+
+impl KindPackage for DebPackage {
+    ghost use Rattle.cv_base.specs.declared.package.PackageKind.TheVariants as kinds;
+    ghost use Rattle.cv_packages.specs.code.Texts.{deb_texts};
+
+    ghost kind = { kinds.Deb };
+
+    ghost texts_of = { deb_texts };
+
+    fn kind() -> PackageKind {
+        PackageKind::Deb
+    }
+
+    fn texts(&self) -> PackageTexts<'_> {
+        PackageTexts {
+            name: &self.name,
+            version: &self.version,
+            source: &self.source,
+            source_version: &self.source_version,
+            arch: Some(&self.arch),
+        }
+    }
+}
+
+/// The version of the source is the package's own.
+impl KindPackage for ApkPackage {
+    ghost use Rattle.cv_base.specs.declared.package.PackageKind.TheVariants as kinds;
+    ghost use Rattle.cv_packages.specs.code.Texts.{apk_texts};
+
+    ghost kind = { kinds.Apk };
+
+    ghost texts_of = { apk_texts };
+
+    fn kind() -> PackageKind {
+        PackageKind::Apk
+    }
+
+    fn texts(&self) -> PackageTexts<'_> {
+        PackageTexts {
+            name: &self.name,
+            version: &self.version,
+            source: &self.origin,
+            source_version: &self.version,
+            arch: Some(&self.arch),
+        }
+    }
+}
+
+/// The package is its own source.
+impl KindPackage for NpmPackage {
+    ghost use Rattle.cv_base.specs.declared.package.PackageKind.TheVariants as kinds;
+    ghost use Rattle.cv_packages.specs.code.Texts.{npm_texts};
+
+    ghost kind = { kinds.Npm };
+
+    ghost texts_of = { npm_texts };
+
+    fn kind() -> PackageKind {
+        PackageKind::Npm
+    }
+
+    fn texts(&self) -> PackageTexts<'_> {
+        PackageTexts {
+            name: &self.name,
+            version: &self.version,
+            source: &self.name,
+            source_version: &self.version,
+            arch: None,
+        }
+    }
+}
+
+/// The packages of a file.
+pub(crate) fn packages_of<P: KindPackage>(
     alloc: Global,
     os: Option<&OsName>,
     path: &RelPath,
-    found: &[DebPackage],
+    found: &[P],
 ) -> Result<Vec<Package>, NoMemory>
-    ensures { IfOk result (λ out. out.items ≡ map (deb_package (option_map (λ name. name.now) os.entry) path.now) found.now) }
+    ensures { IfOk result (λ out. out.items ≡ map (λ p. package_with P.kind path.now (eco (option_map (λ name. name.now) os.entry) P.kind) (P.texts_of p)) found.now) }
 {
-    let ecosystem = ecosystem(alloc, os, PackageKind::Deb)?;
+    let kind = P::kind();
+    let ecosystem = ecosystem(alloc, os, kind)?;
     let mut out = Vec::new(alloc);
     for package in found {
-        out.push(Package {
-            kind: PackageKind::Deb,
-            path: path.clone()?,
-            name: package.name.clone()?,
-            version: package.version.clone()?,
-            source: package.source.clone()?,
-            source_version: package.source_version.clone()?,
-            arch: package.arch.clone()?,
-            ecosystem: ecosystem.clone()?,
-        })?;
+        out.push(package_with(alloc, kind, path, &ecosystem, package.texts())?)?;
     }
     Ok(out)
 }
 
-/// Packages of apk's installed database. The version of the source is the package's own.
-pub fn apk_packages(
+fn package_with(
     alloc: Global,
-    os: Option<&OsName>,
+    kind: PackageKind,
     path: &RelPath,
-    found: &[ApkPackage],
-) -> Result<Vec<Package>, NoMemory>
-    ensures { IfOk result (λ out. out.items ≡ map (apk_package (option_map (λ name. name.now) os.entry) path.now) found.now) }
-{
-    let ecosystem = ecosystem(alloc, os, PackageKind::Apk)?;
-    let mut out = Vec::new(alloc);
-    for package in found {
-        out.push(Package {
-            kind: PackageKind::Apk,
-            path: path.clone()?,
-            name: package.name.clone()?,
-            version: package.version.clone()?,
-            source: package.origin.clone()?,
-            source_version: package.version.clone()?,
-            arch: package.arch.clone()?,
-            ecosystem: ecosystem.clone()?,
-        })?;
-    }
-    Ok(out)
-}
-
-/// The package of a package.json, if it names one.
-pub fn npm_packages(
-    alloc: Global,
-    os: Option<&OsName>,
-    path: &RelPath,
-    found: Option<&NpmPackage>,
-) -> Result<Vec<Package>, NoMemory>
-    ensures { IfOk result (λ out. out.items ≡ map (npm_package (option_map (λ name. name.now) os.entry) path.now) (option_to_list (option_map (λ p. p.now) found.entry))) }
-{
-    let mut out = Vec::new(alloc);
-    if let Some(package) = found {
-        out.push(npm_package(alloc, os, path, package)?)?;
-    }
-    Ok(out)
-}
-
-fn npm_package(
-    alloc: Global,
-    os: Option<&OsName>,
-    path: &RelPath,
-    found: &NpmPackage,
+    ecosystem: &Text,
+    texts: PackageTexts<'_>,
 ) -> Result<Package, NoMemory>
-    ensures { IfOk result (λ out. out ≡ npm_package (option_map (λ name. name.now) os.entry) path.now found.now) }
+    ensures { IfOk result (λ out. out ≡ package_with kind path.now ecosystem.now (texts_in texts.entry)) }
 {
+    let PackageTexts {
+        name,
+        version,
+        source,
+        source_version,
+        arch,
+    } = texts;
+    let arch = match arch {
+        Some(arch) => arch.clone()?,
+        None => Text::of(alloc, "")?,
+    };
     Ok(Package {
-        kind: PackageKind::Npm,
+        kind,
         path: path.clone()?,
-        name: found.name.clone()?,
-        version: found.version.clone()?,
-        source: found.name.clone()?,
-        source_version: found.version.clone()?,
-        arch: Text::of(alloc, "")?,
-        ecosystem: ecosystem(alloc, os, PackageKind::Npm)?,
+        name: name.clone()?,
+        version: version.clone()?,
+        source: source.clone()?,
+        source_version: source_version.clone()?,
+        arch,
+        ecosystem: ecosystem.clone()?,
     })
 }

@@ -27,6 +27,3 @@ pub use filling::fill;
 pub use hand::Hand;
 pub use laws::{hand_laws, weight_laws};
 pub use taken::{Taken, gather};
-
-#[cfg(test)]
-mod tests;

@@ -1,7 +1,5 @@
-//! Tests of `cv_request`, in a crate of their own, since a crate with tests is proved twice.
+//! Tests of `cv_request`: requests. Those of manifests are in `cv_manifest_tests`.
 #![tactic(auto)]
 
-#[cfg(test)]
-mod manifest;
 #[cfg(test)]
 mod read;

@@ -114,26 +114,43 @@ static REFUSED: [(&str, RequestFault); 5] = [
     ),
 ];
 
-/// Numbers of notifications at their edges, and of a member that stands twice the last one.
-static NUMBERS: [(&str, u64); 6] = [
-    (r#"{"do":"ack","number":0}"#, 0),
-    (r#"{"do":"ack","number":4294967296}"#, 4_294_967_296),
+/// Requests to acknowledge, each with its lane and its number: numbers at their edges, and of a member that stands twice the
+/// last one.
+static ACKS: [(&str, u8, u64); 9] = [
+    (r#"{"do":"ack","number":0}"#, 0, 0),
+    (
+        r#"{"do":"ack","lane":0,"number":4294967296}"#,
+        0,
+        4_294_967_296,
+    ),
     (
         r#"{"do":"ack","number":9223372036854775808}"#,
+        0,
         9_223_372_036_854_775_808,
     ),
-    (r#"{"do":"ack","number":18446744073709551615}"#, u64::MAX),
-    (r#"{"do":"ack","number":null,"number":2}"#, 2),
-    (r#"{"image":null,"do":"ack","page":0,"number":3,"x":[]}"#, 3),
+    (r#"{"do":"ack","number":18446744073709551615}"#, 0, u64::MAX),
+    (r#"{"do":"ack","number":null,"number":2}"#, 0, 2),
+    (
+        r#"{"image":null,"do":"ack","page":0,"number":3,"x":[]}"#,
+        0,
+        3,
+    ),
+    (r#"{"lane":1,"do":"ack","number":4}"#, 1, 4),
+    (r#"{"do":"ack","number":4,"lane":7}"#, 7, 4),
+    (r#"{"lane":8,"do":"ack","lane":1,"number":4}"#, 1, 4),
 ];
 
-/// Requests with their lanes.
-static LANES: [(&str, u8); 4] = [
-    (r#"{"do":"list"}"#, 0),
-    (r#"{"do":"list","lane":0}"#, 0),
-    (r#"{"do":"list","lane":7}"#, 7),
-    (r#"{"lane":8,"do":"list","lane":1}"#, 1),
-];
+/// Requests of an image that are not to register it.
+const DROP: &str =
+    r#"{"do":"drop","image":"sha256:1111111111111111111111111111111111111111111111111111111111111111"}"#;
+
+const REPORT: &str =
+    r#"{"do":"report","image":"sha256:1111111111111111111111111111111111111111111111111111111111111111"}"#;
+
+const REGISTER: &str =
+    r#"{"do":"register","manifest":{"hash":"sha256:1111111111111111111111111111111111111111111111111111111111111111","layers":[{"hash":"sha256:2222222222222222222222222222222222222222222222222222222222222222","uri":"u","headers":{}}]}}"#;
+
+const PAGE: &str = r#"{"do":"page","page":18446744073709551615,"number":0,"size":1000}"#;
 
 /// The fault of a line, if it has one.
 fn fault_of(alloc: Global, line: &str) -> Result<Option<RequestFault>, Fail> {
@@ -162,20 +179,37 @@ fn the_first_fault_of_a_line_is_the_answer(rt: HostRuntime) -> Result<(), Fail> 
 }
 
 #[test]
-fn numbers_have_64_bits(rt: HostRuntime) -> Result<(), Fail> {
-    for (line, number) in NUMBERS {
+fn a_request_has_a_lane_and_a_number(rt: HostRuntime) -> Result<(), Fail> {
+    for (line, lane, number) in ACKS {
         let request = read_request(rt.alloc(), line.as_bytes())?;
         assert_eq!(rt; request.act, Act::Ack(number), "{line}");
+        assert_eq!(rt; request.lane, lane, "{line}");
     }
     Ok(())
 }
 
 #[test]
-fn a_request_has_a_lane(rt: HostRuntime) -> Result<(), Fail> {
-    for (line, lane) in LANES {
-        let request = read_request(rt.alloc(), line.as_bytes())?;
-        assert_eq!(rt; request.act, Act::List, "{line}");
-        assert_eq!(rt; request.lane, lane, "{line}");
+fn a_command_has_its_members(rt: HostRuntime) -> Result<(), Fail> {
+    let alloc = rt.alloc();
+    let image = Digest::of([0x11; 32]);
+    let manifest = Manifest {
+        hash: image,
+        layers: Seq::of(vec![in alloc; Digest::of([0x22; 32])]?),
+    };
+    let page = Act::Page {
+        number: 0,
+        size: 1000,
+        page: u64::MAX,
+    };
+    for (line, act) in [
+        (REGISTER, Act::Register(manifest)),
+        (DROP, Act::DropImage(image)),
+        (REPORT, Act::Report(image)),
+        (PAGE, page),
+        (r#"{"do":"list"}"#, Act::List),
+    ] {
+        let request = read_request(alloc, line.as_bytes())?;
+        assert_eq!(rt; request.act, act, "{line}");
     }
     Ok(())
 }
@@ -203,38 +237,6 @@ fn a_line_nests_127_values(rt: HostRuntime) -> Result<(), Fail> {
 }
 
 #[test]
-fn an_image_is_registered(rt: HostRuntime) -> Result<(), Fail> {
-    let alloc = rt.alloc();
-    let line =
-        r#"{"do":"register","manifest":{"hash":"sha256:1111111111111111111111111111111111111111111111111111111111111111","layers":[{"hash":"sha256:2222222222222222222222222222222222222222222222222222222222222222","uri":"u","headers":{}}]}}"#;
-    let request = read_request(alloc, line.as_bytes())?;
-    let manifest = Manifest {
-        hash: Digest::of([0x11; 32]),
-        layers: Seq::of(vec![in alloc; Digest::of([0x22; 32])]?),
-    };
-    assert_eq!(rt; request.act, Act::Register(manifest));
-    Ok(())
-}
-
-#[test]
-fn an_image_is_dropped(rt: HostRuntime) -> Result<(), Fail> {
-    let line =
-        r#"{"do":"drop","image":"sha256:1111111111111111111111111111111111111111111111111111111111111111"}"#;
-    let request = read_request(rt.alloc(), line.as_bytes())?;
-    assert_eq!(rt; request.act, Act::DropImage(Digest::of([0x11; 32])));
-    Ok(())
-}
-
-#[test]
-fn a_report_has_an_image(rt: HostRuntime) -> Result<(), Fail> {
-    let line =
-        r#"{"do":"report","image":"sha256:1111111111111111111111111111111111111111111111111111111111111111"}"#;
-    let request = read_request(rt.alloc(), line.as_bytes())?;
-    assert_eq!(rt; request.act, Act::Report(Digest::of([0x11; 32])));
-    Ok(())
-}
-
-#[test]
 fn an_update_has_a_feed_and_records(rt: HostRuntime) -> Result<(), Fail> {
     let line =
         r#"{"do":"update","feed":"a.z_0-9","advisories":[{"id":"B","modified":"m"},{"id":"A","modified":"m"}]}"#;
@@ -251,25 +253,14 @@ fn an_update_has_a_feed_and_records(rt: HostRuntime) -> Result<(), Fail> {
     Ok(())
 }
 
-#[test]
-fn a_page_has_three_numbers(rt: HostRuntime) -> Result<(), Fail> {
-    let line = r#"{"do":"page","page":18446744073709551615,"number":0,"size":1000}"#;
-    let request = read_request(rt.alloc(), line.as_bytes())?;
-    let page = Act::Page {
-        number: 0,
-        size: 1000,
-        page: u64::MAX,
-    };
-    assert_eq!(rt; request.act, page);
-    Ok(())
-}
-
 fn is_shared<T: Send + Sync>() {}
 
 #[test]
-fn threads_may_share_a_request() {
+fn threads_may_share_a_request_and_a_refusal() {
     is_shared::<Request>();
     is_shared::<Act>();
+    is_shared::<RequestError>();
+    is_shared::<RequestFault>();
 }
 
 /// As many bytes as a line of the input may have.

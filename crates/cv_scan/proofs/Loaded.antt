@@ -6,7 +6,7 @@ use Rattle.std.proofs.Common.{ap}
 use Rattle.cv_base.specs.Path.{Path}
 use Rattle.cv_base.specs.Place.{place_of}
 use Rattle.cv_base.specs.declared.limits.TheConstants.{PACKAGE_FILE_LIMIT}
-use Rattle.cv_base.specs.declared.places.Place.{Place}
+use Rattle.cv_path.specs.declared.places.Place.{Place}
 use Rattle.cv_base.specs.declared.tree.Content.{Content}
 use Rattle.cv_base.specs.declared.tree.Content.TheVariants.{Bytes, TooLarge, Unread}
 use Rattle.cv_base.specs.declared.tree.Node.{Node}
@@ -19,7 +19,7 @@ use Rattle.cv_overlay.specs.Mark.{is_dir_node, outline}
 use Rattle.cv_packages.specs.Files.{file_of, files_found}
 use Rattle.cv_packages.specs.Found.{found_at}
 use Rattle.cv_packages.specs.Packages.{assembled, packages}
-use Rattle.cv_packages.specs.declared.found.Found.TheVariants as found
+use Rattle.cv_package_files.specs.declared.found.Found.TheVariants as found
 
 -- what loading makes of a node of a root
 abbrev pub load_content : Path → Content → Content

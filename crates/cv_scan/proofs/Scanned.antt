@@ -1,66 +1,35 @@
 -- An image is scanned as it is stored, whatever loading leaves out.
-use Rattle.std.specs.Prelude.{◌≡◌, ℕ, ◌+◌, ◌≤◌, Bool, true, false, ◌||◌, not, filter, if◌then◌else◌, cond, List, [], ◌∷◌, length, map, Option, Some, None, Result, Ok, Err, IfSome, refl}
+use Rattle.std.specs.Prelude.{◌≡◌, ℕ, ◌+◌, Bool, true, false, ◌||◌, if◌then◌else◌, List, [], ◌∷◌, length, map, Option, Some, None, Result, Ok, Err, IfSome, refl}
 use Rattle.std.specs.List.{AllByRecursion}
 use Rattle.std.specs.Option.{option_map}
 use Rattle.std.specs.Result.{result_unwrap_or}
-use Rattle.std.proofs.Common.{ap, arith, sym, subst, ◌∙◌}
+use Rattle.std.proofs.Common.{ap, sym, subst, ◌∙◌}
 use Rattle.std.proofs.lemmas.Option.{same_Some}
 use Rattle.cv_base.specs.Answer.{Gives}
 use Rattle.cv_base.specs.Texts.{has_text, same}
 use Rattle.cv_base.specs.declared.advisory.Advisory.{Advisory}
 use Rattle.cv_base.specs.declared.finding.Finding.{Finding}
 use Rattle.cv_base.specs.declared.tree.TreeEntry.{TreeEntry}
-use Rattle.cv_base.proofs.Same.{same_is, same_self}
+use Rattle.cv_base.proofs.Same.{same_is}
 use Rattle.cv_desk.specs.Loaded.{loaded, whole}
 use Rattle.cv_desk.specs.Stored.{Stored}
 use Rattle.cv_overlay.specs.declared.fault.ImageFault.{ImageFault}
-use Rattle.cv_scan.specs.Layers.{AreListed, IsScanned, distinct, is_desk_fault, stored_layers, whole_layers, with_stored}
-use Rattle.cv_scan.specs.code.Layers.{IsOfLayers, IsLoaded, is_image_memory, refusing, tree_in}
+use Rattle.cv_layers.proofs.Seen.{AreSeen, all_seen}
+use Rattle.cv_scan.specs.Layers.{IsScanAnswer, IsScanned, distinct, is_desk_fault, stored_layers, whole_layers, with_stored}
+use Rattle.cv_scan.specs.code.Layers.{IsLoaded, is_image_memory, refusing, tree_in}
 use Rattle.cv_scan.specs.Scan.{Scanned, scan}
-use Rattle.cv_scan.specs.declared.error.ImageError.{ImageError}
-use Rattle.cv_scan.specs.declared.error.ImageError.TheVariants as error
-use Rattle.cv_scan.specs.declared.layers.LoadedLayer.{LoadedLayer}
+use Rattle.cv_layers.specs.declared.error.ImageError.{ImageError}
+use Rattle.cv_layers.specs.declared.error.ImageError.TheVariants as error
+use Rattle.cv_scan.specs.declared.loader.LoadedLayer.{LoadedLayer}
+use Rattle.cv_seq.specs.Cause.{CausedBy}
 use Rattle.cv_scan.proofs.Loaded.{loaded_is}
 use Rattle.cv_scan.proofs.RootLoaded.{load_layer, scan_loaded}
+use Rattle.cv_scan.proofs.ScanAnswers.{read_answer}
 
 abbrev layer_in : LoadedLayer → List ℕ
 layer_in x = x.layer
 
--- Each layer of an image is among the distinct ones.
-
-never : (b : Bool) → b ≡ true → b ≡ false → ⊥
-never true h k = cc
-never false h k = cc
-
-seen_filter : (layer other : List ℕ) (ds : List (List ℕ)) → same layer other ≡ false → has_text ds other ≡ true → has_text (filter (λ d. not (same layer d)) ds) other ≡ true
-seen_filter layer other [] h k = k
-seen_filter layer other (d ∷ ds) h k = by_tests (same layer d) (same d other) refl refl k (λ l. seen_filter layer other ds h l) where
-  by_tests : (a b : Bool) → same layer d ≡ a → same d other ≡ b → (b || has_text ds other) ≡ true
-      → (has_text ds other ≡ true → has_text (filter (λ d. not (same layer d)) ds) other ≡ true)
-      → has_text (cond (not a) (d ∷ filter (λ d. not (same layer d)) ds) (filter (λ d. not (same layer d)) ds)) other ≡ true
-  by_tests true true e f l rest = absurd (never (same layer other) (ap (λ x. same x other) (same_is layer d e) ∙ f) h)
-  by_tests true false e f l rest = rest l
-  by_tests false true e f l rest = ap (λ c. c || has_text (filter (λ d. not (same layer d)) ds) other) f
-  by_tests false false e f l rest = ap (λ c. c || has_text (filter (λ d. not (same layer d)) ds) other) f ∙ rest l
-
-abbrev pub AreSeen : List (List ℕ) → List (List ℕ) → Type 0
-AreSeen ds layers = AllByRecursion (λ layer. has_text ds layer ≡ true) layers
-
-seen_behind : (layer : List ℕ) (ds : List (List ℕ)) (layers : List (List ℕ)) → AreSeen ds layers → AreSeen (layer ∷ filter (λ d. not (same layer d)) ds) layers
-seen_behind layer ds [] h = tt
-seen_behind layer ds (other ∷ others) h = (by_test (same layer other) refl, seen_behind layer ds others h.1) where
-  by_test : (b : Bool) → same layer other ≡ b → (same layer other || has_text (filter (λ d. not (same layer d)) ds) other) ≡ true
-  by_test true e = ap (λ c. c || has_text (filter (λ d. not (same layer d)) ds) other) e
-  by_test false e = ap (λ c. c || has_text (filter (λ d. not (same layer d)) ds) other) e ∙ seen_filter layer other ds e h.0
-
-pub all_seen : (layers : List (List ℕ)) → AreSeen (distinct layers) layers
-all_seen [] = tt
-all_seen (layer ∷ layers) = (
-  ap (λ c. c || has_text (filter (λ d. not (same layer d)) (distinct layers)) layer) (same_self layer),
-  seen_behind layer (distinct layers) layers (all_seen layers),
-)
-
--- And so each was loaded as it is stored.
+-- Each layer was loaded as it is stored.
 
 abbrev pub load_stored : Option (List Stored) → Option (List TreeEntry)
 load_stored = option_map (map loaded)
@@ -144,7 +113,7 @@ by_stored xs layers (Some stored) feeds answer h k =
     given_is answer (scan (whole_layers stored) feeds) (subst (λ scanned. Gives is_image_memory (λ found. found) answer (refusing scanned)) (scan_is xs layers stored feeds h) k)
 
 -- an answer from what was loaded is one from what is stored
-pub scanned_stored : (trees : List ℕ → Option (Option (List Stored))) (xs : List LoadedLayer) (layers : List (List ℕ)) (feeds : List (List ℕ × List Advisory)) (answer : Result (List Finding) ImageError)
+scanned_stored : (trees : List ℕ → Option (Option (List Stored))) (xs : List LoadedLayer) (layers : List (List ℕ)) (feeds : List (List ℕ × List Advisory)) (answer : Result (List Finding) ImageError)
     → map layer_in xs ≡ distinct layers → AllByRecursion (IsLoaded trees) xs
     → Gives is_image_memory (λ found. found) answer (refusing (scan (map (tree_in xs) layers) feeds))
     → IfSome (stored_layers trees layers) (λ stored. IsScanned answer (scan (whole_layers stored) feeds))
@@ -152,31 +121,18 @@ scanned_stored trees xs layers feeds answer h all k =
     by_stored xs layers (stored_layers trees layers) feeds answer
     (found_all trees xs layers all (subst (λ ds. AreSeen ds layers) (sym h) (all_seen layers))) k
 
--- A failure to load says nothing of the image.
+loaded_unblamed : (scanned : Scanned) (answer : Result (List Finding) ImageError) → Gives is_image_memory (λ found. found) answer (refusing scanned) → is_desk_fault answer ≡ false
+loaded_unblamed scanned (Ok found) h = refl
+loaded_unblamed scanned (Err (error.Bad bad)) h = refl
+loaded_unblamed (Ok found) (Err (error.Desk layer)) h = cc
+loaded_unblamed (Err bad) (Err (error.Desk layer)) h = cc
+loaded_unblamed scanned (Err error.NoMemory) h = refl
 
-failed_scanned : (layers : List (List ℕ)) (before now : ℕ) (e : ImageError) (scanned : Scanned) → IsOfLayers layers before now e → IsScanned (Err e) scanned
-failed_scanned layers before now (error.Bad bad) scanned h = absurd h
-failed_scanned layers before now (error.Desk layer) scanned h = tt
-failed_scanned layers before now error.NoMemory scanned h = tt
-
-pub failed_answer : (known : Option (List (Option (List Stored)))) (layers : List (List ℕ)) (before now : ℕ) (e : ImageError) (feeds : List (List ℕ × List Advisory))
-    → IsOfLayers layers before now e → IfSome known (λ stored. IsScanned (Err e) (scan (whole_layers stored) feeds))
-failed_answer None layers before now e feeds h = tt
-failed_answer (Some stored) layers before now e feeds h = failed_scanned layers before now e (scan (whole_layers stored) feeds) h
-
-pub failed_listed : (layers : List (List ℕ)) (before now : ℕ) (e : ImageError) → IsOfLayers (distinct layers) before now e → AreListed layers before now (Err e)
-failed_listed layers before now (error.Bad bad) h = absurd h
-failed_listed layers before now (error.Desk layer) h = h
-failed_listed layers before now error.NoMemory h = h
-
--- What was loaded was listed, whatever comes of it then.
-
-at_most_is : (n m : ℕ) → n ≡ m → n ≤ m
-at_most_is n m h = omega (arith, h)
-
-pub listed_then : (layers : List (List ℕ)) (before now : ℕ) (answer : Result (List Finding) ImageError) → is_desk_fault answer ≡ false
-    → now ≡ before + length (distinct layers) → AreListed layers before now answer
-listed_then layers before now (Ok found) h k = k
-listed_then layers before now (Err (error.Bad bad)) h k = k
-listed_then layers before now (Err (error.Desk layer)) h k = cc
-listed_then layers before now (Err error.NoMemory) h k = at_most_is now (before + length (distinct layers)) k
+-- the answer from layers that were loaded
+pub loaded_answer : {D : Type 0} (trees : List ℕ → Option (Option (List Stored))) (listings faults : D → ℕ) (before now : D) (xs : List LoadedLayer) (layers : List (List ℕ)) (feeds : List (List ℕ × List Advisory)) (answer : Result (List Finding) ImageError)
+    → listings now ≡ listings before + length (distinct layers) → CausedBy (faults before) (faults now) false
+    → map layer_in xs ≡ distinct layers → AllByRecursion (IsLoaded trees) xs
+    → Gives is_image_memory (λ found. found) answer (refusing (scan (map (tree_in xs) layers) feeds))
+    → IsScanAnswer trees listings faults before now layers feeds answer
+loaded_answer trees listings faults before now xs layers feeds answer h k l all given =
+    read_answer trees listings faults before now layers feeds answer h k (loaded_unblamed (scan (map (tree_in xs) layers) feeds) answer given) (scanned_stored trees xs layers feeds answer l all given)

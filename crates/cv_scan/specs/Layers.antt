@@ -1,20 +1,17 @@
--- The layers of an image as a desk has them (defined by this project): each distinct layer is listed once, in the order of the
--- image.
-use Rattle.std.specs.Prelude.{◌≡◌, ℕ, ◌+◌, ◌≤◌, Bool, true, false, not, filter, List, [], ◌∷◌, length, map, Option, Some, None, Result, Ok, Err, slice_get}
+-- The layers of an image as a desk has them, and what an answer to its scan says (defined by this project).
+use Rattle.std.specs.Prelude.{◌≡◌, ℕ, ◌+◌, ◌≤◌, List, [], ◌∷◌, length, map, Option, Some, None, Result, Ok, Err, IfSome}
 use Rattle.std.specs.Option.{option_map}
-use Rattle.cv_base.specs.Texts.{same}
+use Rattle.cv_base.specs.declared.advisory.Advisory.{Advisory}
 use Rattle.cv_base.specs.declared.finding.Finding.{Finding}
 use Rattle.cv_base.specs.declared.tree.TreeEntry.{TreeEntry}
 use Rattle.cv_desk.specs.Loaded.{whole}
 use Rattle.cv_desk.specs.Stored.{Stored}
-use Rattle.cv_scan.specs.Scan.{Scanned}
-use Rattle.cv_scan.specs.declared.error.ImageError.{ImageError}
-use Rattle.cv_scan.specs.declared.error.ImageError.TheVariants as error
-
--- digests, each once, at the first place where it stands
-abbrev pub distinct : List (List ℕ) → List (List ℕ)
-distinct [] = []
-distinct (layer ∷ layers) = layer ∷ filter (λ other. not (same layer other)) (distinct layers)
+pub use Rattle.cv_layers.specs.Distinct.{distinct}
+pub use Rattle.cv_layers.specs.Failed.{IsFailed, is_desk_fault}
+use Rattle.cv_layers.specs.declared.error.ImageError.{ImageError}
+use Rattle.cv_layers.specs.declared.error.ImageError.TheVariants as error
+use Rattle.cv_scan.specs.Scan.{Scanned, scan}
+use Rattle.cv_seq.specs.Cause.{CausedBy}
 
 -- one layer before others, where both are known
 abbrev pub with_stored : Option (Option (List Stored)) → Option (List (Option (List Stored))) → Option (List (Option (List Stored)))
@@ -29,10 +26,6 @@ stored_layers trees (layer ∷ layers) = with_stored (trees layer) (stored_layer
 -- layers with all that is stored of them
 abbrev pub whole_layers : List (Option (List Stored)) → List (Option (List TreeEntry))
 whole_layers layers = map (option_map (map whole)) layers
-
--- the layer that a desk failed at is the one of index k, where the listings rose by k + 1
-abbrev pub IsFailed : List (List ℕ) → ℕ → ℕ → List ℕ → Type 0
-IsFailed layers before now layer = (k : ℕ) × (now ≡ before + k + 1) × (slice_get layers k ≡ Some layer)
 
 -- an answer is that of the definition. A layer that the desk failed at, and out of memory, say nothing of the image
 abbrev pub IsScanned : Result (List Finding) ImageError → Scanned → Type 0
@@ -49,9 +42,10 @@ AreListed layers before now (Err (error.Bad bad)) = now ≡ before + length (dis
 AreListed layers before now (Err (error.Desk layer)) = IsFailed (distinct layers) before now layer
 AreListed layers before now (Err error.NoMemory) = now ≤ before + length (distinct layers)
 
--- the answer is that the desk failed
-abbrev pub is_desk_fault : {A : Type 0} → Result A ImageError → Bool
-is_desk_fault (Ok x) = false
-is_desk_fault (Err (error.Bad bad)) = false
-is_desk_fault (Err (error.Desk layer)) = true
-is_desk_fault (Err error.NoMemory) = false
+-- the answer to the scan of an image with these feeds, by a desk with these counts, before and now: that of the definition, if the
+-- desk's type names all layers; each distinct layer was listed once; and the desk is blamed only if it failed
+pub record IsScanAnswer {D : Type 0} (trees : List ℕ → Option (Option (List Stored))) (listings faults : D → ℕ) (before now : D)
+    (layers : List (List ℕ)) (feeds : List (List ℕ × List Advisory)) (result : Result (List Finding) ImageError) : Type 0 where
+  pub answer : IfSome (stored_layers trees layers) (λ stored. IsScanned result (scan (whole_layers stored) feeds))
+  pub listed : AreListed layers (listings before) (listings now) result
+  pub cause : CausedBy (faults before) (faults now) (is_desk_fault result)

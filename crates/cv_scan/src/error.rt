@@ -1,55 +1,7 @@
-use cv_base::{Digest, RelPath, What};
-use cv_overlay::ImageFault;
+use cv_base::{RelPath, What};
 use cv_packages::FileFault;
 use cv_seq::NoMemory;
-use std::alloc::{AllocError, AllocFailed};
 use thiserror::Error;
-
-/// Why the scan of an image has no findings.
-#[derive(Debug, PartialEq, Eq, Drop, Error)]
-pub enum ImageError {
-    #[error("the image is bad: {0}")]
-    Bad(ImageFault),
-    /// The desk failed at this layer.
-    #[error("a layer could not be read")]
-    Desk(Digest),
-    #[error("out of memory")]
-    NoMemory,
-}
-
-impl From<NoMemory> for ImageError {
-    ghost use Rattle.std.specs.Prelude.{◌≡◌};
-    ghost use Rattle.cv_scan.specs.declared.error.ImageError.TheVariants as error;
-
-    ghost from_gives = { λ _ e. e ≡ error.NoMemory };
-
-    fn from(_error: NoMemory) -> ImageError {
-        ImageError::NoMemory
-    }
-}
-
-impl From<AllocError> for ImageError {
-    ghost use Rattle.std.specs.Prelude.{◌≡◌};
-    ghost use Rattle.cv_scan.specs.declared.error.ImageError.TheVariants as error;
-
-    ghost from_gives = { λ _ e. e ≡ error.NoMemory };
-
-    fn from(_error: AllocError) -> ImageError {
-        ImageError::NoMemory
-    }
-}
-
-/// The rejected value is dropped.
-impl<T: Drop> From<AllocFailed<T>> for ImageError {
-    ghost use Rattle.std.specs.Prelude.{◌≡◌};
-    ghost use Rattle.cv_scan.specs.declared.error.ImageError.TheVariants as error;
-
-    ghost from_gives = { λ _ e. e ≡ error.NoMemory };
-
-    fn from(_failed: AllocFailed<T>) -> ImageError {
-        ImageError::NoMemory
-    }
-}
 
 /// Why a root has no findings: its first package file, in the order of paths, that is refused.
 #[derive(Debug, PartialEq, Eq, Drop, Error)]

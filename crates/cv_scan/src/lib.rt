@@ -6,15 +6,12 @@
 #![tactic(auto)]
 
 mod error;
-mod find;
-mod index;
 mod laws;
-mod layers;
+mod loader;
 mod scan;
-mod slots;
 
-pub use error::{ImageError, ScanError};
-pub use find::find_all;
+pub use cv_feed::find_all;
+pub use cv_layers::{ImageError, distinct_layers};
+pub use error::ScanError;
 pub use laws::root_laws;
-pub use layers::distinct_layers;
 pub use scan::{scan_image, scan_root};

@@ -2,28 +2,27 @@ ghost use Rattle.std.specs.Prelude.{◌≡◌, ◌^◌, ◌<◌, ◌≤◌, ◌�
 ghost use Rattle.cv_base.specs.Answer.{Gives, Yields};
 ghost use Rattle.cv_base.specs.Path.{Path};
 ghost use Rattle.cv_overlay.specs.Lay.{node_at, root_of};
-ghost use Rattle.cv_seq.specs.Cause.{CausedBy};
 ghost use Rattle.cv_packages.specs.Faults.{refused_file};
 ghost use Rattle.cv_scan.specs.Faults.{scan_fault};
-ghost use Rattle.cv_scan.specs.Layers.{AreListed, IsScanned, is_desk_fault, stored_layers, whole_layers};
+ghost use Rattle.cv_scan.specs.Layers.{IsScanAnswer};
 ghost use Rattle.cv_scan.specs.code.Layers.{IsBadTree, is_image_memory, refusing, tree_in};
 ghost use Rattle.cv_scan.specs.Scan.{as_scanned, bad_tree_from, root_findings, scan, scan_of, trees_from};
 
-use crate::error::{ImageError, ScanError};
-use crate::find::find_all;
-use crate::layers::{LoadedLayer, load_layers, tree_of};
+use crate::error::ScanError;
+use crate::loader::{LoadedLayer, Loader, tree_of};
 use cv_base::{Advisory, Digest, Finding, MAX_LAYERS, Text, Tree, TreeEntry};
 use cv_desk::Desk;
+use cv_feed::find_all;
+use cv_layers::{ImageError, read_layers};
 use cv_overlay::{ImageFault, OverlayError, Root};
 use cv_packages::{PackagesError, read_packages};
-use cv_seq::Seq;
+use cv_seq::{NoMemory, Seq};
 use std::alloc::Global;
 
 /// Scans an image: loads each distinct layer once, in the order of the image, and returns the findings of the packages of
 /// its root with the records of the feed. Layers are given with the base first. `Bad` comes if all layers were loaded and
 /// the image cannot be scanned: a layer is missing, a tree is not good, or a package file is refused. `Desk` names the
 /// layer that the desk failed at. Neither it nor `NoMemory` says anything of the image.
-#[tactic(auto, using(crate::proofs::Scanned::failed_answer, crate::proofs::Scanned::failed_listed, crate::proofs::Scanned::listed_then))]
 pub fn scan_image<D: Desk>(
     alloc: Global,
     desk: &mut D,
@@ -33,11 +32,9 @@ pub fn scan_image<D: Desk>(
 ) -> Result<Seq<Finding>, ImageError>
     requires room { D.listings desk.old < 2 ^ 62 }
     requires at_most_128_layers { length layers.now ≤ MAX_LAYERS }
-    ensures answer { IfSome (stored_layers D.tree layers.now) (λ stored. IsScanned result (scan (whole_layers stored) ((feed.now, advisories.now) ∷ []))) }
-    ensures listed { AreListed layers.now (D.listings desk.old) (D.listings desk.new) result }
-    ensures cause { CausedBy (D.faults desk.old) (D.faults desk.new) (is_desk_fault result) }
+    ensures { IsScanAnswer D.tree D.listings D.faults desk.old desk.new layers.now ((feed.now, advisories.now) ∷ []) result }
 {
-    match load_layers(alloc, desk, layers) {
+    match read_layers::<D, Loader>(alloc, desk, layers) {
         Ok(loaded) => scan_loaded(alloc, layers, &loaded, feed, advisories),
         Err(error) => Err(error),
     }
@@ -105,7 +102,7 @@ fn trees_of<'a>(
     let mut trees = Vec::new(alloc);
     for (index, layer) in layers.iter().enumerate() {
         match tree_of(loaded, layer) {
-            Some(tree) => trees.push(tree)?,
+            Some(tree) => trees.push(tree).map_err(NoMemory::from)?,
             None => return Err(ImageError::Bad(ImageFault::NoLayer(index as u32))),
         }
     }

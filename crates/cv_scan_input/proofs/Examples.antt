@@ -3,7 +3,7 @@ use Rattle.std.specs.Prelude.{◌≡◌, ℕ, false, List, [], ◌∷◌, codes,
 use Rattle.cv_base.specs.declared.advisory.Advisory.{Advisory}
 use Rattle.cv_base.specs.declared.manifest.Manifest.{Manifest}
 use Rattle.cv_io.specs.Lines.{Reading, Stop, Finished, LongLine, LongInput}
-use Rattle.cv_osv.specs.declared.error.RecordWhat.TheVariants.{NoId}
+use Rattle.cv_osv_record.specs.declared.error.RecordWhat.TheVariants.{NoId}
 use Rattle.cv_request.specs.Line.{json_of}
 use Rattle.cv_request.specs.Manifest.{manifest_of}
 use Rattle.cv_request.specs.declared.error.RequestFault.TheVariants.{BadJson, BadRequest, BadAdvisory, DuplicateId}

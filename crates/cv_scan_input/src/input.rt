@@ -34,7 +34,8 @@ pub struct ScanInput {
 }
 
 /// Reads the input of a scan to its end, or up to the first line that is refused. At most one record at a time is in
-/// memory as JSON, and most of its texts are not copied.
+/// memory as JSON. A line with a number is read twice, and all of its texts are copied; of the other lines only the texts that
+/// are kept are copied, but for those with escapes.
 #[tactic(auto, using(crate::proofs::Accepted::begun_then, crate::proofs::Accepted::begun_new, crate::proofs::Taken::none_taken, crate::proofs::Taken::first_taken, crate::proofs::Taken::first_taken_up, crate::proofs::Taken::rest_taken, crate::proofs::Taken::rest_taken_up))]
 pub fn read_scan_input<S: Source>(alloc: Global, input: &mut S) -> Result<ScanInput, InputError>
     ensures request { IfSome (S.remaining input.old) (λ bytes. IsRequest (scan_request_of (input_of bytes)) result) }
@@ -125,6 +126,3 @@ fn read_rest<S: Source>(
         records: records.into_seq(),
     })
 }
-
-#[cfg(test)]
-mod tests;

@@ -1,3 +1,4 @@
+pub use Rattle.cv_round.specs.Round
 pub mod Ends
 pub mod Quiet
 pub mod Served

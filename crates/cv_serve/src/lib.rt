@@ -15,8 +15,6 @@ mod lines;
 mod print;
 mod round;
 mod service;
-#[cfg(test)]
-mod tests;
 
 pub use end::ServeEnd;
 pub use service::serve;

@@ -1,5 +1,5 @@
+pub use Rattle.cv_scan_output.proofs.Floats
 mod Examples
-pub mod Floats
 pub mod OrderLemmas
 pub mod Plain
 pub mod Tags

@@ -32,15 +32,15 @@ use Rattle.cv_request.specs.declared.error.RequestWhat.{RequestWhat}
 use Rattle.cv_request.specs.declared.error.RequestWhat.TheVariants as request_what
 use Rattle.cv_transcript.specs.declared.entry.Entry.{Entry}
 use Rattle.cv_transcript.specs.declared.entry.Entry.TheVariants.{Refused, Event, Read}
-use Rattle.cv_transcript.specs.Bad.{bad_data, bad_tree_data}
+use Rattle.cv_scan_output.specs.Bad.{bad_data, bad_tree_data}
 use Rattle.cv_transcript.specs.Entry.{entry_data}
 use Rattle.cv_transcript.specs.Event.{put_by, put_details, put_subject}
-use Rattle.cv_transcript.specs.Finding.{finding_data, fixed_data, items_of}
+use Rattle.cv_scan_output.specs.Finding.{finding_data, fixed_data, items_of}
 use Rattle.cv_transcript.specs.Members.{digest_data, put_number, put_text}
 use Rattle.cv_transcript.specs.Read.{answer_members, head_data, list_members, page_members, reply_members, report_members}
-use Rattle.cv_transcript.specs.Refusal.{bad_request_data, refusal_data}
+use Rattle.cv_scan_output.specs.Refusal.{bad_request_data, refusal_data}
 use Rattle.cv_transcript.specs.Rows.{row_data, rows_data}
-use Rattle.cv_transcript.proofs.Floats.{refusal_has_none}
+use Rattle.cv_scan_output.proofs.Floats.{refusal_has_none}
 
 -- no number has a point, and at most n deep
 abbrev pub IsPlain : ℕ → Data → Type 0

@@ -5,9 +5,9 @@ use Rattle.serde_json.specs.Written.{compact_text}
 use Rattle.cv_transcript.specs.declared.entry.Entry.{Entry}
 use Rattle.cv_transcript.specs.declared.entry.Entry.TheVariants.{Refused, Event, Read}
 use Rattle.cv_transcript.specs.Event.{event_data}
-use Rattle.cv_transcript.specs.Line.{line_text}
+use Rattle.cv_scan_output.specs.Line.{line_text}
 use Rattle.cv_transcript.specs.Read.{read_data}
-use Rattle.cv_transcript.specs.Refusal.{refusal_data}
+use Rattle.cv_scan_output.specs.Refusal.{refusal_data}
 
 -- the JSON value of an entry
 abbrev pub entry_data : Entry → Data

@@ -2,7 +2,7 @@
 use Rattle.std.specs.Prelude.{ℕ, List, map}
 use Rattle.serde_json.specs.Data.{Data, Members, array, number, put, string, unsigned}
 use Rattle.cv_base.specs.Digest.{digest_text}
-use Rattle.cv_transcript.specs.Finding.{items_of}
+use Rattle.cv_scan_output.specs.Finding.{items_of}
 
 -- with a text
 abbrev pub put_text : List ℕ → List ℕ → Members → Members

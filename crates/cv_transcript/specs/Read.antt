@@ -10,8 +10,8 @@ use Rattle.cv_records.specs.declared.read.PageOutcome.TheVariants as page
 use Rattle.cv_records.specs.declared.read.ReadEntry.{ReadEntry}
 use Rattle.cv_records.specs.declared.read.ReportOutcome.{ReportOutcome}
 use Rattle.cv_records.specs.declared.read.ReportOutcome.TheVariants as report
-use Rattle.cv_transcript.specs.Bad.{bad_data}
-use Rattle.cv_transcript.specs.Finding.{findings_data, items_of}
+use Rattle.cv_scan_output.specs.Bad.{bad_data}
+use Rattle.cv_scan_output.specs.Finding.{findings_data, items_of}
 use Rattle.cv_transcript.specs.Members.{put_digest, put_number, put_text}
 use Rattle.cv_transcript.specs.Rows.{rows_data}
 

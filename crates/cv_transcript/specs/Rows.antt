@@ -5,7 +5,7 @@ use Rattle.cv_base.specs.Digest.{digest_text}
 use Rattle.cv_base.specs.declared.finding.Reason.{Reason}
 use Rattle.cv_base.specs.declared.finding.Reason.TheVariants.{Added, Removed, Changed}
 use Rattle.cv_base.specs.declared.finding.Row.{Row}
-use Rattle.cv_transcript.specs.Finding.{finding_data, items_of}
+use Rattle.cv_scan_output.specs.Finding.{finding_data, items_of}
 
 -- a reason by its word
 abbrev pub reason_name : Reason → List ℕ

@@ -4,12 +4,11 @@ ghost use Rattle.cv_transcript.specs.Entry.{entry_data, entry_json, entry_text};
 ghost use Rattle.cv_transcript.specs.Tag.{entry_tag, tag_of_json};
 
 use crate::event::event_value;
-use crate::line::{ended, json_of};
 use crate::read::read_value;
-use crate::refusal::refusal_value;
 use cv_base::NoMemory;
 use cv_records::{EventEntry, ReadEntry};
 use cv_request::RequestError;
+use cv_scan_output::{ended, json_of, refusal_value};
 use serde_json::Value;
 use std::alloc::Global;
 
@@ -26,7 +25,7 @@ pub enum Entry {
 
 /// The line of an entry: its JSON and an LF. The tag that the JSON reads back as is that of the entry. It is stated of an entry
 /// that was printed, since its numbers have at most 64 bits.
-#[tactic(auto, unfolding(crate::specs::Entry::entry_text, crate::specs::Line::line_text))]
+#[tactic(auto, unfolding(crate::specs::Entry::entry_text, cv_scan_output::specs::Line::line_text))]
 pub fn entry_line(alloc: Global, entry: &Entry) -> Result<String, NoMemory>
     ensures text { IfOk result (λ line. string_bytes line ≡ entry_text entry.now) }
     ensures tag { OnOk result (tag_of_json (entry_json entry.now) ≡ Some (entry_tag entry.now)) }

@@ -4,9 +4,9 @@ ghost use Rattle.serde_json.specs.View.{members_view, view};
 ghost use Rattle.cv_transcript.specs.Event.{act_name, event_data, put_by, put_details, put_reply, put_subject, reply_name};
 ghost use Rattle.cv_transcript.specs.Members.{digest_data, digests_data};
 
-use crate::object::Object;
 use cv_base::{Digest, NoMemory};
 use cv_records::{Act, By, EventEntry, Reply};
+use cv_scan_output::Object;
 use serde_json::Value;
 use std::alloc::Global;
 

@@ -2,12 +2,10 @@ ghost use Rattle.std.specs.Prelude.{◌≡◌, IfOk};
 ghost use Rattle.serde_json.specs.View.{members_view, view};
 ghost use Rattle.cv_transcript.specs.Read.{answer_members, head_data, heads_data, list_members, page_members, read_data, reply_members, report_members};
 
-use crate::bad::bad_value;
-use crate::finding::findings_value;
-use crate::object::Object;
 use crate::rows::rows_value;
 use cv_base::NoMemory;
 use cv_records::{Answer, NoticeHead, PageOutcome, ReadEntry, ReportOutcome};
+use cv_scan_output::{Object, bad_value, findings_value};
 use serde_json::Value;
 use std::alloc::Global;
 

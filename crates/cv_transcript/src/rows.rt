@@ -2,9 +2,8 @@ ghost use Rattle.std.specs.Prelude.{◌≡◌, IfOk};
 ghost use Rattle.serde_json.specs.View.{view};
 ghost use Rattle.cv_transcript.specs.Rows.{reason_name, row_data, rows_data};
 
-use crate::finding::finding_value;
-use crate::object::Object;
 use cv_base::{NoMemory, Reason, Row};
+use cv_scan_output::{Object, finding_value};
 use serde_json::Value;
 use std::alloc::Global;
 

@@ -1,9 +1,5 @@
-//! Tests of `cv_transcript`, in a crate of their own, since a crate with tests is proved twice.
+//! Tests of `cv_transcript`: the lines of events and refused lines. Those of reads are in `cv_transcript_read_tests`.
 #![tactic(auto)]
 
 #[cfg(test)]
-mod bad;
-#[cfg(test)]
 mod entry;
-#[cfg(test)]
-mod refusal;

@@ -5,7 +5,7 @@ use Rattle.std.specs.List.Sorted.{IsStrictlySortedBy}
 use Rattle.std.specs.declared.cmp.Ordering.{Ordering}
 use Rattle.std.proofs.Common.{ap, arith, subst, sym, ◌∙◌}
 use Rattle.cv_tree.specs.Entries.{at, remade_entries, with_entry, without_key}
-use Rattle.cv_tree.specs.code.Nodes.{IsTree}
+use Rattle.cv_tree.specs.code.Trees.{IsTree}
 use Rattle.cv_tree.proofs.ChangeLemmas.{with_ascending, without_ascending}
 use Rattle.cv_tree.proofs.CountLemmas.{length-with_entry, length-without_key}
 use Rattle.cv_tree.proofs.RemadeLemmas.{length-remade, remade_keys}

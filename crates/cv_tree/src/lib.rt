@@ -9,15 +9,14 @@
 //! ```
 #![tactic(auto)]
 
-mod branch;
+mod change;
 mod laws;
 mod rebuild;
 mod remake;
-mod share;
+mod search;
 mod tree;
-mod turns;
 
+pub use cv_avl::{Share, Shared};
 pub use laws::{change_laws, value_laws};
 pub use remake::Remake;
-pub use share::{Share, Shared};
 pub use tree::Tree;

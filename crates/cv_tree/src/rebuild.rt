@@ -1,35 +1,32 @@
 ghost use Rattle.std.specs.Prelude.{◌≡◌, ◌+◌, ◌≤◌, ◌∷◌, ◌++◌, unwrap_or, IfOk, OnOk};
 ghost use Rattle.cv_tree.specs.Entries.{costs_of, remade_entries, rows_of};
-ghost use Rattle.cv_tree.specs.code.Nodes.{between};
+ghost use Rattle.cv_avl.specs.Nodes.{between};
 
-use crate::branch::{Branch, Fork};
 use crate::remake::Remake;
-use crate::share::Share;
+use cv_avl::{Branch, Fork, Share};
 use cv_seq::NoMemory;
 use std::alloc::Global;
 
-impl<K: Copy, V: Share + Drop> Branch<K, V> {
-    /// The same with the values that a maker gives, or None if each stays as it is. A branch of which nothing changes
-    /// is shared.
-    pub fn remake<M: Remake<K, V>>(
-        &self,
-        alloc: Global,
-        maker: &M,
-        rows: &mut Vec<M::Row>,
-        tally: &mut M::Tally,
-    ) -> Result<Option<Branch<K, V>>, NoMemory>
-        ensures value { IfOk result (λ new. unwrap_or new self.now ≡ remade_entries (M.made maker.now) self.now) }
-        ensures rows { OnOk result (rows.new.items ≡ rows.old.items ++ rows_of (M.added maker.now) self.now) }
-        ensures counted { M.costs tally.new ≤ M.costs tally.old + costs_of (M.cost maker.now) self.now }
-    {
-        let Some(fork) = self.fork() else {
-            return Ok(None);
-        };
-        let left = fork.left.remake(alloc, maker, rows, tally)?;
-        let value = maker.remake(alloc, fork.key, &fork.value, rows, tally)?;
-        let right = fork.right.remake(alloc, maker, rows, tally)?;
-        rebuilt(alloc, fork, left, value, right)
-    }
+/// The same branch with the values that a maker gives, or None if each stays as it is. A branch of which nothing changes
+/// is shared.
+pub fn remade<K: Copy, V: Share + Drop, M: Remake<K, V>>(
+    alloc: Global,
+    branch: &Branch<K, V>,
+    maker: &M,
+    rows: &mut Vec<M::Row>,
+    tally: &mut M::Tally,
+) -> Result<Option<Branch<K, V>>, NoMemory>
+    ensures value { IfOk result (λ new. unwrap_or new branch.now ≡ remade_entries (M.made maker.now) branch.now) }
+    ensures rows { OnOk result (rows.new.items ≡ rows.old.items ++ rows_of (M.added maker.now) branch.now) }
+    ensures counted { M.costs tally.new ≤ M.costs tally.old + costs_of (M.cost maker.now) branch.now }
+{
+    let Some(fork) = branch.fork() else {
+        return Ok(None);
+    };
+    let left = remade(alloc, &fork.left, maker, rows, tally)?;
+    let value = maker.remake(alloc, fork.key, &fork.value, rows, tally)?;
+    let right = remade(alloc, &fork.right, maker, rows, tally)?;
+    rebuilt(alloc, fork, left, value, right)
 }
 
 /// A node with new parts, where there are some, or None if there are none.

@@ -3,9 +3,10 @@ ghost use Rattle.std.specs.Map.{keys_of};
 ghost use Rattle.std.specs.Option.{option_map};
 ghost use Rattle.cv_tree.specs.Entries.{IsAscending, at, costs_of, first_entry, remade_entries, rows_of, with_entry, without_key};
 
-use crate::branch::Branch;
+use crate::rebuild::remade;
 use crate::remake::Remake;
-use crate::share::Share;
+use crate::{change, search};
+use cv_avl::{Branch, Share};
 use cv_seq::NoMemory;
 use std::alloc::Global;
 use std::marker::Model;
@@ -24,7 +25,7 @@ impl<K: Ord, V> Model for Tree<K, V> {
 
     ghost Value = { List (K × V) };
 
-    ghost use Rattle.cv_tree.specs.code.Nodes.{IsTree};
+    ghost use Rattle.cv_tree.specs.code.Trees.{IsTree};
 
     ghost view = { λ t. t.root };
 
@@ -60,7 +61,7 @@ impl<K: Ord, V> Tree<K, V> {
     pub fn get(&self, key: &K) -> Option<&V>
         ensures { option_map (λ v. v.now) result ≡ at K.cmp self.now key.now }
     {
-        self.root.get(key)
+        search::get(&self.root, key)
     }
 
     /// Whether there is a value at a key.
@@ -74,7 +75,7 @@ impl<K: Ord, V> Tree<K, V> {
     pub fn first(&self) -> Option<(&K, &V)>
         ensures { option_map (λ e. (e.0.now, e.1.now)) result ≡ first_entry self.now }
     {
-        self.root.first()
+        search::first(&self.root)
     }
 
     /// How many entries there are after one is set at a key.
@@ -111,7 +112,7 @@ impl<K: Ord + Copy, V> Tree<K, V> {
         ensures { IfOk result (λ keys. keys.items ≡ keys_of self.now) }
     {
         let mut keys = Vec::new(alloc);
-        self.root.push_keys(&mut keys)?;
+        search::push_keys(&self.root, &mut keys)?;
         Ok(keys)
     }
 
@@ -120,7 +121,7 @@ impl<K: Ord + Copy, V> Tree<K, V> {
         ensures { IfOk result (λ entries. map (λ e. (e.0, e.1.now)) entries.items ≡ self.now) }
     {
         let mut entries = Vec::new(alloc);
-        self.root.push_entries(&mut entries)?;
+        search::push_entries(&self.root, &mut entries)?;
         Ok(entries)
     }
 }
@@ -131,7 +132,7 @@ impl<K: Ord + Copy, V: Share + Drop> Tree<K, V> {
         ensures { IfOk result (λ t. t ≡ with_entry K.cmp self.now key value) }
     {
         let count = self.count_with(&key)?;
-        let root = self.root.set(alloc, key, value)?;
+        let root = change::set(alloc, &self.root, key, value)?;
         Ok(Tree { root, count })
     }
 
@@ -142,7 +143,7 @@ impl<K: Ord + Copy, V: Share + Drop> Tree<K, V> {
         if !self.contains(key) {
             return self.share();
         }
-        let root = self.root.without(alloc, key)?;
+        let root = change::without(alloc, &self.root, key)?;
         let count = self.len().saturating_sub(1);
         Ok(Tree { root, count })
     }
@@ -160,7 +161,7 @@ impl<K: Ord + Copy, V: Share + Drop> Tree<K, V> {
         ensures rows { OnOk result (rows.new.items ≡ rows.old.items ++ rows_of (M.added maker.now) self.now) }
         ensures counted { M.costs tally.new ≤ M.costs tally.old + costs_of (M.cost maker.now) self.now }
     {
-        match self.root.remake(alloc, maker, rows, tally)? {
+        match remade(alloc, &self.root, maker, rows, tally)? {
             None => self.share(),
             Some(root) => Ok(Tree {
                 root,

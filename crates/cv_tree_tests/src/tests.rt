@@ -23,54 +23,53 @@ fn filled(alloc: Global, keys: &[u64]) -> Result<Tree<u64, u64>, NoMemory> {
     Ok(tree)
 }
 
-#[test]
-fn numbers_go_in(rt: HostRuntime) -> Result<(), Fail> {
-    let tree = filled(rt.alloc(), &[5, 1, 9, 3, 7, 2, 8, 4, 6, 3])?;
-    assert_eq!(rt; tree.len(), 9);
-    assert_eq!(rt; tree.get(&3).copied(), Some(4));
-    let keys = tree.keys(rt.alloc())?;
-    assert_eq!(rt; keys.as_slice(), [1, 2, 3, 4, 5, 6, 7, 8, 9].as_slice());
-    Ok(())
+/// The tree of these keys without one.
+fn filled_without(alloc: Global, keys: &[u64], out: u64) -> Result<Tree<u64, u64>, NoMemory> {
+    filled(alloc, keys)?.without(alloc, &out)
+}
+
+/// Whether each value is the number after its key.
+fn has_next_numbers(alloc: Global, tree: &Tree<u64, u64>) -> Result<bool, NoMemory> {
+    for (key, value) in tree.entries(alloc)? {
+        if *value != key.wrapping_add(1) {
+            return Ok(false);
+        }
+    }
+    Ok(true)
 }
 
 #[test]
-fn numbers_go_out(rt: HostRuntime) -> Result<(), Fail> {
-    let tree = filled(rt.alloc(), &[1, 2, 3, 4, 5, 6, 7])?;
-    let fewer = tree.without(rt.alloc(), &4)?;
-    assert!(rt; tree.contains(&4));
-    assert!(rt; !fewer.contains(&4));
-    let keys = fewer.keys(rt.alloc())?;
-    assert_eq!(rt; keys.as_slice(), [1, 2, 3, 5, 6, 7].as_slice());
+fn keys_go_in_and_out(rt: HostRuntime) -> Result<(), Fail> {
+    let cases: [(&[u64], u64, &[u64]); 4] = [
+        (&[], 4, &[]),
+        (&[2, 1], 2, &[1]),
+        (&[1, 2, 3, 4, 5, 6, 7], 4, &[1, 2, 3, 5, 6, 7]),
+        (
+            &[5, 1, 9, 3, 7, 2, 8, 4, 6, 3],
+            10,
+            &[1, 2, 3, 4, 5, 6, 7, 8, 9],
+        ),
+    ];
+    for (keys, out, want) in cases {
+        let tree = filled_without(rt.alloc(), keys, out)?;
+        assert_eq!(rt; tree.keys(rt.alloc())?.as_slice(), want, "without {out}");
+        assert!(rt; has_next_numbers(rt.alloc(), &tree)?, "without {out}");
+    }
     Ok(())
 }
 
-#[test]
-fn entries_are_lent(rt: HostRuntime) -> Result<(), Fail> {
-    let tree = filled(rt.alloc(), &[2, 1])?;
-    assert!(rt; !tree.is_empty());
-    let entries = tree.entries(rt.alloc())?;
-    assert_eq!(rt; entries.len(), 2);
-    let (key, value) = entries[1];
-    assert_eq!(rt; (key, *value), (2, 3));
-    Ok(())
+fn number_at(tree: &Tree<Digest, Shared<u64>>, key: &Digest) -> Option<u64> {
+    let found = tree.get(key)?;
+    Some(*found.value())
 }
 
 #[test]
-fn digests_go_in_and_out(rt: HostRuntime) -> Result<(), Fail> {
-    let one = Tree::new().set(
-        rt.alloc(),
-        Digest::of([2; 32]),
-        Shared::of(rt.alloc(), 20u64)?,
-    )?;
-    let two = one.set(
-        rt.alloc(),
-        Digest::of([1; 32]),
-        Shared::of(rt.alloc(), 10u64)?,
-    )?;
-    let rest = two.without(rt.alloc(), &Digest::of([1; 32]))?.share()?;
-    assert_eq!(rt; (two.len(), rest.len()), (2, 1));
-    let found = two.get(&Digest::of([1; 32])).ok_or("no value")?;
-    assert_eq!(rt; *found.value(), 10);
+fn shared_values_stand_under_digests(rt: HostRuntime) -> Result<(), Fail> {
+    let key = Digest::of([1; 32]);
+    let tree = Tree::new().set(rt.alloc(), key, Shared::of(rt.alloc(), 10)?)?;
+    let copy = tree.share()?;
+    assert_eq!(rt; number_at(&copy, &key), Some(10));
+    assert!(rt; tree.without(rt.alloc(), &key)?.is_empty());
     Ok(())
 }
 

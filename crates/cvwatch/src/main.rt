@@ -9,23 +9,10 @@
 
 ghost use Rattle.std.specs.Prelude.{◌≡◌, ◌+◌, ◌^◌, ◌<◌, length, All, IfOk, OnOk};
 
-mod arguments;
-mod command;
-mod drill;
-mod order;
-mod print;
-mod run;
-mod scanning;
-mod service;
-mod status;
-#[cfg(test)]
-mod tests;
-mod usage;
-
-use crate::run::run;
-use crate::status::Status;
-use cv_desk::{Desk, FolderDesk};
+use cv_desk::Desk;
+use cv_folder_desk::FolderDesk;
 use cv_io::{StdSink, StdSource};
+use cv_run::{Status, run};
 use std::env;
 use std::io::{self, ErrorKind};
 use std::process::ExitCode;

@@ -10,18 +10,13 @@
 //! ```
 #![tactic(auto)]
 
-mod contents;
 mod draws;
-mod findings;
 mod letters;
-mod lines;
 mod machine;
-mod records;
 mod step;
 
 pub use draws::Draws;
 pub use letters::IMAGES;
-pub use lines::{Found, Lines};
 pub use machine::Machine;
-pub use records::{advisories, code_of, feed_of};
+pub use plain_findings::{Found, Lines, advisories, code_of, feed_of};
 pub use step::{Step, Work};

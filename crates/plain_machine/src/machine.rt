@@ -1,11 +1,8 @@
-use crate::contents::{Fault, contents_of, fault_of};
-use crate::findings::{Change, Feed, changes_of};
 use crate::letters::{IMAGES, LAYERS};
-use crate::lines::{Found, Lines};
-use crate::records::FEEDS;
 use crate::step::{Step, Work};
 use cv_base::{NoMemory, Reason};
 use cv_machine::{Limits, Status};
+use plain_findings::{Change, FEEDS, Fault, Feed, Found, Lines, changes_of, contents_of, fault_of};
 use std::alloc::Global;
 
 /// An image, and its layers if it is registered.

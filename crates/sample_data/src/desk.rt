@@ -34,6 +34,29 @@ impl SampleLayer {
         }
         Ok(SampleLayer { digest, entries })
     }
+
+    /// A layer with entries that are written as a path and the text of a file. A path that ends with a slash is a folder.
+    pub fn of_rows(
+        alloc: Global,
+        digest: Digest,
+        rows: &[(&'static str, &str)],
+    ) -> Result<SampleLayer, NoMemory>
+        ensures { IfOk result (λ layer. layer.digest ≡ digest) }
+    {
+        let mut entries = Vec::new(alloc);
+        for (path, text) in rows {
+            let (path, kind) = match path.strip_suffix('/') {
+                Some(folder) => (folder, Kind::Dir),
+                None => (*path, Kind::File),
+            };
+            entries.push(SampleEntry {
+                path,
+                kind,
+                bytes: text.as_bytes().to_vec(alloc)?,
+            })?;
+        }
+        Ok(SampleLayer { digest, entries })
+    }
 }
 
 /// A desk over layers that were made for the purpose, which never fails. Its type does not say what they are, so that no contract

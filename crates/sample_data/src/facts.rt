@@ -19,3 +19,15 @@ pub fn facts_of(
         Err(IndexError::DeskFault | IndexError::NoMemory) => Err(NoMemory),
     }
 }
+
+/// The facts of a layer with entries that are written as a path and the text of a file. A path that ends with a slash is a folder.
+pub fn facts_of_rows(
+    alloc: Global,
+    digest: Digest,
+    rows: &[(&'static str, &str)],
+) -> Result<LayerFacts<SampleDesk>, NoMemory>
+    ensures { IfOk result (λ facts. facts.digest ≡ digest) }
+{
+    let layer = SampleLayer::of_rows(alloc, digest, rows)?;
+    facts_of(alloc, digest, vec![in alloc; layer]?)
+}

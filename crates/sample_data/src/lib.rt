@@ -17,13 +17,15 @@ mod flaw;
 mod images;
 mod installed;
 mod layers;
+mod lines;
 
 pub use arguments::{number, numbered};
 pub use clock::{nanoseconds, processor_time};
 pub use desk::{SampleDesk, SampleEntry, SampleLayer};
-pub use facts::facts_of;
+pub use facts::{facts_of, facts_of_rows};
 pub use feed::FeedRecords;
 pub use flaw::{Flaw, advisory};
 pub use images::{hash, last_layer, manifest, manifest_over};
 pub use installed::{Installed, package};
 pub use layers::image_facts;
+pub use lines::{finding_lines, finding_text, package_lines};

@@ -4,8 +4,8 @@ use Rattle.std.specs.List.{list_any}
 use Rattle.std.proofs.Common.{ap, append-nil, append_assoc, sym, ◌∙◌}
 use Rattle.std.proofs.Math.Bool.{or_comm}
 use Rattle.cv_base.specs.Path.{Path, path_of, same_path}
-use Rattle.cv_base.proofs.Same.{path_is}
-use Rattle.cv_base.specs.declared.path.PathError.{PathError}
+use Rattle.cv_path.proofs.Same.{path_is}
+use Rattle.cv_path.specs.declared.path.PathError.{PathError}
 use Rattle.cv_base.proofs.Lists.{any_last}
 use Rattle.cv_desk.specs.Row.{Row}
 use Rattle.cv_desk.specs.Stored.{Stored, is_distinct, IsDistinctIn, item_at}

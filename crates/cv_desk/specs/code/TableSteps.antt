@@ -4,7 +4,7 @@ use Rattle.std.specs.Prelude.{◌≡◌, Bool, if◌then◌else◌, List, [], �
 use Rattle.std.specs.BTreeSet.{BTreeSet, contains}
 use Rattle.std.specs.List.{list_any}
 use Rattle.cv_base.specs.Path.{Path, path_cmp, path_of, same_path}
-use Rattle.cv_base.specs.declared.path.PathError.{PathError}
+use Rattle.cv_path.specs.declared.path.PathError.{PathError}
 use Rattle.cv_desk.specs.Row.{Row}
 use Rattle.cv_desk.specs.Stored.{Item, Stored}
 use Rattle.cv_desk.specs.Table.{is_path, item_of}

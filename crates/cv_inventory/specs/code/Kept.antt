@@ -1,17 +1,16 @@
--- What an inventory keeps beside what it holds.
-use Rattle.std.specs.Prelude.{◌≡◌, ℕ, ◌≤◌, false, List, length, Option, Some}
+-- A registry and the knowledge that is kept beside it.
+use Rattle.std.specs.Prelude.{◌≡◌, ℕ, ◌≤◌, false, List, length, Option}
 use Rattle.cv_advdb.specs.Feeds.{FeedTable}
-use Rattle.cv_base.specs.declared.limits.TheConstants.{MAX_LAYERS}
 use Rattle.cv_desk.specs.Stored.{Stored}
 use Rattle.cv_machine.specs.Layers.{is_indexed_as}
 use Rattle.cv_machine.specs.State.{value_at, with_value, without_value}
 use Rattle.cv_machine.specs.Step.{entered, remaining}
 use Rattle.cv_machine.specs.declared.status.Status.TheVariants as status
-use Rattle.cv_outcome.specs.Outcome.{FactTable, outcome_at}
+use Rattle.cv_outcome.specs.Outcome.{outcome_at}
 use Rattle.cv_outcome.specs.Truth.{AreFactsOf}
-use Rattle.cv_outcome.specs.declared.outcome.Outcome.{Outcome}
 use Rattle.cv_registry.specs.Registrations.{Registrations}
 use Rattle.cv_tree.specs.Entries.{map_values}
+use Rattle.cv_knowledge.specs.Knowledge.{HaveAtMost128Layers, KnowledgeView}
 use Rattle.cv_inventory.specs.Holdings.{Holdings}
 
 -- what is held by a registry and by feeds
@@ -24,11 +23,11 @@ registrations h = record { images = h.images; layers = h.layers; limit = h.limit
 
 -- the facts are those of the layers that are Indexed, the outcome of each image is that of its layers' facts and the feeds, there
 -- are no more feeds than may be, and no image has more layers than may be
-pub record IsKept (trees : List ℕ → Option (Option (List Stored))) (r : Registrations) (facts : FactTable) (outcomes : List (List ℕ × Outcome)) (table : FeedTable) : Type 0 where
-  pub right : AreFactsOf trees r.layers facts
-  pub told : outcomes ≡ map_values (outcome_at facts table.feeds) r.images
-  pub few_feeds : length table.feeds ≤ table.limit
-  pub few_layers : (image : List ℕ) (layers : List (List ℕ)) → value_at r.images image ≡ Some layers → length layers ≤ MAX_LAYERS
+pub record IsKept (trees : List ℕ → Option (Option (List Stored))) (r : Registrations) (k : KnowledgeView) : Type 0 where
+  pub right : AreFactsOf trees r.layers k.facts
+  pub made : k.outcomes ≡ map_values (outcome_at k.facts k.feeds.feeds) r.images
+  pub few_feeds : length k.feeds.feeds ≤ k.feeds.limit
+  pub few_layers : HaveAtMost128Layers r.images
 
 -- the same images are registered, and the same layers are Indexed
 pub record IsAlike (before after : Registrations) : Type 0 where

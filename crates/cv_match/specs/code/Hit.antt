@@ -12,10 +12,10 @@ use Rattle.cv_match.specs.declared.answer.Hit.{Hit}
 use Rattle.cv_match.specs.declared.answer.Hit.TheVariants.{No, Yes}
 use Rattle.cv_match.specs.declared.entry.PreparedEntry.{PreparedEntry}
 use Rattle.cv_match.specs.declared.key.PackageKey.{PackageKey}
-use Rattle.cv_match.specs.declared.placed.Placed.{Placed}
-use Rattle.cv_match.specs.Affects.{is_least_fix, key_name, matched_version, matches_ecosystem}
-use Rattle.cv_match.specs.Order.{version_cmp_of}
-use Rattle.cv_match.specs.Within.{holds}
+use Rattle.cv_range.specs.declared.placed.Placed.{Placed}
+use Rattle.cv_match.specs.Affects.{key_name, matched_version, matches_ecosystem}
+use Rattle.cv_range.specs.Order.{version_cmp_of}
+use Rattle.cv_range.specs.ReadRange.{fix_in, range_holds}
 
 -- what is compared with a record
 abbrev pub key_of : Package → PackageKey
@@ -30,19 +30,9 @@ key_matches key (Some name) = same name.name key.name && matches_ecosystem name.
 abbrev pub entry_lists : PackageKey → PreparedEntry (List ℕ) → Bool
 entry_lists key entry = key_matches key entry.«package» && list_any (λ version. same version key.version) entry.versions
 
--- the version is within the range
-abbrev pub range_holds : (List ℕ → List ℕ → Ordering) → List ℕ → Option (List (Placed (List ℕ))) → Bool
-range_holds R version None = false
-range_holds R version (Some events) = holds R events version
-
 -- the version is within some range of the entry
 abbrev pub entry_holds : (List ℕ → List ℕ → Ordering) → PackageKey → List ℕ → PreparedEntry (List ℕ) → Bool
 entry_holds R key version entry = key_matches key entry.«package» && list_any (range_holds R version) entry.ranges
-
--- the place of the least fix of a range above the version
-abbrev pub fix_in : (List ℕ → List ℕ → Ordering) → List ℕ → Option (List (Placed (List ℕ))) → Option ℕ
-fix_in R version None = None
-fix_in R version (Some events) = position_from (is_least_fix R events version) 0 events
 
 -- the place of the fixed version in the range of this number
 abbrev pub fixed_in : (List ℕ → List ℕ → Ordering) → List ℕ → ℕ → List (Option (List (Placed (List ℕ)))) → ℕ → Option FixedAt

@@ -7,7 +7,7 @@ use Rattle.cv_match.specs.declared.entry.PreparedEntries.TheVariants as entries
 use Rattle.cv_match.specs.declared.entry.PreparedEntry.{PreparedEntry}
 use Rattle.cv_match.specs.declared.entry.PreparedVersion.{PreparedVersion}
 use Rattle.cv_match.specs.declared.entry.PreparedVersion.TheVariants as version
-use Rattle.cv_match.specs.code.Reading.{entry_text}
+use Rattle.cv_match.specs.code.Entries.{entry_text}
 
 -- the kind of packages that entries are prepared for
 abbrev pub entries_kind : PreparedEntries → PackageKind
@@ -17,8 +17,8 @@ entries_kind (entries.Npm es) = kind.Npm
 
 -- prepared entries, by the texts of their versions
 abbrev pub entries_text : PreparedEntries → List (PreparedEntry (List ℕ))
-entries_text (entries.Deb es) = map (entry_text (λ v. v.source)) es
-entries_text (entries.Apk es) = map (entry_text (λ v. v.source)) es
+entries_text (entries.Deb es) = map (entry_text (λ v. v)) es
+entries_text (entries.Apk es) = map (entry_text (λ v. v)) es
 entries_text (entries.Npm es) = map (entry_text (λ v. v)) es
 
 -- the kind of packages that a version is prepared for
@@ -29,6 +29,6 @@ version_kind (version.Npm v) = kind.Npm
 
 -- the text of a prepared version
 abbrev pub version_text : PreparedVersion → Option (List ℕ)
-version_text (version.Deb v) = option_map (λ w. w.source) v
-version_text (version.Apk v) = option_map (λ w. w.source) v
+version_text (version.Deb v) = option_map (λ w. w) v
+version_text (version.Apk v) = option_map (λ w. w) v
 version_text (version.Npm v) = option_map (λ w. w) v

@@ -1,14 +1,14 @@
 -- Records that are appended one by one, as the code does it: the index of each id is looked up. It is shown in `proofs/`
 -- that this is `appended`, and the whole `listed`, of `Records.antt`.
-use Rattle.std.specs.Prelude.{◌≡◌, ℕ, List, [], ◌∷◌, ◌++◌, length, Option, Some, None, Result, Ok, Err}
+use Rattle.std.specs.Prelude.{◌≡◌, ℕ, cond, List, [], ◌∷◌, ◌++◌, length, Option, Some, None, Result, Ok, Err}
 use Rattle.std.specs.BTreeMap.{BTreeMap, get}
 use Rattle.std.specs.Cmp.Lexicographic.{slice_cmp}
 use Rattle.std.specs.List.{position_from}
-use Rattle.std.specs.Ordering.{nat_cmp}
+use Rattle.std.specs.Ordering.{is_eq, nat_cmp}
 use Rattle.cv_base.specs.Results.{◌>>=◌}
 use Rattle.cv_base.specs.Texts.{same}
 use Rattle.cv_base.specs.declared.advisory.Advisory.{Advisory}
-use Rattle.cv_osv.specs.Record.{advisory_of}
+use Rattle.cv_osv_record.specs.Record.{advisory_of}
 use Rattle.cv_osv.specs.Records.{ListFault, BadAdvisory, DuplicateId, RecordRead, appended}
 use Rattle.serde_json.specs.Data.{Data}
 
@@ -38,3 +38,8 @@ all_appended records (d ∷ ds) = appended records (advisory_of d) >>= λ more. 
 -- the map has the index of each id
 abbrev pub Indexes : BTreeMap (List ℕ) ℕ → List Advisory → Type 0
 Indexes places records = (id : List ℕ) → get (slice_cmp nat_cmp) places id ≡ index_of id records
+
+-- the second map is the first one, but for the index of this id
+abbrev pub IsIndexed : BTreeMap (List ℕ) ℕ → BTreeMap (List ℕ) ℕ → List ℕ → ℕ → Type 0
+IsIndexed old new id index =
+    (other : List ℕ) → get (slice_cmp nat_cmp) new other ≡ cond (is_eq (slice_cmp nat_cmp id other)) (Some index) (get (slice_cmp nat_cmp) old other)

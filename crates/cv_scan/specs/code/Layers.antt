@@ -1,15 +1,14 @@
 -- Layers that were loaded, and images that could not be scanned, as the code has them.
-use Rattle.std.specs.Prelude.{◌≡◌, ℕ, ◌+◌, ◌≤◌, Bool, true, false, if◌then◌else◌, List, [], ◌∷◌, length, map, Option, Some, None, Result, Ok, Err, IfSome}
+use Rattle.std.specs.Prelude.{◌≡◌, ℕ, Bool, true, false, if◌then◌else◌, List, [], ◌∷◌, map, Option, Some, None, Result, Ok, Err, IfSome}
 use Rattle.std.specs.Option.{option_map}
 use Rattle.cv_base.specs.Texts.{same}
 use Rattle.cv_base.specs.declared.tree.TreeEntry.{TreeEntry}
 use Rattle.cv_desk.specs.Loaded.{loaded}
 use Rattle.cv_desk.specs.Stored.{Stored}
 use Rattle.cv_overlay.specs.declared.fault.ImageFault.{ImageFault}
-use Rattle.cv_scan.specs.Layers.{IsFailed}
-use Rattle.cv_scan.specs.declared.error.ImageError.{ImageError}
-use Rattle.cv_scan.specs.declared.error.ImageError.TheVariants as error
-use Rattle.cv_scan.specs.declared.layers.LoadedLayer.{LoadedLayer}
+use Rattle.cv_layers.specs.declared.error.ImageError.{ImageError}
+use Rattle.cv_layers.specs.declared.error.ImageError.TheVariants as error
+use Rattle.cv_scan.specs.declared.loader.LoadedLayer.{LoadedLayer}
 
 -- a layer was loaded as the desk's type names it, if it does
 abbrev pub IsLoaded : (List ℕ → Option (Option (List Stored))) → LoadedLayer → Type 0
@@ -19,18 +18,6 @@ IsLoaded trees x = IfSome (trees x.layer) (λ stored. option_map (λ tree. tree.
 abbrev pub tree_in : List LoadedLayer → List ℕ → Option (List TreeEntry)
 tree_in [] layer = None
 tree_in (x ∷ xs) layer = if same x.layer layer then option_map (λ tree. tree.entries) x.tree else tree_in xs layer
-
--- why a layer was not loaded
-abbrev pub IsOfLayer : List ℕ → ImageError → Type 0
-IsOfLayer layer (error.Bad bad) = ⊥
-IsOfLayer layer (error.Desk failed) = failed ≡ layer
-IsOfLayer layer error.NoMemory = Unit {0}
-
--- why one of these layers was not loaded
-abbrev pub IsOfLayers : List (List ℕ) → ℕ → ℕ → ImageError → Type 0
-IsOfLayers layers before now (error.Bad bad) = ⊥
-IsOfLayers layers before now (error.Desk layer) = IsFailed layers before now layer
-IsOfLayers layers before now error.NoMemory = now ≤ before + length layers
 
 -- memory ran out
 abbrev pub is_image_memory : ImageError → Bool

@@ -9,7 +9,7 @@ pub loop-entry-preserved : goal.loop-entry-preserved
 loop-entry-preserved g c =
     let before = c.loop-entry.invariant in
     let one = c.in_ok-loaded.ensures in
-    let more = c.in_ok-push.ensures.items in
+    let more = c.in_ok-append.ensures in
     record {
       entries = entries_snoc (g.D.Desk.tree c.args.layer.now) c.loop-entry.out.items _ c.loop-entry.yielded c.in_ok-loaded.loaded c.in-Some.entry more before.entries one.entry;
       read = ap (list_all is_read) more ∙ all_snoc is_read c.loop-entry.out.items c.in_ok-loaded.loaded before.read one.read;

@@ -1,5 +1,5 @@
 use Rattle.std.proofs.Common.{◌≡◌, map, take}
-use Rattle.cv_match.specs.code.Reading.{entry_text, prepared_entry}
+use Rattle.cv_match.specs.code.Entries.{entry_text, prepared_entry}
 use Rattle.cv_match.proofs.reading.prepare_entries.Given as goal
 
 abbrev pub invariant-loop-entry : goal.invariant-loop-entry

@@ -1,9 +1,10 @@
+use Rattle.std.proofs.Common.{◌∙◌}
 use Rattle.cv_machine.specs.Scans.{trees_of}
-use Rattle.cv_core.proofs.BoardLemmas.{board_is}
+use Rattle.cv_core.proofs.ReadLemmas.{board_core}
 use Rattle.cv_core.proofs.machine.Core.board.Goals as goal
 
 pub returns : goal.returns
 returns g c known =
-    let inside = c.self.inside in
-    board_is (trees_of g.D.Desk.tree) inside.inventory inside.notices c.in_ok-notices.notices inside.generation inside.count c.args.self.now
-    c.in_ok-outcomes.outcomes c.self.view_is (c.in_ok-outcomes.ensures known) c.in_ok-notices.ensures
+    board_core (trees_of g.D.Desk.tree) c.self.inside.machine c.args.self.now c.inventory.result.now c.generation.result c.in_ok-outcomes.outcomes
+    c.in_ok-notices.notices c.of.result c.self.view_is c.inventory.ensures c.generation.ensures (c.in_ok-notices.ensures ∙ c.notices.ensures)
+    (c.in_ok-outcomes.ensures known) c.of.ensures

@@ -1,12 +1,8 @@
-use Rattle.std.proofs.Common.{ap, ◌∙◌}
-use Rattle.cv_machine.specs.Answer.{report_of}
 use Rattle.cv_machine.specs.Scans.{trees_of}
-use Rattle.cv_core.specs.Core.{CoreView}
-use Rattle.cv_core.specs.code.Parts.{core_of}
+use Rattle.cv_core.proofs.ReadLemmas.{report_core}
 use Rattle.cv_core.proofs.machine.Core.report.Goals as goal
 
 pub returns : goal.returns
 returns g c known =
-    let inside = c.self.inside in
-    c.report_by.ensures ∙ c.outcome.ensures known (core_of inside.inventory inside.notices inside.generation inside.count).state
-    ∙ ap (λ (core : CoreView). report_of (trees_of g.D.Desk.tree) core.state c.args.image.now) c.self.view_is
+    report_core (trees_of g.D.Desk.tree) c.self.inside.machine c.args.self.now c.inventory.result.now c.generation.result c.args.image.now _ _ c.self.view_is
+    c.inventory.ensures c.generation.ensures (c.outcome-outcome.ensures known) c.report_by.ensures

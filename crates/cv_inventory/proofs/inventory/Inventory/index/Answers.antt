@@ -8,11 +8,11 @@ pub entered-requires : goal.entered-requires
 entered-requires g c =
     let inside = c.self.inside in let after = c.in_ok-registry.registry in
     subst (λ (layer : List ℕ). HasEntered (registrations c.args.self.now) after layer) c.digest.ensures
-    (entered_now inside.registry after inside.feeds c.args.self.now c.digest.result c.self.view_is
+    (entered_now inside.registry after inside.knowledge.feeds c.args.self.now c.digest.result c.self.view_is
     (index_enters inside.registry after c.digest.result c.args.worker c.in_ok-registry.reply c.in_ok-registry.ensures (sym c.if-is_entered.ensures)))
 
 pub with_registry-requires : goal.with_registry-requires
 with_registry-requires g c =
     let inside = c.self.inside in let after = c.in_ok-registry.registry in
-    alike_now inside.registry after inside.feeds c.args.self.now c.self.view_is
+    alike_now inside.registry after inside.knowledge.feeds c.args.self.now c.self.view_is
     (index_stays inside.registry after c.digest.result c.args.worker c.in_ok-registry.reply c.regular.ensures.layers c.in_ok-registry.ensures (sym c.if-is_entered.ensures))

@@ -5,5 +5,5 @@ use Rattle.cv_inventory.proofs.inventory.Inventory.outcomes.Goals as goal
 pub returns : goal.returns
 returns g c = λ known.
     let inside = c.self.inside in
-    if_ok _ _ c.share.result c.share.ensures
-    (λ shared is state. board_kept _ inside.registry inside.facts inside.outcomes shared inside.feeds c.args.self.now state c.self.invariant c.self.view_is known is)
+    if_ok _ _ c.outcomes.result c.outcomes.ensures
+    (λ shared is state. board_kept _ inside.registry inside.knowledge shared c.args.self.now state c.self.invariant c.self.view_is known is)

@@ -1,0 +1,19 @@
+//! The commands that wait for nobody, `scan` and `order`: what each prints, and the exit status.
+//!
+//! ```text
+//! let status = order_command(alloc, &arguments, &mut output);
+//! ```
+#![tactic(auto)]
+
+mod command;
+mod order;
+mod printing;
+mod scanning;
+mod status;
+mod usage;
+
+pub use command::scan_command;
+pub use order::order_command;
+pub use printing::print;
+pub use status::Status;
+pub use usage::print_usage;

@@ -1,0 +1,19 @@
+ghost use Rattle.std.specs.Prelude.{◌≡◌, true};
+ghost use Rattle.cv_seq.specs.Cause.{Rose};
+ghost use Rattle.cv_command.specs.Printed.{IsPrinted, is_end};
+
+use crate::status::Status;
+use cv_io::{Sink, WriteError, write_all};
+
+/// Writes a text, and ends with the status that follows it: one that says that a text was written.
+pub fn print<K: Sink>(output: &mut K, text: &str, ended: Status) -> Status
+    requires end { is_end ended ≡ true }
+    ensures printed { IsPrinted (record { text = text.now; ended = ended }) (K.contents output.old) (K.contents output.new) result }
+    ensures write_fault { result ≡ Status.WriteFault → Rose (K.faults output.old) (K.faults output.new) }
+{
+    match write_all(output, text.as_bytes()) {
+        Ok(()) => ended,
+        Err(WriteError::WriteFault) => Status::WriteFault,
+        Err(WriteError::NoMemory) => Status::NoMemory,
+    }
+}

@@ -1,0 +1,64 @@
+ghost use Rattle.std.specs.Prelude.{◌≡◌, ◌+◌, ◌^◌, ◌<◌, ◌≤◌, true, length, IfOk};
+ghost use Rattle.cv_seq.specs.Cause.{Rose};
+ghost use Rattle.cv_scan.specs.Layers.{distinct};
+ghost use Rattle.cv_command.specs.Outcome.{SaysOutcome};
+ghost use Rattle.cv_command.specs.Printed.{is_end};
+ghost use Rattle.cv_command.specs.World.{counts_of};
+ghost use Rattle.cv_command.specs.code.Printing.{SaysError, printed_of};
+
+use crate::status::Status;
+use cv_base::{Digest, MAX_LAYERS, NoMemory, Text};
+use cv_desk::Desk;
+use cv_image::{ImageError, scan_layers};
+use cv_scan_input::ScanInput;
+use cv_scan_output::{bad_image_line, desk_fault_line, good_line};
+use std::alloc::Global;
+
+/// A line to be printed, and how the command then ends.
+#[derive(Debug, Drop)]
+pub struct Answer {
+    pub text: String,
+    pub ended: Status,
+}
+
+/// Scans an image, and makes the line of its outcome.
+pub fn scan_answer<D: Desk>(
+    alloc: Global,
+    desk: &mut D,
+    request: &ScanInput,
+) -> Result<Answer, NoMemory>
+    requires room { D.listings desk.old < 2 ^ 62 }
+    requires at_most_128_layers { length request.now.manifest.layers ≤ MAX_LAYERS }
+    ensures outcome { IfOk result (λ answer. SaysOutcome D.tree request.now.manifest request.now.records (counts_of D.listings D.faults desk.old) (counts_of D.listings D.faults desk.new) (printed_of answer)) }
+    ensures listed { D.listings desk.new ≤ D.listings desk.old + length (distinct request.now.manifest.layers) }
+    ensures end { IfOk result (λ answer. is_end answer.ended ≡ true) }
+    ensures cause { IfOk result (λ answer. answer.ended ≡ Status.DeskFault → Rose (D.faults desk.old) (D.faults desk.new)) }
+{
+    let feed = Text::of(alloc, "scan")?;
+    let hash = &request.manifest.hash;
+    let layers = request.manifest.layers.as_slice();
+    match scan_layers(alloc, desk, layers, &feed, request.records.as_slice()) {
+        Ok(found) => Ok(Answer {
+            text: good_line(alloc, hash, found.as_slice())?,
+            ended: Status::Done,
+        }),
+        Err(error) => error_answer(alloc, hash, &error),
+    }
+}
+
+/// The line that says why an image has no findings.
+fn error_answer(alloc: Global, hash: &Digest, error: &ImageError) -> Result<Answer, NoMemory>
+    ensures { IfOk result (λ answer. SaysError hash.now error.now (printed_of answer)) }
+{
+    match error {
+        ImageError::Bad(bad) => Ok(Answer {
+            text: bad_image_line(alloc, hash, bad)?,
+            ended: Status::Refused,
+        }),
+        ImageError::Desk(layer) => Ok(Answer {
+            text: desk_fault_line(alloc, layer)?,
+            ended: Status::DeskFault,
+        }),
+        ImageError::NoMemory => Err(NoMemory),
+    }
+}

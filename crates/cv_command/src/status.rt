@@ -1,0 +1,55 @@
+ghost use Rattle.std.specs.Prelude.{◌≡◌};
+ghost use Rattle.std.specs.Process.{exit_status};
+ghost use Rattle.cv_command.specs.Status.{status_code};
+
+use std::process::ExitCode;
+
+/// How a command ended. A service prints each round as it ends, so that an end before the end of its input leaves those rounds
+/// printed; a scan prints one line.
+#[derive(Clone, Copy, Debug, PartialEq, Eq)]
+pub enum Status {
+    /// All was printed: the findings, also if there are none, the transcript, the summary of one, or how two versions compare.
+    Done,
+    /// The arguments are not a command; the usage line was printed.
+    Usage,
+    /// Reading the input failed. A scan printed nothing.
+    ReadFault,
+    /// Writing failed; a front part of what was to be written may have been written.
+    WriteFault,
+    /// The command ran out of memory; nothing was printed, or a front part, or all of it.
+    NoMemory,
+    /// A line is over its limit. A scan printed nothing, and none of the lines before it is refused.
+    LineTooLong,
+    /// The input has 2^36 bytes or more. A scan printed nothing, and none of its lines before that is refused.
+    InputTooLong,
+    /// A line of a scan's input or the image was refused, or a text is not a valid version; the line that says so was printed.
+    Refused,
+    /// A `desk_fault` line of a scan was printed.
+    DeskFault,
+}
+
+impl Status {
+    /// The number of the exit status.
+    pub fn code(self) -> u8
+        ensures { result ≡ status_code self }
+    {
+        match self {
+            Status::Done => 0,
+            Status::Usage => 2,
+            Status::ReadFault => 3,
+            Status::WriteFault => 4,
+            Status::NoMemory => 5,
+            Status::LineTooLong => 6,
+            Status::InputTooLong => 7,
+            Status::Refused => 8,
+            Status::DeskFault => 9,
+        }
+    }
+
+    /// What the program ends with.
+    pub fn exit_code(self) -> ExitCode
+        ensures { exit_status result ≡ status_code self }
+    {
+        ExitCode::from(self.code())
+    }
+}

@@ -1,0 +1,3 @@
+pub mod GeneratedDistinct
+pub mod GeneratedEntry
+pub mod GeneratedLaws

@@ -1,0 +1,3 @@
+mod Examples
+pub mod Floats
+pub mod Lists

@@ -1,0 +1,295 @@
+ghost use Rattle.std.specs.Prelude.{◌≡◌, ◌≢◌, ◌≤◌, ◌<◌, ◌+◌, ◌++◌, ◌∷◌, [], true, false, length, string_bytes, IfOk, IfErr, IfSome, IsErr, OnOk, Ok, Some, None};
+ghost use Rattle.std.specs.Fs.{IsDir, IsFile, file_type, metadata_len};
+ghost use Rattle.std.specs.List.{join_with_byte};
+ghost use Rattle.std.specs.List.Sorted.{IsSortedByKey};
+ghost use Rattle.std.specs.IoError.{error_kind};
+ghost use Rattle.cv_base.specs.Path.{path_cmp, path_of};
+ghost use Rattle.cv_folder_desk.specs.Folder.{folder_text, most_entries};
+ghost use Rattle.cv_desk.specs.Stored.{File, file_read};
+ghost use Rattle.cv_folder_desk.specs.code.Walked.{IsWithin, is_failure, joined};
+
+use crate::failure::{FolderError, FolderFailure};
+use cv_base::{Digest, Kind, ListEntry, MAX_ENTRIES, PathError, RelPath};
+use cv_desk::FileRead;
+use cv_seq::{NoMemory, Seq};
+use std::alloc::Global;
+use std::fs::{self, DirEntry, Metadata};
+use std::io::{self, ErrorKind};
+use std::rt::Files;
+
+/// A walk ends after so many entries: one more than a layer may have.
+const MOST_ENTRIES: usize = MAX_ENTRIES + 1;
+
+/// Lists the entries below a layer's folder in the order of their paths, or says that there is no such folder.
+pub fn list_folder<R: Files + AllocGlobal + Clone + Drop>(
+    rt: &R,
+    alloc: Global,
+    layer: &Digest,
+) -> Result<Option<Seq<ListEntry>>, FolderError>
+    ensures sorted { IfOk result (λ found. IfSome found (λ entries. IsSortedByKey (λ entry. entry.path) path_cmp entries)) }
+    ensures at_most { IfOk result (λ found. IfSome found (λ entries. length entries ≤ most_entries)) }
+{
+    let folder = folder_of(alloc, layer)?;
+    let found = rt.symlink_metadata(folder.as_str());
+    if !is_layer(alloc, folder.as_str(), found)? {
+        return Ok(None);
+    }
+    let mut entries = walk(rt, alloc, folder.as_str())?;
+    sort(&mut entries);
+    Ok(Some(Seq::of(entries)))
+}
+
+/// Whether there is a layer, by the system's answer about its folder.
+fn is_layer(alloc: Global, folder: &str, found: io::Result<Metadata>) -> Result<bool, FolderError>
+    ensures folder { IfOk found (λ at. IsDir (file_type at) → result ≡ Ok true) }
+    ensures no_folder { IfOk found (λ at. ¬ IsDir (file_type at) → IsErr result) }
+    ensures absent { IfErr found (λ error. error_kind error ≡ ErrorKind.NotFound → result ≡ Ok false) }
+    ensures error { IfErr found (λ error. error_kind error ≢ ErrorKind.NotFound → IsErr result) }
+{
+    match found {
+        Ok(found) => {
+            if found.is_dir() {
+                return Ok(true);
+            }
+            let reason = io::Error::from(ErrorKind::NotADirectory);
+            Err(failure(alloc, folder, reason))
+        }
+        Err(error) => {
+            if error.kind() == ErrorKind::NotFound {
+                return Ok(false);
+            }
+            Err(failure(alloc, folder, error))
+        }
+    }
+}
+
+/// The folder of a layer.
+fn folder_of(alloc: Global, layer: &Digest) -> Result<String, NoMemory>
+    ensures { IfOk result (λ folder. string_bytes folder ≡ folder_text layer.now) }
+{
+    let mut folder = String::from_str(alloc, "layers/sha256/")?;
+    folder.push_str(hex::encode(alloc, layer.bytes())?.as_str())?;
+    Ok(folder)
+}
+
+/// Sorts entries by their paths.
+#[tactic(auto, using(crate::proofs::Walks::sorted_by_key))]
+fn sort(entries: &mut Vec<ListEntry>)
+    ensures sorted { IsSortedByKey (λ entry. entry.path) path_cmp entries.new.items }
+    ensures count { length entries.new.items ≡ length entries.old.items }
+{
+    entries.sort_unstable();
+}
+
+/// The entries below a folder, in no order.
+fn walk<R: Files + AllocGlobal + Clone + Drop>(
+    rt: &R,
+    alloc: Global,
+    folder: &str,
+) -> Result<Vec<ListEntry>, FolderError>
+    ensures { IfOk result (λ entries. length entries.items ≤ most_entries) }
+{
+    let mut entries = Vec::new(alloc);
+    let mut folders = Vec::new(alloc);
+    folders.push(RelPath::top())?;
+    list_all(rt, alloc, folder, &mut entries, &mut folders)?;
+    Ok(entries)
+}
+
+/// Lists folders and the folders in them, until none remains or the walk has all the entries that it may have.
+fn list_all<R: Files + AllocGlobal + Clone + Drop>(
+    rt: &R,
+    alloc: Global,
+    folder: &str,
+    entries: &mut Vec<ListEntry>,
+    folders: &mut Vec<RelPath>,
+) -> Result<(), FolderError>
+    requires within { length entries.old.items ≤ most_entries }
+    ensures at_most { OnOk result (length entries.new.items ≤ most_entries) }
+    ensures whole { OnOk result (length entries.new.items < most_entries → folders.new.items ≡ []) }
+{
+    while let Some(path) = folders.pop() {
+        if !list_one(rt, alloc, folder, &path, entries, folders)? {
+            break;
+        }
+    }
+    Ok(())
+}
+
+/// Adds the entries right in one folder, and its folders to those that remain to be listed. Returns whether all were added;
+/// else the walk has all the entries that it may have.
+fn list_one<R: Files + AllocGlobal + Clone + Drop>(
+    rt: &R,
+    alloc: Global,
+    folder: &str,
+    path: &RelPath,
+    entries: &mut Vec<ListEntry>,
+    folders: &mut Vec<RelPath>,
+) -> Result<bool, FolderError>
+    requires within { length entries.old.items ≤ most_entries }
+    ensures at_most { OnOk result (length entries.new.items ≤ most_entries) }
+    ensures more { OnOk result (length entries.old.items ≤ length entries.new.items) }
+    ensures folders { OnOk result (length folders.new.items + length entries.old.items ≤ length folders.old.items + length entries.new.items) }
+    ensures full { IfOk result (λ whole. whole ≡ false → length entries.new.items ≡ most_entries) }
+{
+    let place = joined(alloc, folder, path.text())?;
+    let found = match fs::read_dir(rt, place.as_str()) {
+        Ok(found) => found,
+        Err(error) => return Err(failure(alloc, place.as_str(), error)),
+    };
+    for entry in found {
+        if entries.len() >= MOST_ENTRIES {
+            return Ok(false);
+        }
+        let entry = read_entry(alloc, place.as_str(), path, entry)?;
+        add(entries, folders, entry)?;
+    }
+    Ok(true)
+}
+
+/// Adds an entry, and its path to the folders if it is one.
+fn add(
+    entries: &mut Vec<ListEntry>,
+    folders: &mut Vec<RelPath>,
+    entry: ListEntry,
+) -> Result<(), FolderError>
+    ensures entries { OnOk result (entries.new.items ≡ entries.old.items ++ entry ∷ []) }
+    ensures folder { OnOk result (entry.kind ≡ Kind.Dir → folders.new.items ≡ folders.old.items ++ entry.path ∷ []) }
+    ensures other { OnOk result (entry.kind ≢ Kind.Dir → folders.new.items ≡ folders.old.items) }
+    ensures count { OnOk result (length entries.new.items ≡ length entries.old.items + 1) }
+    ensures at_most { OnOk result (length folders.new.items ≤ length folders.old.items + 1) }
+{
+    if entry.kind == Kind::Dir {
+        folders.push(entry.path.clone()?)?;
+    }
+    entries.push(entry)?;
+    Ok(())
+}
+
+/// The entry of a layer at what the system found in a folder.
+fn read_entry<R: Files + Drop>(
+    alloc: Global,
+    place: &str,
+    path: &RelPath,
+    found: io::Result<DirEntry<R>>,
+) -> Result<ListEntry, FolderError> {
+    let entry = match found {
+        Ok(entry) => entry,
+        Err(error) => return Err(failure(alloc, place, error)),
+    };
+    let name = joined(alloc, path.text(), entry.file_name())?;
+    match entry.metadata() {
+        Ok(at) => listed(alloc, entry.path().as_str(), name.as_str(), &at),
+        Err(error) => Err(failure(alloc, entry.path().as_str(), error)),
+    }
+}
+
+/// The entry at a path of a layer, by the system's metadata. `place` names it in a failure.
+fn listed(alloc: Global, place: &str, name: &str, at: &Metadata) -> Result<ListEntry, FolderError>
+    ensures path { IfOk result (λ entry. path_of name.now ≡ Ok entry.path) }
+    ensures dir { IfOk result (λ entry. IsDir (file_type at.now) → (entry.kind ≡ Kind.Dir) × (entry.size ≡ 0)) }
+    ensures file { IfOk result (λ entry. IsFile (file_type at.now) → (entry.kind ≡ Kind.File) × (entry.size ≡ metadata_len at.now)) }
+    ensures other { IfOk result (λ entry. ¬ IsDir (file_type at.now) → ¬ IsFile (file_type at.now) → (entry.kind ≡ Kind.Other) × (entry.size ≡ 0)) }
+    ensures refused { IfErr result (λ error. is_failure error ≡ true → IsErr (path_of name.now)) }
+{
+    let path = match RelPath::read(alloc, name) {
+        Ok(path) => path,
+        Err(PathError::NoMemory) => return Err(FolderError::NoMemory),
+        Err(PathError::Empty | PathError::TooLong | PathError::BadComponent) => {
+            let reason = io::Error::from(ErrorKind::InvalidFilename);
+            return Err(failure(alloc, place, reason));
+        }
+    };
+    let (kind, size) = if at.is_dir() {
+        (Kind::Dir, 0)
+    } else if at.is_file() {
+        (Kind::File, at.len())
+    } else {
+        (Kind::Other, 0)
+    };
+    Ok(ListEntry { path, kind, size })
+}
+
+/// Reads a file of a layer, if it has at most `limit` bytes.
+pub fn read_file<R: Files + AllocGlobal + Clone + Drop>(
+    rt: &R,
+    alloc: Global,
+    layer: &Digest,
+    path: &RelPath,
+    limit: u32,
+) -> Result<FileRead, FolderError>
+    ensures { IfOk result (λ read. IsWithin limit read) }
+{
+    let place = place_of(alloc, layer, path)?;
+    let at = match rt.symlink_metadata(place.as_str()) {
+        Ok(at) => at,
+        Err(error) => return Err(failure(alloc, place.as_str(), error)),
+    };
+    if let Some(refused) = refused(&at, limit) {
+        return Ok(refused);
+    }
+    match fs::read(rt, place.as_str()) {
+        Ok(bytes) => Ok(within(bytes, limit)),
+        Err(error) => Err(failure(alloc, place.as_str(), error)),
+    }
+}
+
+/// The path of a layer's entry below the working directory.
+fn place_of(alloc: Global, layer: &Digest, path: &RelPath) -> Result<String, NoMemory>
+    ensures { IfOk result (λ place. string_bytes place ≡ joined (folder_text layer.now) (join_with_byte 47 path.now)) }
+{
+    let folder = folder_of(alloc, layer)?;
+    joined(alloc, folder.as_str(), path.text())
+}
+
+/// Why a file is not read, by the system's metadata, if it is not.
+fn refused(at: &Metadata, limit: u32) -> Option<FileRead>
+    ensures not_file { ¬ IsFile (file_type at.now) → result ≡ Some FileRead.NotFile }
+    ensures too_large { IsFile (file_type at.now) → limit < metadata_len at.now → result ≡ Some FileRead.TooLarge }
+    ensures none { IsFile (file_type at.now) → metadata_len at.now ≤ limit → result ≡ None }
+{
+    if !at.is_file() {
+        return Some(FileRead::NotFile);
+    }
+    if at.len() > u64::from(limit) {
+        return Some(FileRead::TooLarge);
+    }
+    None
+}
+
+/// The bytes of a file that was read, if they are at most `limit`: it may have grown since its metadata was read.
+fn within(bytes: Vec<u8>, limit: u32) -> FileRead
+    ensures value { result ≡ file_read (Some (File bytes.items)) limit }
+    ensures within { IsWithin limit result }
+{
+    if bytes.len() > limit as usize {
+        FileRead::TooLarge
+    } else {
+        FileRead::Bytes(Seq::of(bytes))
+    }
+}
+
+/// Two parts of a path with a slash between them; an empty part adds nothing.
+fn joined(alloc: Global, front: &str, back: &str) -> Result<String, NoMemory>
+    ensures { IfOk result (λ path. string_bytes path ≡ joined front.now back.now) }
+{
+    let mut path = String::from_str(alloc, front)?;
+    if !front.is_empty() && !back.is_empty() {
+        path.push('/')?;
+    }
+    path.push_str(back)?;
+    Ok(path)
+}
+
+/// The error that an error of the system at a path makes.
+fn failure(alloc: Global, path: &str, reason: io::Error) -> FolderError
+    ensures { error_kind reason ≡ ErrorKind.OutOfMemory → is_failure result ≡ false }
+{
+    if reason.kind() == ErrorKind::OutOfMemory {
+        return FolderError::NoMemory;
+    }
+    match String::from_str(alloc, path) {
+        Ok(path) => FolderError::Failed(FolderFailure { path, reason }),
+        Err(_) => FolderError::NoMemory,
+    }
+}

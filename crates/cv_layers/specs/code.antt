@@ -1,0 +1,3 @@
+-- Definitions for the clauses of private functions.
+pub mod Distinct
+pub mod Failed

@@ -1,0 +1,27 @@
+use cv_base::Digest;
+use cv_overlay::ImageFault;
+use cv_seq::NoMemory;
+use thiserror::Error;
+
+/// Why the scan of an image has no findings.
+#[derive(Debug, PartialEq, Eq, Drop, Error)]
+pub enum ImageError {
+    #[error("the image is bad: {0}")]
+    Bad(ImageFault),
+    /// The desk failed at this layer.
+    #[error("a layer could not be read")]
+    Desk(Digest),
+    #[error("out of memory")]
+    NoMemory,
+}
+
+impl From<NoMemory> for ImageError {
+    ghost use Rattle.std.specs.Prelude.{◌≡◌};
+    ghost use Rattle.cv_layers.specs.declared.error.ImageError.TheVariants as error;
+
+    ghost from_gives = { λ _ e. e ≡ error.NoMemory };
+
+    fn from(_error: NoMemory) -> ImageError {
+        ImageError::NoMemory
+    }
+}

@@ -1,0 +1,3 @@
+mod Examples
+pub mod FirstFault
+pub mod Onto

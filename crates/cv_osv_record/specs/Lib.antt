@@ -1,0 +1,5 @@
+pub mod Answer
+pub mod Faults
+pub mod Json
+pub mod Record
+pub mod code

@@ -1,0 +1,47 @@
+ghost use Rattle.std.specs.Prelude.{◌≡◌, IfOk, OnOk, ◌++◌};
+ghost use Rattle.std.specs.Option.{option_to_list};
+ghost use Rattle.cv_package_files.specs.Files.{file_found, files_found};
+
+use crate::found::FileFound;
+use crate::read::read_file;
+use cv_base::{Node, TreeEntry, place};
+use cv_seq::NoMemory;
+use std::alloc::Global;
+
+/// The package files of a root, whose entries stand in the order of their paths.
+pub fn read_files(alloc: Global, entries: &[TreeEntry]) -> Result<Vec<FileFound>, NoMemory>
+    ensures { IfOk result (λ files. files.items ≡ files_found entries.now) }
+{
+    let mut files = Vec::new(alloc);
+    for entry in entries {
+        let file = file_found(alloc, entry)?;
+        add(&mut files, file)?;
+    }
+    Ok(files)
+}
+
+/// Adds a file, if there is one.
+fn add(files: &mut Vec<FileFound>, file: Option<FileFound>) -> Result<(), NoMemory>
+    ensures { OnOk result (files.new.items ≡ files.old.items ++ option_to_list file) }
+{
+    if let Some(file) = file {
+        files.push(file)?;
+    }
+    Ok(())
+}
+
+/// The package file that an entry is, if it is one.
+fn file_found(alloc: Global, entry: &TreeEntry) -> Result<Option<FileFound>, NoMemory>
+    ensures { IfOk result (λ file. file ≡ file_found entry.now) }
+{
+    let Some(place) = place(&entry.path) else {
+        return Ok(None);
+    };
+    match &entry.node {
+        Node::File(content) => Ok(Some(FileFound {
+            path: entry.path.clone()?,
+            found: read_file(alloc, place, content)?,
+        })),
+        Node::Dir | Node::Other => Ok(None),
+    }
+}

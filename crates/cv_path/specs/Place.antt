@@ -1,0 +1,69 @@
+-- The places of package files (defined by this project): where dpkg (dpkg(1), FILES), apk (apk(8)), os-release(5)
+-- and npm (npm's folders) keep what is installed.
+use Rattle.std.specs.Prelude.{ℕ, Bool, false, ◌&&◌, ◌||◌, ◌==◌, not, if◌then◌else◌, List, [], ◌∷◌, codes, Option, Some, None}
+use Rattle.std.specs.List.{ends_with}
+use Rattle.std.specs.Option.{option_or}
+use Rattle.cv_path.specs.Path.{Path, components, file_name_of, parent_of, same_path}
+use Rattle.cv_path.specs.Texts.{same}
+use Rattle.cv_path.specs.declared.places.Place.{Place}
+use Rattle.cv_path.specs.declared.places.Place.TheVariants as place
+
+-- the components of a text, and the place that this path is
+abbrev pub at : List ℕ → Place → Path × Place
+at text p = (components text, p)
+
+-- the places that have one path
+abbrev pub fixed_places : List (Path × Place)
+fixed_places =
+    at (codes "var/lib/dpkg/status") place.Status
+    ∷ at (codes "lib/apk/db/installed") place.Installed
+    ∷ at (codes "usr/lib/apk/db/installed") place.UsrInstalled
+    ∷ at (codes "etc/os-release") place.Os
+    ∷ at (codes "usr/lib/os-release") place.UsrOs
+    ∷ []
+
+-- the folder of status files, as images without dpkg have it
+abbrev pub status_folder : Path
+status_folder = components (codes "var/lib/dpkg/status.d")
+
+-- the name of a status file in that folder; a list of checksums is none
+abbrev pub is_status_name : Option (List ℕ) → Bool
+is_status_name None = false
+is_status_name (Some name) = not (ends_with ◌==◌ name (codes ".md5sums"))
+
+-- a status file lies right in the folder
+abbrev pub is_status_file : Path → Bool
+is_status_file path = same_path (parent_of path) status_folder && is_status_name (file_name_of path)
+
+-- a scope is `@` and a name
+abbrev pub is_scope : List ℕ → Bool
+is_scope [] = false
+is_scope (b ∷ []) = false
+is_scope (b ∷ c ∷ cs) = same (b ∷ []) (codes "@")
+
+-- the components after `node_modules` name a package's own file: `<name>/package.json` or
+-- `@<scope>/<name>/package.json`
+abbrev pub names_package : Path → Bool
+names_package (name ∷ file ∷ []) = same file (codes "package.json")
+names_package (scope ∷ name ∷ file ∷ []) = is_scope scope && same file (codes "package.json")
+names_package _ = false
+
+-- the path ends in such a file below a `node_modules`, which may stand at any depth
+abbrev pub is_npm : Path → Bool
+is_npm [] = false
+is_npm (part ∷ parts) = same part (codes "node_modules") && names_package parts || is_npm parts
+
+-- the place of a path in a table
+abbrev pub place_in : List (Path × Place) → Path → Option Place
+place_in [] path = None
+place_in (row ∷ rows) path = if same_path path row.0 then Some row.1 else place_in rows path
+
+-- the places that many paths are
+abbrev pub open_place : Path → Option Place
+open_place path =
+    if is_status_file path then Some place.StatusFolder
+    else (if is_npm path then Some place.Npm else None)
+
+-- the place that a path is
+abbrev pub place_of : Path → Option Place
+place_of path = option_or (place_in fixed_places path) (open_place path)

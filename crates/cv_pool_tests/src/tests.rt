@@ -1,0 +1,125 @@
+ghost use Rattle.std.specs.Prelude.{◌≡◌, ◌<◌, ◌∷◌, []};
+ghost use Rattle.std.specs.Thread.{IsSync};
+ghost use Rattle.cv_pool.specs.Hands.{IsSameHand, AreSameHands};
+
+use cv_pool::{Hand, Taken, fill, gather};
+use std::alloc::Global;
+use std::sync::Wait;
+use std::test::Fail;
+use std::thread::{Threads, join_mut};
+
+fn is_shared<T: Send + Sync>() {}
+
+#[test]
+fn hands_are_shared_by_threads() {
+    is_shared::<Hand>();
+    is_shared::<Taken>();
+}
+
+/// Whether the next answers of a hand are these.
+fn answers<R: Wait>(rt: &R, hand: &mut Hand, wanted: &[Option<u32>]) -> bool
+    ensures { IsSameHand hand.old hand.new }
+{
+    for answer in wanted {
+        if hand.next(rt) != *answer {
+            return false;
+        }
+    }
+    true
+}
+
+#[test]
+fn a_hand_takes_its_own_jobs_and_then_those_of_others(rt: HostRuntime) -> Result<(), Fail> {
+    let cases: [(u32, &[Option<u32>], &[u32]); 2] = [
+        (0, &[None, None], &[]),
+        (
+            5,
+            &[Some(0), Some(2), Some(4), Some(1), Some(3), None],
+            &[0, 2, 4, 1, 3],
+        ),
+    ];
+    for (jobs, wanted, list) in cases {
+        let mut hands = fill(rt.alloc(), jobs, 2)?;
+        assert!(rt; answers(&rt, &mut hands[0], wanted), "{jobs} jobs");
+        assert!(rt; answers(&rt, &mut hands[1], &[None]), "{jobs} jobs");
+        let taken = gather(hands);
+        let lists = taken.lists.as_slice();
+        assert_eq!(rt; lists[0].as_slice(), list, "{jobs} jobs");
+        assert!(rt; lists[1].as_slice().is_empty(), "{jobs} jobs");
+    }
+    Ok(())
+}
+
+/// Takes jobs until there are none left.
+fn take_all<R: Wait>(rt: &R, hand: &mut Hand)
+    ensures { IsSameHand hand.old hand.new }
+{
+    for _ in rt.forever() {
+        if hand.next(rt).is_none() {
+            break;
+        }
+    }
+}
+
+/// Each hand does so in a thread of its own.
+fn run_all<R: Threads + Wait + Sync>(rt: &R, hands: &mut [Hand])
+    ensures { AreSameHands hands.old hands.new }
+{
+    let Some((hand, others)) = hands.split_first_mut() else {
+        return;
+    };
+    join_mut(
+        rt,
+        &mut ||
+            requires { IsSync R.row }
+            ensures { IsSameHand hand.entry.now hand.exit.now }
+        { take_all(rt, hand) },
+        &mut ||
+            requires { IsSync R.row }
+            ensures { AreSameHands others.entry.now others.exit.now }
+        { run_all(rt, others) },
+    );
+}
+
+/// Each hand does so, or each hand but the first.
+fn run<R: Threads + Wait + Sync>(rt: &R, hands: &mut [Hand], is_first_idle: bool)
+    ensures { AreSameHands hands.old hands.new }
+{
+    if !is_first_idle {
+        return run_all(rt, hands);
+    }
+    let Some((_first, others)) = hands.split_first_mut() else {
+        return;
+    };
+    run_all(rt, others);
+}
+
+/// Whether the lists have each job below a number once, and no other.
+fn has_each_once(alloc: Global, taken: &Taken, jobs: usize) -> Result<bool, Fail> {
+    let mut all = Vec::new(alloc);
+    for list in taken.lists.as_slice() {
+        all.extend_from_slice(list.as_slice())?;
+    }
+    all.sort()?;
+    Ok(
+        all.len() == jobs
+            && all
+                .iter()
+                .enumerate()
+                .all(|(index, job)| index == *job as usize),
+    )
+}
+
+#[test]
+fn threads_take_each_job_once(rt: HostRuntime) -> Result<(), Fail> {
+    for is_first_idle in [false, true] {
+        let mut hands = fill(rt.alloc(), 1000, 4)?;
+        run(&rt, hands.as_mut_slice(), is_first_idle);
+        let taken = gather(hands);
+        let lists = taken.lists.as_slice();
+        assert_eq!(rt; lists.len(), 4);
+        assert!(rt; !is_first_idle || lists[0].as_slice().is_empty());
+        assert!(rt; has_each_once(rt.alloc(), &taken, 1000)?);
+    }
+    Ok(())
+}

@@ -1,0 +1,6 @@
+pub mod CommandEnds
+pub mod Completeness
+pub mod DrillLemmas
+pub mod FaultLines
+pub mod ShortInput
+pub mod Unread

@@ -1,0 +1,5 @@
+pub mod Arguments
+pub mod Drill
+pub mod Run
+pub mod Service
+pub mod code

@@ -1,0 +1,93 @@
+ghost use Rattle.std.specs.Prelude.{◌≡◌, ◌^◌, ◌<◌, ◌≤◌, length, All, IfSome};
+ghost use Rattle.cv_seq.specs.Cause.{Rose};
+ghost use Rattle.cv_run.specs.Service.{ServeEnds, ServiceEnds, status_of, worker_count};
+
+use cv_command::{Status, print_usage};
+use cv_desk::Desk;
+use cv_io::{Sink, Source};
+use cv_serve::{ServeEnd, serve};
+use std::alloc::Global;
+use std::sync::Wait;
+use std::thread::Threads;
+
+/// How many workers a service has, if it may have more desks.
+const WORKERS: u32 = 4;
+
+/// Serves the requests of the input to its end, and prints the transcript. Worker w has the desk with that index, and the workers may
+/// be so many as there are desks. Without a number of workers there are four of them, or as many as desks.
+pub fn serve_command<S: Source, K: Sink, D: Desk + Drop + Send + Sync, W: Threads + Wait + Sync>(
+    rt: &W,
+    alloc: Global,
+    workers: Option<u32>,
+    input: &mut S,
+    output: &mut K,
+    desks: &mut Vec<D>,
+) -> Status
+    requires has_desks { 1 ≤ length desks.old.items }
+    requires at_most_8_desks { length desks.old.items ≤ 8 }
+    requires room { All (λ desk. D.listings desk < 2 ^ 62) desks.old.items }
+    ensures outcome { ServiceEnds D.tree S.remaining D.listings D.faults (worker_count workers (length desks.old.items))
+        (record { input = input.old; written = K.contents output.old; desks = desks.old.items })
+        (record { input = input.new; written = K.contents output.new; desks = desks.new.items })
+        result }
+    ensures read_fault { result ≡ Status.ReadFault → Rose (S.faults input.old) (S.faults input.new) }
+    ensures write_fault { result ≡ Status.WriteFault → Rose (K.faults output.old) (K.faults output.new) }
+{
+    let Some(workers) = worker_count(workers, desks.len()) else {
+        return print_usage(output);
+    };
+    serve_by(rt, alloc, workers, input, output, desks)
+}
+
+/// Serves with so many workers.
+fn serve_by<S: Source, K: Sink, D: Desk + Drop + Send + Sync, W: Threads + Wait + Sync>(
+    rt: &W,
+    alloc: Global,
+    workers: u32,
+    input: &mut S,
+    output: &mut K,
+    desks: &mut Vec<D>,
+) -> Status
+    requires some { 1 ≤ workers }
+    requires at_most_one_for_each_desk { workers ≤ length desks.old.items }
+    requires at_most_8_desks { length desks.old.items ≤ 8 }
+    requires room { All (λ desk. D.listings desk < 2 ^ 62) desks.old.items }
+    ensures outcome { ServeEnds D.tree S.remaining D.listings D.faults workers
+        (record { input = input.old; written = K.contents output.old; desks = desks.old.items })
+        (record { input = input.new; written = K.contents output.new; desks = desks.new.items })
+        result }
+    ensures read_fault { result ≡ Status.ReadFault → Rose (S.faults input.old) (S.faults input.new) }
+    ensures write_fault { result ≡ Status.WriteFault → Rose (K.faults output.old) (K.faults output.new) }
+{
+    status_of(serve(rt, alloc, input, output, desks, workers))
+}
+
+/// How many workers there are, if there may be as many as were asked for.
+fn worker_count(workers: Option<u32>, desks: usize) -> Option<u32>
+    requires has_desks { 1 ≤ desks }
+    requires at_most_8_desks { desks ≤ 8 }
+    ensures value { result ≡ worker_count workers desks }
+    ensures some { IfSome result (λ count. 1 ≤ count) }
+    ensures within { IfSome result (λ count. count ≤ desks) }
+{
+    let desks = desks as u32;
+    match workers {
+        None => Some(WORKERS.min(desks)),
+        Some(workers) if 1 <= workers && workers <= desks => Some(workers),
+        Some(_) => None,
+    }
+}
+
+/// The status of the end of a service.
+pub fn status_of(end: ServeEnd) -> Status
+    ensures { result ≡ status_of end }
+{
+    match end {
+        ServeEnd::Done => Status::Done,
+        ServeEnd::ReadFault => Status::ReadFault,
+        ServeEnd::WriteFault => Status::WriteFault,
+        ServeEnd::LineTooLong => Status::LineTooLong,
+        ServeEnd::InputTooLong => Status::InputTooLong,
+        ServeEnd::NoMemory => Status::NoMemory,
+    }
+}

@@ -1,0 +1,68 @@
+-- No number of a line has a point.
+use Rattle.std.proofs.Common.{◌≡◌, ℕ, false, List, [], ◌∷◌, refl}
+use Rattle.std.specs.Prelude.{Option, Some, None}
+use Rattle.serde_json.specs.Written.{has_float}
+use Rattle.cv_base.specs.declared.finding.Finding.{Finding}
+use Rattle.cv_scan_output.specs.Finding.{findings_data, fixed_data}
+use Rattle.cv_scan_output.specs.Scan.{good_data}
+use Rattle.cv_overlay.specs.declared.fault.ImageFault.{ImageFault}
+use Rattle.cv_overlay.specs.declared.fault.ImageFault.TheVariants.{NoLayer, BadTree, BadFile, TooLarge}
+use Rattle.cv_overlay.specs.declared.fault.TreeFault.{TreeFault}
+use Rattle.cv_overlay.specs.declared.fault.TreeFault.TheVariants.{Unsorted, NoParent, BadMark, TooMany}
+use Rattle.cv_request.specs.declared.error.RequestError.{RequestError}
+use Rattle.cv_request.specs.declared.error.RequestError.TheVariants.{BadJson, BadRequest, BadAdvisory, DuplicateId, TooManyAdvisories, NoMemory}
+use Rattle.cv_request.specs.declared.error.RequestWhat.{RequestWhat}
+use Rattle.cv_request.specs.declared.error.RequestWhat.TheVariants as request_what
+use Rattle.cv_scan_output.specs.Bad.{bad_data, bad_image_data, bad_tree_data}
+use Rattle.cv_scan_output.specs.Refusal.{bad_request_data, refusal_data}
+
+fixed_has_none : (fixed : Option (List ℕ)) → has_float (fixed_data fixed) ≡ false
+fixed_has_none None = refl
+fixed_has_none (Some text) = refl
+
+findings_have_none : (fs : List Finding) → has_float (findings_data fs) ≡ false
+findings_have_none [] = refl
+findings_have_none (f ∷ fs) = rw (fixed_has_none f.fixed) (findings_have_none fs)
+
+pub good_has_none : (image : List ℕ) (fs : List Finding) → has_float (good_data image fs) ≡ false
+good_has_none image fs = rw (findings_have_none fs) refl
+
+tree_has_none : (layer : ℕ) (fault : TreeFault) → has_float (bad_tree_data layer fault) ≡ false
+tree_has_none layer (Unsorted entry) = refl
+tree_has_none layer (NoParent entry) = refl
+tree_has_none layer (BadMark entry) = refl
+tree_has_none layer TooMany = refl
+
+bad_has_none : (bad : ImageFault) → has_float (bad_data bad) ≡ false
+bad_has_none (NoLayer layer) = refl
+bad_has_none (BadTree layer fault) = tree_has_none layer fault
+bad_has_none (BadFile path line what) = refl
+bad_has_none (TooLarge path) = refl
+
+pub bad_image_has_none : (image : List ℕ) (bad : ImageFault) → has_float (bad_image_data image bad) ≡ false
+bad_image_has_none image bad = rw (bad_has_none bad) refl
+
+request_has_none : (line : ℕ) (what : RequestWhat) → has_float (bad_request_data line what) ≡ false
+request_has_none line request_what.NotObject = refl
+request_has_none line request_what.BadLane = refl
+request_has_none line request_what.BadDo = refl
+request_has_none line request_what.BadImage = refl
+request_has_none line request_what.BadManifest = refl
+request_has_none line request_what.BadHash = refl
+request_has_none line request_what.BadLayers = refl
+request_has_none line request_what.NoLayers = refl
+request_has_none line request_what.TooManyLayers = refl
+request_has_none line (request_what.BadLayer index) = refl
+request_has_none line request_what.BadFeed = refl
+request_has_none line request_what.BadAdvisories = refl
+request_has_none line request_what.BadNumber = refl
+request_has_none line request_what.BadSize = refl
+request_has_none line request_what.BadPage = refl
+
+pub refusal_has_none : (line : ℕ) (error : RequestError) → has_float (refusal_data line error) ≡ false
+refusal_has_none line BadJson = refl
+refusal_has_none line (BadRequest what) = request_has_none line what
+refusal_has_none line (BadAdvisory index what) = refl
+refusal_has_none line (DuplicateId first second) = refl
+refusal_has_none line TooManyAdvisories = refl
+refusal_has_none line NoMemory = refl

@@ -1,0 +1,69 @@
+-- Why an image has no packages, as JSON (defined by this project). Indices of layers and entries count from 0, lines from 1.
+use Rattle.std.specs.Prelude.{ℕ, List, codes}
+use Rattle.std.specs.List.{join_with_byte}
+use Rattle.serde_json.specs.Data.{Data, no_members, member, number, object, string, unsigned}
+use Rattle.cv_base.specs.Digest.{digest_text}
+use Rattle.cv_base.specs.Path.{Path}
+use Rattle.cv_base.specs.declared.fault.What.{What}
+use Rattle.cv_overlay.specs.declared.fault.ImageFault.{ImageFault}
+use Rattle.cv_overlay.specs.declared.fault.ImageFault.TheVariants.{NoLayer, BadTree, BadFile, TooLarge}
+use Rattle.cv_overlay.specs.declared.fault.TreeFault.{TreeFault}
+use Rattle.cv_overlay.specs.declared.fault.TreeFault.TheVariants.{Unsorted, NoParent, BadMark, TooMany}
+use Rattle.cv_scan_output.specs.Line.{line_text}
+use Rattle.cv_scan_output.specs.Names.{what_name}
+
+-- a layer that is absent
+abbrev pub no_layer_data : ℕ → Data
+no_layer_data layer = object (member (codes "cause") (string (codes "no_layer")) (member (codes "layer") (number (unsigned layer)) no_members))
+
+-- a layer with a bad entry
+abbrev pub entry_data : ℕ → ℕ → List ℕ → Data
+entry_data layer entry what =
+    object (member (codes "cause") (string (codes "bad_tree"))
+    (member (codes "entry") (number (unsigned entry))
+    (member (codes "layer") (number (unsigned layer))
+    (member (codes "what") (string what) no_members))))
+
+-- a layer with too many entries
+abbrev pub too_many_data : ℕ → Data
+too_many_data layer =
+    object (member (codes "cause") (string (codes "bad_tree"))
+    (member (codes "layer") (number (unsigned layer))
+    (member (codes "what") (string (codes "too_many")) no_members)))
+
+-- a layer whose tree has a fault
+abbrev pub bad_tree_data : ℕ → TreeFault → Data
+bad_tree_data layer (Unsorted entry) = entry_data layer entry (codes "unsorted")
+bad_tree_data layer (NoParent entry) = entry_data layer entry (codes "no_parent")
+bad_tree_data layer (BadMark entry) = entry_data layer entry (codes "bad_mark")
+bad_tree_data layer TooMany = too_many_data layer
+
+-- a package file with a bad line; a path is its components with `/` between them
+abbrev pub bad_file_data : Path → ℕ → What → Data
+bad_file_data path line what =
+    object (member (codes "cause") (string (codes "bad_file"))
+    (member (codes "line") (number (unsigned line))
+    (member (codes "path") (string (join_with_byte 47 path))
+    (member (codes "what") (string (what_name what)) no_members))))
+
+-- a package file with too many bytes
+abbrev pub too_large_data : Path → Data
+too_large_data path = object (member (codes "cause") (string (codes "too_large")) (member (codes "path") (string (join_with_byte 47 path)) no_members))
+
+-- why an image has no packages
+abbrev pub bad_data : ImageFault → Data
+bad_data (NoLayer layer) = no_layer_data layer
+bad_data (BadTree layer fault) = bad_tree_data layer fault
+bad_data (BadFile path line what) = bad_file_data path line what
+bad_data (TooLarge path) = too_large_data path
+
+-- the JSON value of a bad image
+abbrev pub bad_image_data : List ℕ → ImageFault → Data
+bad_image_data image bad =
+    object (member (codes "bad") (bad_data bad)
+    (member (codes "image") (string (digest_text image))
+    (member (codes "reply") (string (codes "bad_image")) no_members)))
+
+-- an image that has no packages, with the reason
+unfoldable pub bad_image_text : List ℕ → ImageFault → List ℕ
+bad_image_text image bad = line_text (bad_image_data image bad)

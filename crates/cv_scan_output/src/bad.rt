@@ -1,0 +1,115 @@
+ghost use Rattle.std.specs.Prelude.{◌≡◌, IfOk, string_bytes};
+ghost use Rattle.serde_json.specs.View.{view};
+ghost use Rattle.cv_scan_output.specs.Bad.{bad_data, bad_file_data, bad_image_data, bad_image_text, bad_tree_data, entry_data, no_layer_data, too_large_data, too_many_data};
+
+use crate::line::line_of;
+use crate::names::what_name;
+use crate::object::Object;
+use cv_base::{Digest, NoMemory, RelPath, What};
+use cv_overlay::{ImageFault, TreeFault};
+use serde_json::Value;
+use std::alloc::Global;
+
+/// The line of an image that has no packages, with the reason: `{"bad":{..},"image":"..","reply":"bad_image"}`.
+#[tactic(auto, unfolding(crate::specs::Bad::bad_image_text))]
+pub fn bad_image_line(alloc: Global, image: &Digest, bad: &ImageFault) -> Result<String, NoMemory>
+    ensures { IfOk result (λ line. string_bytes line ≡ bad_image_text image.now bad.now) }
+{
+    let value = bad_image_value(alloc, image, bad)?;
+    line_of(alloc, &value)
+}
+
+fn bad_image_value(alloc: Global, image: &Digest, bad: &ImageFault) -> Result<Value, NoMemory>
+    ensures { IfOk result (λ value. view value ≡ bad_image_data image.now bad.now) }
+{
+    Ok(
+        Object::new(alloc)
+            .value(alloc, "bad", bad_value(alloc, bad)?)?
+            .text(alloc, "image", image.text(alloc)?.as_str())?
+            .text(alloc, "reply", "bad_image")?
+            .done(),
+    )
+}
+
+/// The JSON of why an image has no packages: a cause, the layer or the path, and what is wrong there.
+pub fn bad_value(alloc: Global, bad: &ImageFault) -> Result<Value, NoMemory>
+    ensures { IfOk result (λ value. view value ≡ bad_data bad.now) }
+{
+    match bad {
+        ImageFault::NoLayer(layer) => no_layer_value(alloc, *layer),
+        ImageFault::BadTree(layer, fault) => bad_tree_value(alloc, *layer, *fault),
+        ImageFault::BadFile { path, line, what } => bad_file_value(alloc, path, *line, *what),
+        ImageFault::TooLarge { path } => too_large_value(alloc, path),
+    }
+}
+
+fn no_layer_value(alloc: Global, layer: u32) -> Result<Value, NoMemory>
+    ensures { IfOk result (λ value. view value ≡ no_layer_data layer) }
+{
+    Ok(
+        Object::new(alloc)
+            .text(alloc, "cause", "no_layer")?
+            .value(alloc, "layer", Value::from(layer))?
+            .done(),
+    )
+}
+
+fn bad_tree_value(alloc: Global, layer: u32, fault: TreeFault) -> Result<Value, NoMemory>
+    ensures { IfOk result (λ value. view value ≡ bad_tree_data layer fault) }
+{
+    match fault {
+        TreeFault::Unsorted(entry) => entry_value(alloc, layer, entry, "unsorted"),
+        TreeFault::NoParent(entry) => entry_value(alloc, layer, entry, "no_parent"),
+        TreeFault::BadMark(entry) => entry_value(alloc, layer, entry, "bad_mark"),
+        TreeFault::TooMany => too_many_value(alloc, layer),
+    }
+}
+
+fn entry_value(alloc: Global, layer: u32, entry: u32, what: &str) -> Result<Value, NoMemory>
+    ensures { IfOk result (λ value. view value ≡ entry_data layer entry what.now) }
+{
+    Ok(
+        Object::new(alloc)
+            .text(alloc, "cause", "bad_tree")?
+            .value(alloc, "entry", Value::from(entry))?
+            .value(alloc, "layer", Value::from(layer))?
+            .text(alloc, "what", what)?
+            .done(),
+    )
+}
+
+fn too_many_value(alloc: Global, layer: u32) -> Result<Value, NoMemory>
+    ensures { IfOk result (λ value. view value ≡ too_many_data layer) }
+{
+    Ok(
+        Object::new(alloc)
+            .text(alloc, "cause", "bad_tree")?
+            .value(alloc, "layer", Value::from(layer))?
+            .text(alloc, "what", "too_many")?
+            .done(),
+    )
+}
+
+fn bad_file_value(alloc: Global, path: &RelPath, line: u64, what: What) -> Result<Value, NoMemory>
+    ensures { IfOk result (λ value. view value ≡ bad_file_data path.now line what) }
+{
+    Ok(
+        Object::new(alloc)
+            .text(alloc, "cause", "bad_file")?
+            .value(alloc, "line", Value::from(line))?
+            .text(alloc, "path", path.text())?
+            .text(alloc, "what", what_name(what))?
+            .done(),
+    )
+}
+
+fn too_large_value(alloc: Global, path: &RelPath) -> Result<Value, NoMemory>
+    ensures { IfOk result (λ value. view value ≡ too_large_data path.now) }
+{
+    Ok(
+        Object::new(alloc)
+            .text(alloc, "cause", "too_large")?
+            .text(alloc, "path", path.text())?
+            .done(),
+    )
+}

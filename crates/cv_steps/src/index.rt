@@ -1,0 +1,44 @@
+ghost use Rattle.std.specs.Prelude.{◌≡◌, ◌^◌, ◌<◌, IfOk};
+ghost use Rattle.cv_machine.specs.Step.{finish};
+ghost use Rattle.cv_steps.specs.Core.{counted};
+
+use crate::machine::Machine;
+use cv_base::{Digest, Steps};
+use cv_desk::Desk;
+use cv_facts::LayerFacts;
+use cv_machine::Status;
+use cv_records::Reply;
+use cv_seq::NoMemory;
+use std::alloc::Global;
+use std::sync::ledger::Ledger;
+
+impl<D: Desk + Drop> Machine<D> {
+    /// A worker has indexed a layer.
+    pub(crate) fn index<L: Ledger>(
+        &self,
+        alloc: Global,
+        facts: LayerFacts<D>,
+        worker: u32,
+        steps: &mut Steps<L>,
+    ) -> Result<(Machine<D>, Reply), NoMemory>
+        requires room { self.now.count < 2 ^ 63 }
+        ensures { IfOk result (λ after. after ≡ counted self.now (finish self.now.state facts.digest worker Status.Indexed Reply.Entered)) }
+    {
+        let (inventory, reply) = self.inventory.index(alloc, facts, worker, steps)?;
+        self.with_inventory(inventory, reply)
+    }
+
+    /// A worker gives a layer back.
+    pub(crate) fn requeue(
+        &self,
+        alloc: Global,
+        layer: &Digest,
+        worker: u32,
+    ) -> Result<(Machine<D>, Reply), NoMemory>
+        requires room { self.now.count < 2 ^ 63 }
+        ensures { IfOk result (λ after. after ≡ counted self.now (finish self.now.state layer.now worker Status.Queued Reply.Requeued)) }
+    {
+        let (inventory, reply) = self.inventory.requeue(alloc, layer, worker)?;
+        self.with_inventory(inventory, reply)
+    }
+}

@@ -1,0 +1,91 @@
+ghost use Rattle.std.specs.Prelude.{◌≡◌, ◌≤◌, IfOk};
+ghost use Rattle.cv_inventory.specs.Holdings.{holding};
+ghost use Rattle.cv_machine.specs.Layers.{queued};
+ghost use Rattle.cv_machine.specs.declared.limits.TheConstants.{MAX_FEEDS, MAX_IMAGES};
+ghost use Rattle.cv_steps.specs.Core.{IsRegular, opened};
+
+use cv_base::Digest;
+use cv_desk::Desk;
+use cv_inventory::Inventory;
+use cv_machine::Limits;
+use cv_notice::Notices;
+use cv_seq::{NoMemory, Seq};
+use cv_tree::Shared;
+use std::alloc::Global;
+use std::marker::Model;
+
+/// The machine of the service. Contracts see its state, and how many events it replied to. The outcome of each image is kept, so
+/// that reports are read without matching.
+#[derive(Drop)]
+pub struct Machine<D: Desk> {
+    pub(crate) inventory: Inventory<D>,
+    pub(crate) notices: Shared<Notices>,
+    pub(crate) generation: u64,
+    pub(crate) count: u64,
+}
+
+impl<D: Desk> Model for Machine<D> {
+    ghost use Rattle.cv_steps.specs.Core.{CoreView, IsRegular};
+    ghost use Rattle.cv_steps.specs.code.Parts.{core_of};
+
+    ghost Value = { CoreView };
+
+    ghost view = { λ m. core_of m.inventory m.notices m.generation m.count };
+
+    ghost invariant = { λ m. IsRegular (core_of m.inventory m.notices m.generation m.count) };
+}
+
+impl<D: Desk + Drop> Machine<D> {
+    /// The machine before all events. There may be as many images and feeds as the limits say.
+    pub fn new(alloc: Global, limits: Limits) -> Result<Machine<D>, NoMemory>
+        requires images { (1 ≤ limits.images) × (limits.images ≤ MAX_IMAGES) }
+        requires feeds { (1 ≤ limits.feeds) × (limits.feeds ≤ MAX_FEEDS) }
+        ensures { IfOk result (λ machine. machine ≡ opened limits) }
+    {
+        let notices = Shared::of(alloc, Notices::new(alloc))?;
+        let inventory = Inventory::new(alloc, limits)?;
+        Ok(Machine::of(inventory, notices, 0, 0))
+    }
+
+    /// How many events it replied to. It takes no memory.
+    pub fn count(&self) -> u64
+        ensures { result ≡ self.now.count }
+    {
+        self.count
+    }
+
+    /// The generation of the last update, or 0. It takes no memory.
+    pub fn generation(&self) -> u64
+        ensures { result ≡ self.now.state.generation }
+    {
+        self.generation
+    }
+
+    /// The images, layers and feeds. It takes no memory.
+    pub fn inventory(&self) -> &Inventory<D>
+        ensures { holding self.now.state result.now ≡ self.now.state }
+    {
+        &self.inventory
+    }
+
+    /// The notifications that are not acknowledged. It takes no memory.
+    pub fn notices(&self) -> &Shared<Notices>
+        ensures { result.now ≡ self.now.state.notifications }
+    {
+        &self.notices
+    }
+
+    /// The layers that wait for a worker, in ascending order.
+    pub fn queued(&self, alloc: Global) -> Result<Seq<Digest>, NoMemory>
+        ensures { IfOk result (λ layers. layers ≡ queued self.now.state.layers) }
+    {
+        Ok(Seq::of(self.inventory.queued(alloc)?))
+    }
+
+    /// The state is consistent. For proofs: it has no effect at run time.
+    pub fn regular(&self)
+        ensures { IsRegular self.now }
+    {
+        let _inventory = &self.inventory;
+    }
+}

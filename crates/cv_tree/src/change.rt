@@ -1,0 +1,107 @@
+ghost use Rattle.std.specs.Prelude.{◌≡◌, ◌++◌, drop, IfOk};
+ghost use Rattle.cv_tree.specs.Entries.{IsAscending, with_entry, without_key};
+
+use crate::search::first;
+use cv_avl::{Branch, Share};
+use cv_seq::NoMemory;
+use std::alloc::Global;
+use std::cmp::Ordering;
+
+/// The same branch with a value at a key, if the keys ascend.
+pub fn set<K: Ord + Copy, V: Share + Drop>(
+    alloc: Global,
+    branch: &Branch<K, V>,
+    key: K,
+    value: V,
+) -> Result<Branch<K, V>, NoMemory>
+    ensures { IsAscending K.cmp branch.now → IfOk result (λ b. b ≡ with_entry K.cmp branch.now key value) }
+{
+    let Some(fork) = branch.fork() else {
+        return Branch::of(alloc, Branch::empty(), key, value, Branch::empty());
+    };
+    match key.cmp(&fork.key) {
+        Ordering::Less => {
+            let old = fork.value.share()?;
+            let right = fork.right.share()?;
+            let left = set(alloc, &fork.left, key, value)?;
+            Branch::joined(alloc, left, fork.key, old, right)
+        }
+        Ordering::Equal => {
+            let left = fork.left.share()?;
+            let right = fork.right.share()?;
+            Branch::of(alloc, left, fork.key, value, right)
+        }
+        Ordering::Greater => {
+            let old = fork.value.share()?;
+            let left = fork.left.share()?;
+            let right = set(alloc, &fork.right, key, value)?;
+            Branch::joined(alloc, left, fork.key, old, right)
+        }
+    }
+}
+
+/// The same branch without a key, if the keys ascend.
+pub fn without<K: Ord + Copy, V: Share + Drop>(
+    alloc: Global,
+    branch: &Branch<K, V>,
+    key: &K,
+) -> Result<Branch<K, V>, NoMemory>
+    ensures { IsAscending K.cmp branch.now → IfOk result (λ b. b ≡ without_key K.cmp branch.now key.now) }
+{
+    let Some(fork) = branch.fork() else {
+        return Ok(Branch::empty());
+    };
+    match key.cmp(&fork.key) {
+        Ordering::Less => {
+            let old = fork.value.share()?;
+            let right = fork.right.share()?;
+            let left = without(alloc, &fork.left, key)?;
+            Branch::joined(alloc, left, fork.key, old, right)
+        }
+        Ordering::Equal => {
+            let left = fork.left.share()?;
+            appended(alloc, left, &fork.right)
+        }
+        Ordering::Greater => {
+            let old = fork.value.share()?;
+            let left = fork.left.share()?;
+            let right = without(alloc, &fork.right, key)?;
+            Branch::joined(alloc, left, fork.key, old, right)
+        }
+    }
+}
+
+/// Two branches in a row, whose heights differ by at most one.
+fn appended<K: Copy, V: Share + Drop>(
+    alloc: Global,
+    left: Branch<K, V>,
+    right: &Branch<K, V>,
+) -> Result<Branch<K, V>, NoMemory>
+    ensures { IfOk result (λ b. b ≡ left ++ right.now) }
+{
+    let Some((key, value)) = first(right) else {
+        return Ok(left);
+    };
+    let value = value.share()?;
+    let rest = without_first(alloc, right)?;
+    Branch::joined(alloc, left, *key, value, rest)
+}
+
+/// The same branch without its leftmost entry, if it has one.
+fn without_first<K: Copy, V: Share + Drop>(
+    alloc: Global,
+    branch: &Branch<K, V>,
+) -> Result<Branch<K, V>, NoMemory>
+    ensures { IfOk result (λ b. b ≡ drop 1 branch.now) }
+{
+    let Some(fork) = branch.fork() else {
+        return Ok(Branch::empty());
+    };
+    if fork.left.fork().is_none() {
+        return fork.right.share();
+    }
+    let value = fork.value.share()?;
+    let right = fork.right.share()?;
+    let left = without_first(alloc, &fork.left)?;
+    Branch::joined(alloc, left, fork.key, value, right)
+}

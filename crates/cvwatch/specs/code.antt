@@ -1,3 +1,0 @@
--- Words that only retell private functions.
-pub mod Drilled
-pub mod Printing

@@ -1,2 +1,0 @@
--- Data of tests.
-pub mod Layers
