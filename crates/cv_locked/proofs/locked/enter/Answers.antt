@@ -25,11 +25,12 @@ pub returns-clause-applied : goal.returns-clause-applied
 returns-clause-applied g c =
     let list = c.args.events.list in
     let replied : c.of.result.value ≡ c.commit-core.result.1 = c.of.ensures ∙ (c.requires.ready.reply_is ∙ sym (ap (λ end. end.1) c.commit-core.ensures)) in
-    let added : c.again-front.result ≡ c.add.new.self.list = c.again-front.ensures ∙ ap (λ s. s.list) c.events-2.view_is in
+    let front : c.again-front.result ≡ c.add.new.self.list = c.again-front.ensures ∙ ap (λ s. s.list) c.events-2.view_is in
+    let added : c.of-2.result ≡ c.add.new.self.list = c.of-2.ensures ∙ front in
     let event : Submission = record { seat = c.args.seat.now.index; by = c.args.by; act = act_of c.args.ready.event.value; reply = c.commit-core.result.1 } in
     let is : c.add.new.self.list ≡ list ++ event ∷ [] = cc (c.add.ensures.list, c.number.ensures.number, replied) in
     record {
-      number_is = c.len.ensures.length ∙ (ap length (added ∙ is) ∙ length-append list (event ∷ []));
+      number_is = c.len.ensures.length ∙ (ap length (front ∙ is) ∙ length-append list (event ∷ []));
       few = rw c.len.ensures.length c.len.ensures.few;
       reply_is = λ known. ap (λ end. end.1) c.commit-core.ensures
           ∙ planned_reply g.D.Desk.tree g.L.Identity.limits list c.args.ready.planned.before event.act c.args.ready.planned c.requires.after c.requires.ready.stepped known;
