@@ -12,19 +12,35 @@ use logbook::{Offer, Seen, Word};
 use std::marker::{Model, PhantomData};
 
 /// The word of a hub's book: the length of its list.
-#[derive(Drop)]
 pub struct Head<L: Identity> {
     pub(crate) word: Word<Submission, u64, Law>,
     pub(crate) of: PhantomData<L>,
     pub(crate) ghost word_is: { word ≡ head_of L.book },
 }
 
+/// Written out, so that the crates above call it, and do not prove anew how each part is dropped.
+impl<L: Identity> Drop for Head<L> {
+    fn drop(self) {
+        let Head { word: _, of: _ } = self;
+    }
+}
+
 /// A beginning of a hub's list. Contracts see it as its events.
-#[derive(Drop)]
 pub struct Front<D: Desk, L: Identity> {
     pub(crate) number: u64,
     pub(crate) seen: Seen<Submission, u64, Law>,
     pub(crate) of: PhantomData<(D, L)>,
+}
+
+/// Written out, so that the crates above call it, and do not prove anew how each part is dropped.
+impl<D: Desk, L: Identity> Drop for Front<D, L> {
+    fn drop(self) {
+        let Front {
+            number: _,
+            seen: _,
+            of: _,
+        } = self;
+    }
 }
 
 impl<D: Desk, L: Identity> Model for Front<D, L> {
