@@ -1,9 +1,4 @@
+pub use Rattle.cv_locked.proofs.Replays
+pub use Rattle.cv_seats.proofs.Made
+pub use Rattle.cv_seats.proofs.Prefixes
 pub mod Crossing
-pub mod Adding
-pub mod Comparing
-pub mod Fresh
-pub mod Listed
-pub mod Made
-pub mod Prefixes
-pub mod Receipts
-pub mod Replays

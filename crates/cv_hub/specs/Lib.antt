@@ -1,3 +1,2 @@
-pub mod Events
-pub mod Seats
-pub mod code
+pub use Rattle.cv_seats.specs.Events
+pub use Rattle.cv_seats.specs.Seats

@@ -3,22 +3,19 @@ ghost use mathlib.Core.List.{IsPrefix};
 ghost use Rattle.cv_machine.specs.Answer.{heads, page_of, report_of};
 ghost use Rattle.cv_machine.specs.Layers.{queued};
 ghost use Rattle.cv_machine.specs.Scans.{IsKnown, trees_of};
-ghost use Rattle.cv_core.specs.Core.{IsSound, act_of};
-ghost use Rattle.cv_core.specs.Reports.{shown};
+ghost use Rattle.cv_locked.specs.Core.{IsSound, act_of};
+ghost use Rattle.cv_locked.specs.Reports.{shown};
 ghost use Rattle.cv_notice.specs.Pages.{shown as shown_page};
 ghost use Rattle.cv_notice.specs.Notices.{page_at};
-ghost use Rattle.cv_hub.specs.Events.{entries_from, state_of};
-ghost use Rattle.cv_hub.specs.Seats.{AreAllReceipts, AreNumbered, HaveSeen, IsApplied};
-ghost use Rattle.cv_hub.specs.code.Locked.{IsAfter};
+ghost use Rattle.cv_seats.specs.Events.{entries_from, state_of};
+ghost use Rattle.cv_seats.specs.Seats.{AreAllReceipts, AreNumbered, HaveSeen, IsApplied};
+ghost use Rattle.cv_locked.specs.code.Locked.{IsAfter};
 
-use crate::front::Front;
-use crate::identity::Identity;
-use crate::locked::{Locked, Receipt};
-use crate::seat::Seat;
 use cv_base::Digest;
-use cv_core::{Core, Event, NoticeHead, Page, PageError, Report, ReportRefusal};
 use cv_desk::Desk;
+use cv_locked::{Core, Event, Locked, NoticeHead, Page, PageError, Receipt, Report, ReportRefusal};
 use cv_records::{By, EventEntry};
+use cv_seats::{Front, Identity, Seat};
 use cv_seq::{NoMemory, Seq};
 use std::alloc::Global;
 use std::marker::Model;
@@ -26,17 +23,23 @@ use std::sync::{MutexGuard, Wait};
 
 /// A view of a hub that holds its lock: the core after the events so far. Contracts see these events. Nobody else applies an event
 /// until it is dropped.
-#[derive(Drop)]
 pub struct Held<'a, D: Desk, L: Identity> {
     guard: MutexGuard<'a, Option<Locked<D, L>>>,
     front: Front<D, L>,
+}
+
+/// Written out, so that the crates above call it, and do not prove anew how each part is dropped.
+impl<'a, D: Desk + Drop, L: Identity> Drop for Held<'a, D, L> {
+    fn drop(self) {
+        let Held { guard: _, front: _ } = self;
+    }
 }
 
 impl<'a, D: Desk, L: Identity> Model for Held<'a, D, L> {
     ghost use Rattle.std.specs.Prelude.{◌≡◌, List, Some};
     ghost use Rattle.std.specs.Option.{option_map};
     ghost use Rattle.std.specs.Sync.Mutex.{mutex_guard_value};
-    ghost use Rattle.cv_hub.specs.declared.submission.Submission.{Submission};
+    ghost use Rattle.cv_seats.specs.declared.submission.Submission.{Submission};
 
     ghost Value = { List Submission };
 
@@ -49,7 +52,7 @@ impl<'a, D: Desk + Drop, L: Identity> Held<'a, D, L> {
     /// The view of a guard, unless a hold ended before it gave back what lies under the lock.
     pub(crate) fn of(guard: MutexGuard<'a, Option<Locked<D, L>>>) -> Option<Held<'a, D, L>> {
         let front = match &*guard {
-            Some(locked) => locked.events.front.again(),
+            Some(locked) => locked.front().again(),
             None => return None,
         };
         Some(Held { guard, front })
@@ -97,7 +100,7 @@ impl<'a, D: Desk + Drop, L: Identity> Held<'a, D, L> {
         ensures { IsAfter D.tree L.limits self.now result.now }
     {
         match &*self.guard {
-            Some(locked) => &locked.core,
+            Some(locked) => locked.core(),
             None => unreachable!(),
         }
     }
@@ -128,7 +131,7 @@ impl<'a, D: Desk + Drop, L: Identity> Held<'a, D, L> {
             unreachable!()
         };
         let (locked, result) = locked.submit(rt, alloc, seat, by, event);
-        self.front = locked.events.front.again();
+        self.front = locked.front().again();
         *self.guard = Some(locked);
         result
     }
@@ -147,7 +150,7 @@ impl<'a, D: Desk + Drop, L: Identity> Held<'a, D, L> {
         let Some(locked) = self.guard.take() else {
             unreachable!()
         };
-        if locked.events.taken != taken {
+        if locked.taken() != taken {
             *self.guard = Some(locked);
             return None;
         }

@@ -1,44 +1,46 @@
-ghost use Rattle.std.specs.Prelude.{◌≡◌, ◌+◌, ◌≤◌, ◌<◌, ◌^◌, List, [], drop, true, length, IfOk, OnErr};
+ghost use Rattle.std.specs.Prelude.{◌≡◌, ◌+◌, ◌≤◌, ◌<◌, ◌^◌, List, [], drop, length, IfOk, OnErr};
 ghost use Rattle.std.specs.List.{AllByRecursion};
 ghost use mathlib.Core.List.{IsPrefix};
 ghost use Rattle.cv_machine.specs.Layers.{queued};
 ghost use Rattle.cv_machine.specs.Scans.{IsKnown, trees_of};
-ghost use Rattle.cv_core.specs.Core.{IsSound, act_of, opened};
-ghost use Rattle.cv_hub.specs.Events.{IsReplayed, entries_from, state_of};
-ghost use Rattle.cv_hub.specs.Seats.{AreAllReceipts, AreFresh, AreNumbered, HaveSeen, IsApplied, seat_of};
-ghost use Rattle.cv_hub.specs.declared.submission.Submission.{Submission};
+ghost use Rattle.cv_locked.specs.Core.{IsSound, act_of, opened};
+ghost use Rattle.cv_seats.specs.Events.{IsReplayed, entries_from, state_of};
+ghost use Rattle.cv_seats.specs.Seats.{AreAllReceipts, AreFresh, AreNumbered, HaveSeen, IsApplied, seat_of};
+ghost use Rattle.cv_seats.specs.declared.submission.Submission.{Submission};
 
-use crate::blank::{Blank, Parts};
-use crate::events::EventList;
-use crate::front::Front;
 use crate::held::Held;
-use crate::identity::Identity;
-use crate::locked::{Locked, Receipt};
-use crate::note::Note;
-use crate::seat::Seat;
 use cv_base::Digest;
-use cv_core::{Core, Event};
 use cv_desk::Desk;
+use cv_locked::{Core, Event, Locked, Receipt};
 use cv_records::{By, EventEntry};
+use cv_seats::{Blank, Front, Identity, Note, Parts, Seat, fresh_seats, have_seen};
 use cv_seq::{NoMemory, Seq};
 use std::alloc::Global;
 use std::marker::Model;
-use std::sync::ledger::Share;
 use std::sync::{Mutex, Wait};
 
 /// How many events a hub applies at most: their numbers have 64 bits.
 const MOST_EVENTS: u64 = 1 << 63;
 
 /// A core that threads share, with the one list of its events. Contracts see the list up to the last taking.
-#[derive(Drop)]
 pub struct Hub<D: Desk, L: Identity> {
     locked: Mutex<Option<Locked<D, L>>>,
     taken: Front<D, L>,
 }
 
+/// Written out, so that the crates above call it, and do not prove anew how each part is dropped.
+impl<D: Desk + Drop, L: Identity> Drop for Hub<D, L> {
+    fn drop(self) {
+        let Hub {
+            locked: _,
+            taken: _,
+        } = self;
+    }
+}
+
 impl<D: Desk, L: Identity> Model for Hub<D, L> {
     ghost use Rattle.std.specs.Prelude.{List};
-    ghost use Rattle.cv_hub.specs.declared.submission.Submission.{Submission};
+    ghost use Rattle.cv_seats.specs.declared.submission.Submission.{Submission};
 
     ghost Value = { List Submission };
 
@@ -68,16 +70,13 @@ impl<D: Desk + Drop, L: Identity> Hub<D, L> {
             share,
         } = blank.open::<D, L>();
         let taken = front.again();
-        let seats = fresh_seats(alloc, &taken, share, seats)?;
-        let events = EventList {
-            head,
-            front,
-            entries: Vec::new(alloc),
-            taken: 0,
-            book,
+        let locked = Locked::new(alloc, core, head, front, book);
+        let hub = Hub {
+            locked: Mutex::new(Some(locked)),
+            taken,
         };
-        let locked = Mutex::new(Some(Locked { core, events }));
-        Ok((Hub { locked, taken }, seats))
+        let seats = fresh_seats(alloc, &hub.taken, share, seats)?;
+        Ok((hub, seats))
     }
 
     /// Applies an event of a seat in a name. The receipt has its number in the list, the machine's reply there and a note of the list
@@ -96,7 +95,7 @@ impl<D: Desk + Drop, L: Identity> Hub<D, L> {
             × IsApplied D.tree L.limits list seat.old by (act_of event) receipt.number receipt.reply receipt.note seat.new) }
         ensures err { OnErr result (seat.new ≡ seat.old) }
     {
-        let mut held = self.hold_with_room(rt, &seat.front);
+        let mut held = self.hold_with_room(rt, seat.seen());
         held.submit(rt, alloc, seat, by, event)
     }
 
@@ -105,9 +104,7 @@ impl<D: Desk + Drop, L: Identity> Hub<D, L> {
         ensures { IsPrefix self.now result }
     {
         let held = self.hold(rt, &self.taken);
-        Note {
-            front: held.seen().again(),
-        }
+        Note::of(held.seen().again())
     }
 
     /// A view, with at least all events that the seat has seen; the seat has then seen those of the view. It waits for the lock, and
@@ -117,7 +114,7 @@ impl<D: Desk + Drop, L: Identity> Hub<D, L> {
         ensures seen { IsPrefix seat.old.list result }
         ensures seat { seat.new ≡ seat_of seat.old.index result seat.old.count }
     {
-        let held = self.hold(rt, &seat.front);
+        let held = self.hold(rt, seat.seen());
         seat.see(held.seen());
         held
     }
@@ -211,36 +208,4 @@ impl<D: Desk + Drop, L: Identity> Hub<D, L> {
         }
         unreachable!()
     }
-}
-
-/// Whether each seat has seen no more than a beginning of the list.
-fn have_seen<D: Desk, L: Identity>(front: &Front<D, L>, seats: &[Seat<D, L>]) -> bool
-    ensures { result ≡ true → HaveSeen front.now seats.now }
-{
-    match seats.split_first() {
-        None => true,
-        Some((first, rest)) => first.front.begins(front) && have_seen(front, rest),
-    }
-}
-
-/// So many seats, which share the parts of the ledger.
-fn fresh_seats<D: Desk, L: Identity>(
-    alloc: Global,
-    front: &Front<D, L>,
-    mut share: Share<L>,
-    seats: u32,
-) -> Result<Vec<Seat<D, L>>, NoMemory>
-    requires front { front.now ≡ [] }
-    requires parts { share.parts ≡ L.parts }
-    requires amount { share.amount ≡ 0 }
-    requires seats { L.parts ≡ seats }
-    ensures count { IfOk result (λ made. length made.items ≡ seats) }
-    ensures fresh { IfOk result (λ made. AreFresh 0 made.items) }
-{
-    let mut made = Vec::new(alloc);
-    for index in 0..seats {
-        let part = share.split_off(1, 0);
-        made.push(Seat::fresh(u64::from(index), front, part))?;
-    }
-    Ok(made)
 }

@@ -1,5 +1,5 @@
 //! A core that threads share. A hub keeps the core and the one list of its events behind a lock: seats submit events, and each receipt,
-//! note, view and taken entry speaks of a beginning of that list, as `specs/Events.antt` and `specs/Seats.antt` say.
+//! note, view and taken entry speaks of a beginning of that list, as `specs/Events.antt` and `specs/Seats.antt` of `cv_seats` say.
 //!
 //! ```text
 //! let (mut hub, mut seats) = Hub::<D, L>::start(alloc, Blank::new(2), core, 2)?;
@@ -12,25 +12,10 @@
 //! ```
 #![tactic(auto)]
 
-mod audit;
-mod blank;
-mod book;
-mod events;
-mod front;
 mod held;
 mod hub;
-mod identity;
-mod locked;
-mod note;
-mod ready;
-mod seat;
-mod submission;
 
-pub use blank::Blank;
+pub use cv_locked::Receipt;
+pub use cv_seats::{Blank, Identity, Note, Seat, Submission};
 pub use held::Held;
 pub use hub::Hub;
-pub use identity::Identity;
-pub use locked::Receipt;
-pub use note::Note;
-pub use seat::Seat;
-pub use submission::Submission;

@@ -10,7 +10,7 @@ use Rattle.std.proofs.alloc.Global.TheSendSync as global
 use Rattle.cv_base.proofs.digest.Digest.TheSendSync as digest_crossing
 use Rattle.cv_base.specs.contracts.digest.Digest as digest
 use Rattle.cv_desk.specs.declared.desk.Desk as desk
-use Rattle.cv_hub.specs.declared.identity.Identity as identity
+use Rattle.cv_seats.specs.declared.identity.Identity as identity
 use Rattle.cv_hub.specs.contracts.hub.Hub as hub
 use Rattle.cv_round.specs.contracts.lanes.LaneTeam as team
 use Rattle.cv_round.specs.contracts.workers.WorkerCrew as crew

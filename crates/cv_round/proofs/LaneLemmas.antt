@@ -8,7 +8,7 @@ use Rattle.cv_records.specs.declared.read.ReadEntry.{ReadEntry}
 use Rattle.cv_machine.specs.declared.limits.Limits.{Limits}
 use Rattle.cv_hub.specs.Events.{DeskTrees}
 use Rattle.cv_hub.specs.Seats.{SeatView}
-use Rattle.cv_hub.specs.declared.submission.Submission.{Submission}
+use Rattle.cv_seats.specs.declared.submission.Submission.{Submission}
 use Rattle.cv_hub.proofs.Prefixes.{prefix_length}
 use Rattle.cv_legal.specs.declared.taken.Requested.{Requested}
 use Rattle.cv_transcript.proofs.OrderLemmas.{all_weaker}

@@ -15,7 +15,7 @@ use Rattle.cv_machine.specs.History.{act_name}
 use Rattle.cv_machine.specs.Scans.{IsKnown, trees_of}
 use Rattle.cv_machine.specs.declared.limits.Limits.{Limits}
 use Rattle.cv_hub.specs.Events.{DeskTrees}
-use Rattle.cv_hub.specs.declared.submission.Submission.{Submission}
+use Rattle.cv_seats.specs.declared.submission.Submission.{Submission}
 use Rattle.cv_hub.proofs.Prefixes.{prefix_length}
 use Rattle.cv_legal.specs.Parts.{line_by, line_in, lines_answered}
 use Rattle.cv_legal.specs.Replay.{asked_at, event_of, submitted}

@@ -26,7 +26,7 @@ use Rattle.cv_machine.specs.declared.act.WholeAct.TheVariants as whole
 use Rattle.cv_machine.specs.declared.limits.Limits.{Limits}
 use Rattle.cv_hub.specs.Events.{DeskTrees, IsReplayed, entries_from, state_of}
 use Rattle.cv_hub.specs.Seats.{SeatView, made_by, one_if}
-use Rattle.cv_hub.specs.declared.submission.Submission.{Submission}
+use Rattle.cv_seats.specs.declared.submission.Submission.{Submission}
 use Rattle.cv_hub.proofs.Prefixes.{prefix_chain, prefix_length, prefix_same}
 use Rattle.cv_legal.specs.Parts.{claim_in, claims_of, events_by, lines_answered, times}
 use Rattle.cv_legal.specs.Replay.{event_of, submitted}

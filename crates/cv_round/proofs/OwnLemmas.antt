@@ -10,7 +10,7 @@ use Rattle.cv_machine.specs.declared.act.WholeAct.{WholeAct}
 use Rattle.cv_machine.specs.declared.limits.Limits.{Limits}
 use Rattle.cv_hub.specs.Events.{DeskTrees}
 use Rattle.cv_hub.specs.Seats.{IsApplied, SeatView, made_by, one_if, seat_of}
-use Rattle.cv_hub.specs.declared.submission.Submission.{Submission}
+use Rattle.cv_seats.specs.declared.submission.Submission.{Submission}
 use Rattle.cv_round.specs.code.Own.{Among, Made, Placed, of_seat, placed}
 
 -- ---- some of the events

@@ -16,7 +16,7 @@ use Rattle.cv_machine.specs.declared.act.WholeAct.{WholeAct}
 use Rattle.cv_machine.specs.declared.limits.Limits.{Limits}
 use Rattle.cv_hub.specs.Events.{DeskTrees, state_of}
 use Rattle.cv_hub.specs.Seats.{IsApplied, SeatView, seat_of}
-use Rattle.cv_hub.specs.declared.submission.Submission.{Submission}
+use Rattle.cv_seats.specs.declared.submission.Submission.{Submission}
 use Rattle.cv_hub.proofs.Prefixes.{prefix_length}
 use Rattle.cv_legal.specs.Replay.{event_of, read_of}
 use Rattle.cv_round.specs.code.Lane.{Looked, OneStep, Submitted}

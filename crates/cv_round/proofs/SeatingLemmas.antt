@@ -11,7 +11,7 @@ use Rattle.cv_records.specs.declared.event.By.TheVariants as by
 use Rattle.cv_records.specs.declared.event.EventEntry.{EventEntry}
 use Rattle.cv_hub.specs.Events.{entries_from}
 use Rattle.cv_hub.specs.Seats.{SeatView, made_by, one_if}
-use Rattle.cv_hub.specs.declared.submission.Submission.{Submission}
+use Rattle.cv_seats.specs.declared.submission.Submission.{Submission}
 use Rattle.cv_hub.proofs.Made.{made_both}
 use Rattle.cv_hub.proofs.Prefixes.{prefix_between}
 use Rattle.cv_legal.specs.Parts.{claim_in, claims_of, event_by, events_by, times}

@@ -7,7 +7,7 @@ use Rattle.cv_transcript.specs.declared.entry.Entry.{Entry}
 use Rattle.cv_machine.specs.declared.limits.Limits.{Limits}
 use Rattle.cv_hub.specs.Events.{DeskTrees, entries_from}
 use Rattle.cv_hub.specs.Seats.{AreAllReceipts, AreNumbered, HaveSeen, SeatView, made_by}
-use Rattle.cv_hub.specs.declared.submission.Submission.{Submission}
+use Rattle.cv_seats.specs.declared.submission.Submission.{Submission}
 use Rattle.cv_hub.proofs.Prefixes.{prefix_length}
 use Rattle.cv_legal.specs.Taken.{refusals}
 use Rattle.cv_legal.specs.code.Segment.{lane_requests}

@@ -17,7 +17,7 @@ use Rattle.cv_machine.specs.Scans.{IsKnown, trees_of}
 use Rattle.cv_machine.specs.declared.limits.Limits.{Limits}
 use Rattle.cv_hub.specs.Events.{DeskTrees, IsReplayed, entries_from, state_of}
 use Rattle.cv_hub.specs.Seats.{AreAllReceipts, AreNumbered, HaveSeen, SeatView}
-use Rattle.cv_hub.specs.declared.submission.Submission.{Submission}
+use Rattle.cv_seats.specs.declared.submission.Submission.{Submission}
 use Rattle.cv_legal.specs.Round.{IsLegalRound}
 use Rattle.cv_legal.specs.Taken.{IsTaken, refusals, requests}
 use Rattle.cv_legal.specs.code.Segment.{lane_requests}

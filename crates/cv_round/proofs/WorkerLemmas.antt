@@ -15,7 +15,7 @@ use Rattle.cv_machine.specs.declared.act.WholeAct.TheVariants as whole
 use Rattle.cv_machine.specs.declared.limits.Limits.{Limits}
 use Rattle.cv_hub.specs.Events.{DeskTrees}
 use Rattle.cv_hub.specs.Seats.{IsApplied, SeatView, one_if}
-use Rattle.cv_hub.specs.declared.submission.Submission.{Submission}
+use Rattle.cv_seats.specs.declared.submission.Submission.{Submission}
 use Rattle.cv_hub.proofs.Prefixes.{prefix_length}
 use Rattle.cv_legal.specs.Parts.{claim_in, claims_of, is_grant}
 use Rattle.cv_legal.specs.Turns.{Works, work_after}

@@ -12,7 +12,7 @@ use Rattle.cv_machine.specs.Scans.{Trees}
 use Rattle.cv_machine.specs.declared.limits.Limits.{Limits}
 use Rattle.cv_hub.specs.Events.{state_of}
 use Rattle.cv_hub.specs.Seats.{AreAllReceipts, AreNumbered, SeatView}
-use Rattle.cv_hub.specs.declared.submission.Submission.{Submission}
+use Rattle.cv_seats.specs.declared.submission.Submission.{Submission}
 use Rattle.cv_legal.specs.Parts.{events_by, is_grant}
 use Rattle.cv_legal.specs.Replay.{Moment}
 use Rattle.cv_legal.specs.declared.taken.Requested.{Requested}

@@ -5,7 +5,7 @@ use cv_hub::{Hub, Identity, Seat};
 use std::sync::Wait;
 
 /// Each seat learns a note of the hub: it has then seen at least the events that were taken.
-#[tactic(auto, using(cv_hub::proofs::Prefixes::prefix_chain))]
+#[tactic(auto, using(cv_seats::proofs::Prefixes::prefix_chain))]
 pub fn refresh<D: Desk + Drop, L: Identity, W: Wait>(
     rt: &W,
     hub: &Hub<D, L>,

@@ -12,7 +12,7 @@ use Rattle.cv_machine.specs.Scans.{IsKnown, trees_of}
 use Rattle.cv_machine.specs.declared.limits.Limits.{Limits}
 use Rattle.cv_hub.specs.Events.{DeskTrees, state_of}
 use Rattle.cv_hub.specs.Seats.{SeatView}
-use Rattle.cv_hub.specs.declared.submission.Submission.{Submission}
+use Rattle.cv_seats.specs.declared.submission.Submission.{Submission}
 use Rattle.cv_legal.specs.Replay.{event_of, read_of}
 use Rattle.cv_legal.specs.declared.taken.Requested.{Requested}
 use Rattle.cv_round.specs.code.Own.{Made, Placed, entry_of}

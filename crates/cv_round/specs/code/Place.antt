@@ -5,7 +5,7 @@ use Rattle.cv_records.specs.declared.read.Answer.{Answer}
 use Rattle.cv_records.specs.declared.read.Answer.TheVariants as answer
 use Rattle.cv_records.specs.declared.read.ReadEntry.{ReadEntry}
 use Rattle.cv_request.specs.declared.request.Act.{Act}
-use Rattle.cv_hub.specs.declared.submission.Submission.{Submission}
+use Rattle.cv_seats.specs.declared.submission.Submission.{Submission}
 use Rattle.cv_legal.specs.declared.taken.Requested.{Requested}
 use Rattle.cv_round.specs.declared.request.Place.{Place}
 

@@ -6,7 +6,7 @@ use Rattle.cv_transcript.specs.Order.{events_of}
 use Rattle.cv_transcript.specs.declared.entry.Entry.{Entry}
 use Rattle.cv_machine.specs.declared.limits.Limits.{Limits}
 use Rattle.cv_hub.specs.Events.{DeskTrees, IsReplayed, entries_from}
-use Rattle.cv_hub.specs.declared.submission.Submission.{Submission}
+use Rattle.cv_seats.specs.declared.submission.Submission.{Submission}
 use Rattle.cv_legal.specs.Taken.{refusals}
 use Rattle.cv_legal.specs.declared.taken.Requested.{Requested}
 use Rattle.cv_legal.specs.declared.taken.Taken.{Taken}

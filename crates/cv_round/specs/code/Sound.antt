@@ -2,7 +2,7 @@
 use Rattle.std.specs.Prelude.{◌≡◌, ⊤, ℕ, ◌+◌, ◌==◌, ◌≤◌, Bool, not, List, [], ◌∷◌, length}
 use mathlib.Core.List.{IsPrefix}
 use Rattle.cv_hub.specs.Seats.{SeatView, made_by}
-use Rattle.cv_hub.specs.declared.submission.Submission.{Submission}
+use Rattle.cv_seats.specs.declared.submission.Submission.{Submission}
 use Rattle.cv_legal.specs.code.Segment.{lane_requests}
 use Rattle.cv_legal.specs.declared.taken.Requested.{Requested}
 use Rattle.cv_round.specs.declared.lane.Lane.{Lane}

@@ -11,7 +11,7 @@ use Rattle.cv_machine.specs.History.{act_name}
 use Rattle.cv_machine.specs.Scans.{Trees}
 use Rattle.cv_machine.specs.declared.limits.Limits.{Limits}
 use Rattle.cv_hub.specs.Events.{DeskTrees, state_of}
-use Rattle.cv_hub.specs.declared.submission.Submission.{Submission}
+use Rattle.cv_seats.specs.declared.submission.Submission.{Submission}
 use Rattle.cv_legal.specs.Parts.{claims_of}
 use Rattle.cv_legal.specs.Replay.{asked_at, read_of, submitted}
 use Rattle.cv_legal.specs.Turns.{Works}

@@ -3,7 +3,7 @@ use Rattle.std.specs.Prelude.{◌≡◌, ℕ, ◌≤◌, ◌+◌, ◌⊎◌, ◌
 use Rattle.std.specs.List.{AllByRecursion}
 use Rattle.cv_base.specs.Lines.{Line}
 use Rattle.cv_hub.specs.Seats.{SeatView}
-use Rattle.cv_hub.specs.declared.submission.Submission.{Submission}
+use Rattle.cv_seats.specs.declared.submission.Submission.{Submission}
 use Rattle.cv_legal.specs.declared.limits.TheConstants.{MAX_ROUND_BYTES}
 use Rattle.cv_legal.specs.declared.taken.Taken.{Taken}
 use Rattle.cv_round.specs.Round.{AreRoundSeats, IsSoundTaken}

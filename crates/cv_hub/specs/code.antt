@@ -1,3 +1,0 @@
-pub mod Audit
-pub mod Book
-pub mod Locked

@@ -1,0 +1,4 @@
+pub mod Crossing
+pub mod Listed
+pub mod Receipts
+pub mod Replays

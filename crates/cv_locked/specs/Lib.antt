@@ -1,0 +1,3 @@
+pub use Rattle.cv_core.specs.Core
+pub use Rattle.cv_core.specs.Reports
+pub mod code

@@ -1,0 +1,126 @@
+ghost use Rattle.std.specs.Prelude.{◌≡◌, ◌+◌, ◌<◌, ◌≤◌, ◌^◌, [], ◌∷◌, ◌++◌, length, IfSome, MatchBool};
+ghost use Rattle.std.specs.List.{AllByRecursion};
+ghost use mathlib.Core.List.{IsPrefix};
+ghost use Rattle.cv_seats.specs.Events.{IsReplayed};
+ghost use Rattle.cv_seats.specs.code.Book.{head_of, submission_of};
+
+use crate::book::{Add, Deed, Law, Nothing};
+use crate::identity::Identity;
+use crate::submission::Submission;
+use cv_desk::Desk;
+use logbook::{Offer, Seen, Word};
+use std::marker::{Model, PhantomData};
+
+/// The word of a hub's book: the length of its list.
+pub struct Head<L: Identity> {
+    pub(crate) word: Word<Submission, u64, Law>,
+    pub(crate) of: PhantomData<L>,
+    pub(crate) ghost word_is: { word ≡ head_of L.book },
+}
+
+/// Written out, so that the crates above call it, and do not prove anew how each part is dropped.
+impl<L: Identity> Drop for Head<L> {
+    fn drop(self) {
+        let Head { word: _, of: _ } = self;
+    }
+}
+
+/// A beginning of a hub's list. Contracts see it as its events.
+pub struct Front<D: Desk, L: Identity> {
+    pub(crate) number: u64,
+    pub(crate) seen: Seen<Submission, u64, Law>,
+    pub(crate) of: PhantomData<(D, L)>,
+}
+
+/// Written out, so that the crates above call it, and do not prove anew how each part is dropped.
+impl<D: Desk, L: Identity> Drop for Front<D, L> {
+    fn drop(self) {
+        let Front {
+            number: _,
+            seen: _,
+            of: _,
+        } = self;
+    }
+}
+
+impl<D: Desk, L: Identity> Model for Front<D, L> {
+    ghost use Rattle.std.specs.Prelude.{List};
+    ghost use Rattle.cv_seats.specs.code.Book.{IsFront};
+    ghost use Rattle.cv_seats.specs.declared.submission.Submission.{Submission};
+
+    ghost Value = { List Submission };
+
+    ghost view = { λ f. f.seen.log };
+
+    ghost invariant = { λ f. IsFront D.tree L.limits L.parts L.book f.number f.seen.book f.seen.log };
+}
+
+impl<D: Desk, L: Identity> Front<D, L> {
+    /// How many events it has.
+    pub fn len(&self) -> u64
+        ensures length { result ≡ length self.now }
+        ensures few { length self.now ≤ 2 ^ 63 }
+        ensures seats { AllByRecursion (λ event. event.seat < L.parts) self.now }
+        ensures replayed { IsReplayed D.tree L.limits self.now }
+    {
+        self.number
+    }
+
+    /// A copy.
+    pub fn again(&self) -> Front<D, L>
+        ensures { result ≡ self.now }
+    {
+        Front {
+            number: self.number,
+            seen: self.seen.again(),
+            of: PhantomData,
+        }
+    }
+
+    /// Whether the other one has at least as many events, and so begins with all of these. If not, these begin with the other's.
+    pub fn begins(&self, other: &Front<D, L>) -> bool
+        ensures { MatchBool result (IsPrefix self.now other.now) (IsPrefix other.now self.now) }
+    {
+        let mut both = self.seen.again();
+        both.learn(&other.seen);
+        self.number <= other.number
+    }
+
+    /// The longer of two, which begins with the other.
+    pub fn longer(&self, other: &Front<D, L>) -> Front<D, L>
+        ensures this { IsPrefix self.now result }
+        ensures that { IsPrefix other.now result }
+    {
+        if self.begins(other) {
+            other.again()
+        } else {
+            self.again()
+        }
+    }
+
+    /// With one more event, unless the list has others after these.
+    pub fn add(&self, head: &Head<L>, deed: &Deed<D>) -> Option<Front<D, L>>
+        requires room { length self.now < 2 ^ 63 }
+        requires seat { deed.now.seat < L.parts }
+        requires replayed { IsReplayed D.tree L.limits (self.now ++ submission_of deed.now ∷ []) }
+        ensures { IfSome result (λ next. next ≡ self.now ++ submission_of deed.now ∷ []) }
+    {
+        let mut seen = self.seen.again();
+        let mut offer: Offer<Submission, u64, Law, Nothing> = seen.plain::<Nothing, Deed<D>, Add>(
+            deed,
+        );
+        let mut pen = seen.no_pen();
+        let number = self.number;
+        let found = head
+            .word
+            .compare_exchange::<Add, Nothing>(number, number + 1, &mut seen, &mut offer, &mut pen);
+        if found != number {
+            return None;
+        }
+        Some(Front {
+            number: number + 1,
+            seen,
+            of: PhantomData,
+        })
+    }
+}
