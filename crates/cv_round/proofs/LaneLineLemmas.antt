@@ -14,17 +14,16 @@ use Rattle.cv_transcript.proofs.OrderLemmas.{events_filter, filter_ascends, read
 use Rattle.cv_machine.specs.History.{act_name}
 use Rattle.cv_machine.specs.Scans.{IsKnown, trees_of}
 use Rattle.cv_machine.specs.declared.limits.Limits.{Limits}
-use Rattle.cv_hub.specs.Events.{DeskTrees}
-use Rattle.cv_seats.specs.declared.submission.Submission.{Submission}
-use Rattle.cv_hub.proofs.Prefixes.{prefix_length}
 use Rattle.cv_legal.specs.Parts.{line_by, line_in, lines_answered}
 use Rattle.cv_legal.specs.Replay.{asked_at, event_of, submitted}
 use Rattle.cv_legal.specs.Taken.{lines_asked}
 use Rattle.cv_legal.specs.code.Segment.{IsFound, lane_requests}
 use Rattle.cv_legal.specs.declared.taken.Requested.{Requested}
 use Rattle.cv_legal.proofs.Assembled.{AsksRise, all_found, in_lane, of_lane, rise_lane}
-use Rattle.cv_round.specs.code.Lane.{Answers, AreAsksOf, AreInTurn, Follows, IsFrom, IsWithin, Looked, Step, Submitted, entry_in, placed_of, reads_in}
-use Rattle.cv_round.specs.code.Own.{Placed, entry_of}
+use Rattle.cv_workers.specs.Events.{DeskTrees}
+use Rattle.cv_workers.specs.code.Own.{Placed, Submission, entry_of}
+use Rattle.cv_workers.proofs.Prefixes.{prefix_length}
+use Rattle.cv_workers.specs.code.Lane.{Answers, AreAsksOf, AreInTurn, Follows, IsFrom, IsWithin, Looked, Step, Submitted, entry_in, placed_of, reads_in}
 use Rattle.cv_round.specs.code.Told.{IsSeen, IsSourced, is_of_lane}
 
 -- ---- the entries of steps

@@ -24,10 +24,6 @@ use Rattle.cv_machine.specs.Scans.{IsKnown, trees_of}
 use Rattle.cv_machine.specs.declared.act.WholeAct.{WholeAct}
 use Rattle.cv_machine.specs.declared.act.WholeAct.TheVariants as whole
 use Rattle.cv_machine.specs.declared.limits.Limits.{Limits}
-use Rattle.cv_hub.specs.Events.{DeskTrees, IsReplayed, entries_from, state_of}
-use Rattle.cv_hub.specs.Seats.{SeatView, made_by, one_if}
-use Rattle.cv_seats.specs.declared.submission.Submission.{Submission}
-use Rattle.cv_hub.proofs.Prefixes.{prefix_chain, prefix_length, prefix_same}
 use Rattle.cv_legal.specs.Parts.{claim_in, claims_of, events_by, lines_answered, times}
 use Rattle.cv_legal.specs.Replay.{event_of, submitted}
 use Rattle.cv_legal.specs.Round.{IsLegalRound}
@@ -40,12 +36,16 @@ use Rattle.cv_legal.specs.declared.taken.Taken.{Taken}
 use Rattle.cv_legal.proofs.Assembled.{AsksRise, asks_rise, of_lane as of_this_lane}
 use Rattle.cv_legal.proofs.Order.{reads_in_order}
 use Rattle.cv_pool.specs.Jobs.{lists_weigh, weigh, weigh_below}
-use Rattle.cv_round.specs.Round.{RoseBy, fault_count, grant_count, moment_of}
-use Rattle.cv_round.specs.code.Lane.{Answers, IsFrom, IsWithin, LaneDid, Looked, Step, Submitted, placed_of}
-use Rattle.cv_round.specs.code.Own.{Made, Placed, entry_of, of_seat}
+use Rattle.cv_workers.specs.Events.{DeskTrees, IsReplayed, entries_from, state_of}
+use Rattle.cv_workers.specs.Seats.{SeatView, made_by, one_if}
+use Rattle.cv_workers.specs.code.Own.{Made, Placed, Submission, entry_of, of_seat}
+use Rattle.cv_workers.proofs.Prefixes.{prefix_chain, prefix_length, prefix_same}
+use Rattle.cv_workers.specs.Counts.{RoseBy, fault_count, grant_count}
+use Rattle.cv_workers.specs.code.Lane.{Answers, IsFrom, IsWithin, LaneDid, Looked, Step, Submitted, placed_of}
+use Rattle.cv_workers.specs.code.Worker.{IsByWorker, WorkerDid, layers_of}
+use Rattle.cv_workers.proofs.LaneLemmas.{all_longer, from_less, within_more}
+use Rattle.cv_round.specs.Round.{moment_of}
 use Rattle.cv_round.specs.code.Told.{FitsSeat, IsSeen, IsSourced, LaneTold, WorkerTold, is_of_lane, placed_from, sum_seats}
-use Rattle.cv_round.specs.code.Worker.{IsByWorker, WorkerDid, layers_of}
-use Rattle.cv_round.proofs.LaneLemmas.{all_longer, from_less, within_more}
 use Rattle.cv_round.proofs.LaneLineLemmas.{asks_of_lane, found_of_lane, lane_lines, lane_on_lines, lane_seen, lane_sourced, no_lane_lines, steps_ascend}
 use Rattle.cv_round.proofs.ReplayLemmas.{replays}
 use Rattle.cv_round.proofs.SeatingLemmas.{claims_by_seats, each_seat, entries_placed, first_of, jobs_weigh, lane_events, no_lane_events, no_worker_events, own_is, queue_weighs, rest_of, sum_split, sum_zero, worker_events}

@@ -14,11 +14,11 @@ use Rattle.cv_machine.specs.Scans.{Trees}
 use Rattle.cv_machine.specs.State.{State, opening}
 use Rattle.cv_machine.specs.Step.{step}
 use Rattle.cv_machine.specs.declared.limits.Limits.{Limits}
-use Rattle.cv_hub.specs.Events.{acts_of, entries_from, replies_of, state_of}
-use Rattle.cv_seats.specs.declared.submission.Submission.{Submission}
-use Rattle.cv_hub.proofs.Replays.{state_more}
 use Rattle.cv_legal.specs.Replay.{IsEvent, IsRead, Moment, Replays, moment_after}
 use Rattle.cv_legal.specs.declared.taken.Requested.{Requested}
+use Rattle.cv_workers.specs.Events.{acts_of, entries_from, replies_of, state_of}
+use Rattle.cv_workers.specs.code.Own.{Submission}
+use Rattle.cv_workers.proofs.Replays.{state_more}
 use Rattle.cv_round.specs.Round.{moment_of}
 use Rattle.cv_round.specs.code.Told.{IsSeen, IsSourced}
 

@@ -9,17 +9,16 @@ use Rattle.cv_base.specs.Texts.{same}
 use Rattle.cv_records.specs.declared.event.By.{By}
 use Rattle.cv_records.specs.declared.event.By.TheVariants as by
 use Rattle.cv_records.specs.declared.event.EventEntry.{EventEntry}
-use Rattle.cv_hub.specs.Events.{entries_from}
-use Rattle.cv_hub.specs.Seats.{SeatView, made_by, one_if}
-use Rattle.cv_seats.specs.declared.submission.Submission.{Submission}
-use Rattle.cv_hub.proofs.Made.{made_both}
-use Rattle.cv_hub.proofs.Prefixes.{prefix_between}
 use Rattle.cv_legal.specs.Parts.{claim_in, claims_of, event_by, events_by, times}
 use Rattle.cv_pool.specs.Jobs.{weigh, weigh_below}
-use Rattle.cv_round.specs.code.Own.{Among, Made, Placed, entry_of, of_seat, placed}
+use Rattle.cv_workers.specs.Events.{entries_from}
+use Rattle.cv_workers.specs.Seats.{SeatView, made_by, one_if}
+use Rattle.cv_workers.specs.code.Own.{Among, Made, Placed, Submission, entry_of, of_seat, placed}
+use Rattle.cv_workers.proofs.Made.{made_both}
+use Rattle.cv_workers.proofs.Prefixes.{prefix_between}
+use Rattle.cv_workers.specs.code.Worker.{layers_of}
+use Rattle.cv_workers.proofs.OwnLemmas.{all_own, among_both, among_none}
 use Rattle.cv_round.specs.code.Told.{FitsSeat, is_of_lane, placed_from, sum_seats}
-use Rattle.cv_round.specs.code.Worker.{layers_of}
-use Rattle.cv_round.proofs.OwnLemmas.{all_own, among_both, among_none}
 
 -- ---- the events of one seat
 

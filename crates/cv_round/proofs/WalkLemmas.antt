@@ -5,22 +5,23 @@ use Rattle.cv_records.specs.declared.read.ReadEntry.{ReadEntry}
 use Rattle.cv_transcript.specs.Order.{events_of}
 use Rattle.cv_transcript.specs.declared.entry.Entry.{Entry}
 use Rattle.cv_machine.specs.declared.limits.Limits.{Limits}
-use Rattle.cv_hub.specs.Events.{DeskTrees, entries_from}
-use Rattle.cv_hub.specs.Seats.{AreAllReceipts, AreNumbered, HaveSeen, SeatView, made_by}
-use Rattle.cv_seats.specs.declared.submission.Submission.{Submission}
-use Rattle.cv_hub.proofs.Prefixes.{prefix_length}
 use Rattle.cv_legal.specs.Taken.{refusals}
 use Rattle.cv_legal.specs.code.Segment.{lane_requests}
 use Rattle.cv_legal.specs.declared.taken.Requested.{Requested}
 use Rattle.cv_legal.specs.declared.taken.Taken.{Taken}
 use Rattle.cv_pool.specs.Hands.{Fill, HandState, any_done, lists_of, new_hands}
+use Rattle.cv_dealing.specs.code.Dealt.{AreDealt}
+use Rattle.cv_dealing.specs.declared.lane.Lane.{Lane}
+use Rattle.cv_workers.specs.Events.{DeskTrees, entries_from}
+use Rattle.cv_workers.specs.Seats.{AreAllReceipts, AreNumbered, HaveSeen, SeatView, made_by}
+use Rattle.cv_workers.specs.code.Own.{Placed, Submission}
+use Rattle.cv_workers.proofs.Prefixes.{prefix_length}
+use Rattle.cv_workers.specs.code.Lane.{LaneDid, LanesDid}
+use Rattle.cv_workers.specs.code.Refreshed.{AreRefreshed}
+use Rattle.cv_workers.specs.code.Worker.{AreDone, AreHandsReady, HaveRoom, WorkersDid, layers_of}
 use Rattle.cv_round.specs.Round.{DesksTold}
-use Rattle.cv_round.specs.code.Lane.{LaneDid, LanesDid}
-use Rattle.cv_round.specs.code.Own.{Placed}
-use Rattle.cv_round.specs.code.Sound.{AreBegun, AreDealt, AreEnded, AreRefreshed}
+use Rattle.cv_round.specs.code.Begun.{AreBegun, AreEnded}
 use Rattle.cv_round.specs.code.Told.{FitsSeat, LaneTold, WorkerTold, placed_from}
-use Rattle.cv_round.specs.code.Worker.{AreDone, AreHandsReady, HaveRoom, WorkersDid, layers_of}
-use Rattle.cv_round.specs.declared.lane.Lane.{Lane}
 use Rattle.cv_round.proofs.LegalRoundLemmas.{desk_rose, lane_told, worker_told}
 
 -- ---- the seats before

@@ -15,9 +15,6 @@ use Rattle.cv_machine.specs.History.{event_entry}
 use Rattle.cv_machine.specs.Layers.{queued}
 use Rattle.cv_machine.specs.Scans.{IsKnown, trees_of}
 use Rattle.cv_machine.specs.declared.limits.Limits.{Limits}
-use Rattle.cv_hub.specs.Events.{DeskTrees, IsReplayed, entries_from, state_of}
-use Rattle.cv_hub.specs.Seats.{AreAllReceipts, AreNumbered, HaveSeen, SeatView}
-use Rattle.cv_seats.specs.declared.submission.Submission.{Submission}
 use Rattle.cv_legal.specs.Round.{IsLegalRound}
 use Rattle.cv_legal.specs.Taken.{IsTaken, refusals, requests}
 use Rattle.cv_legal.specs.code.Segment.{lane_requests}
@@ -27,13 +24,20 @@ use Rattle.cv_legal.specs.declared.taken.Taken.{Taken}
 use Rattle.cv_legal.proofs.Assembled.{AsksRise, asks_rise}
 use Rattle.cv_pool.specs.Hands.{HandState, lists_of}
 use Rattle.cv_pool.specs.Jobs.{lists_weigh, weigh_below}
-use Rattle.cv_round.specs.Round.{DesksTold, IsSoundRequest, moment_of}
-use Rattle.cv_round.specs.code.Lane.{LanesDid}
+use Rattle.cv_dealing.specs.Sound.{IsSoundRequest}
+use Rattle.cv_dealing.specs.code.Dealt.{AreDealt}
+use Rattle.cv_dealing.specs.declared.lane.Lane.{Lane}
+use Rattle.cv_dealing.proofs.DealLemmas.{low_lanes}
+use Rattle.cv_workers.specs.Events.{DeskTrees, IsReplayed, entries_from, state_of}
+use Rattle.cv_workers.specs.Seats.{AreAllReceipts, AreNumbered, HaveSeen, SeatView}
+use Rattle.cv_workers.specs.code.Own.{Submission}
+use Rattle.cv_workers.specs.code.Lane.{LanesDid}
+use Rattle.cv_workers.specs.code.Refreshed.{AreRefreshed}
+use Rattle.cv_workers.specs.code.Worker.{WorkersDid, layers_of}
+use Rattle.cv_round.specs.Round.{DesksTold, moment_of}
 use Rattle.cv_round.specs.code.Ran.{RoundRan}
-use Rattle.cv_round.specs.code.Sound.{AreDealt, AreEnded, AreRefreshed}
+use Rattle.cv_round.specs.code.Begun.{AreEnded}
 use Rattle.cv_round.specs.code.Told.{LaneTold, WorkerTold}
-use Rattle.cv_round.specs.code.Worker.{WorkersDid, layers_of}
-use Rattle.cv_round.specs.declared.lane.Lane.{Lane}
 use Rattle.cv_round.proofs.LaneLineLemmas.{asks_of_lane, reads_in_lane}
 use Rattle.cv_round.proofs.LegalRoundLemmas.{round_fits, round_legal}
 use Rattle.cv_round.proofs.WalkLemmas.{begun, begun_drop, begun_take, desks_told, each_lane_told, each_worker_told, ended, ended_drop, ended_take, numbered_all, numbered_lanes, numbered_workers}
@@ -160,10 +164,6 @@ numbers_above first m (e ∷ list) less = (less, numbers_above first (m + 1) lis
 events_ascend : (m : ℕ) (list : List Submission) → AreAscending (map entry.Event (entries_from m list))
 events_ascend m [] = tt
 events_ascend m (e ∷ list) = (tt, numbers_above (event_entry m e.by e.act e.reply) (m + 1) list (omega arith), events_ascend (m + 1) list)
-
-low_lanes : (taken : List Requested) → AllByRecursion IsSoundRequest taken → AllByRecursion (λ (r : Requested). r.request.lane < 8) taken
-low_lanes [] h = tt
-low_lanes (r ∷ rs) h = (h.0.0, low_lanes rs h.1)
 
 module _ {D : Type 0} (listings faults : D → ℕ) (tree : DeskTrees) (limits : Limits) (before whole : List Submission) (taken : List Taken) (asked : List Requested) (queue : List (List ℕ)) (ds es : List D) (events : List EventEntry) (lanes : List Lane) (reads : List (List ReadEntry)) (refused others all : List Entry) where
   -- what the calls told of a round

@@ -1,8 +1,3 @@
-pub mod Lane
-pub mod Own
-pub mod Place
+pub mod Begun
 pub mod Ran
-pub mod Sound
-pub mod Team
 pub mod Told
-pub mod Worker

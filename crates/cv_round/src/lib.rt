@@ -7,20 +7,7 @@
 //! ```
 #![tactic(auto)]
 
-mod copies;
-mod crew;
-mod dealing;
-mod index;
-mod lane;
-mod lanes;
-mod learning;
-mod reads;
-mod request;
 mod round;
-mod sides;
-mod team;
 mod whole;
-mod worker;
-mod workers;
 
 pub use whole::run_round;

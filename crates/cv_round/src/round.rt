@@ -1,18 +1,17 @@
 ghost use Rattle.std.specs.Prelude.{◌≡◌, ◌+◌, ◌<◌, ◌^◌, length, take, drop, OnOk};
 ghost use Rattle.std.specs.List.{AllByRecursion};
 ghost use Rattle.cv_pool.specs.Hands.{AreSameHands};
-ghost use Rattle.cv_round.specs.code.Lane.{IsLaneReady, LanesDid};
-ghost use Rattle.cv_round.specs.code.Worker.{AreDone, AreHandsReady, HaveRoom, WorkersDid};
+ghost use Rattle.cv_dealing.specs.code.Dealt.{IsLaneReady};
+ghost use Rattle.cv_workers.specs.code.Lane.{LanesDid};
+ghost use Rattle.cv_workers.specs.code.Worker.{AreDone, AreHandsReady, HaveRoom, WorkersDid};
 
-use crate::lane::Lane;
-use crate::lanes::LaneTeam;
-use crate::sides::run_sides;
-use crate::workers::WorkerCrew;
 use cv_base::Digest;
+use cv_crew::run_sides;
+use cv_dealing::Lane;
 use cv_desk::Desk;
-use cv_hub::{Hub, Identity, Seat};
 use cv_pool::Hand;
 use cv_seq::NoMemory;
+use cv_workers::{Hub, Identity, LaneTeam, Seat, WorkerCrew};
 use std::alloc::Global;
 use std::sync::Wait;
 use std::thread::Threads;

@@ -5,16 +5,16 @@ use Rattle.cv_records.specs.declared.event.EventEntry.{EventEntry}
 use Rattle.cv_transcript.specs.Order.{events_of}
 use Rattle.cv_transcript.specs.declared.entry.Entry.{Entry}
 use Rattle.cv_machine.specs.declared.limits.Limits.{Limits}
-use Rattle.cv_hub.specs.Events.{DeskTrees, IsReplayed, entries_from}
-use Rattle.cv_seats.specs.declared.submission.Submission.{Submission}
 use Rattle.cv_legal.specs.Taken.{refusals}
 use Rattle.cv_legal.specs.declared.taken.Requested.{Requested}
 use Rattle.cv_legal.specs.declared.taken.Taken.{Taken}
 use Rattle.cv_pool.specs.Jobs.{lists_weigh, weigh_below}
+use Rattle.cv_dealing.specs.declared.lane.Lane.{Lane}
+use Rattle.cv_workers.specs.Events.{DeskTrees, IsReplayed, entries_from}
+use Rattle.cv_workers.specs.code.Own.{Submission}
+use Rattle.cv_workers.specs.code.Worker.{layers_of}
 use Rattle.cv_round.specs.Round.{DesksTold}
 use Rattle.cv_round.specs.code.Told.{LaneTold, WorkerTold}
-use Rattle.cv_round.specs.code.Worker.{layers_of}
-use Rattle.cv_round.specs.declared.lane.Lane.{Lane}
 
 -- what is known of each lane and of each worker by its number, of the jobs that the workers took, and of the events
 pub record RoundRan {D : Type 0} (tree : DeskTrees) (limits : Limits) (listings faults : D → ℕ) (before whole : List Submission) (asked : List Requested) (queue : List (List ℕ)) (desks desks_after : List D) (events : List EventEntry) (lanes : List Lane) : Type 0 where

@@ -10,16 +10,15 @@ use Rattle.cv_machine.specs.Answer.{answer_to}
 use Rattle.cv_machine.specs.History.{act_name}
 use Rattle.cv_machine.specs.Scans.{Trees}
 use Rattle.cv_machine.specs.declared.limits.Limits.{Limits}
-use Rattle.cv_hub.specs.Events.{DeskTrees, state_of}
-use Rattle.cv_seats.specs.declared.submission.Submission.{Submission}
 use Rattle.cv_legal.specs.Parts.{claims_of}
 use Rattle.cv_legal.specs.Replay.{asked_at, read_of, submitted}
 use Rattle.cv_legal.specs.Turns.{Works}
 use Rattle.cv_legal.specs.code.Segment.{lane_requests}
 use Rattle.cv_legal.specs.declared.taken.Requested.{Requested}
-use Rattle.cv_round.specs.code.Lane.{Answers, AreInTurn, IsFrom, IsWithin, Step, placed_of, reads_in}
-use Rattle.cv_round.specs.code.Own.{Placed, entry_of, of_seat, placed}
-use Rattle.cv_round.specs.code.Worker.{IsByWorker}
+use Rattle.cv_workers.specs.Events.{DeskTrees, state_of}
+use Rattle.cv_workers.specs.code.Own.{Placed, Submission, entry_of, of_seat, placed}
+use Rattle.cv_workers.specs.code.Lane.{Answers, AreInTurn, IsFrom, IsWithin, Step, placed_of, reads_in}
+use Rattle.cv_workers.specs.code.Worker.{IsByWorker}
 
 -- all events of a list with their numbers, of which the first is this
 abbrev pub placed_from : ℕ → List Submission → List Placed

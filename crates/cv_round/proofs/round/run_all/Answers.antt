@@ -2,12 +2,12 @@ use denote.Exit.{no}
 use denote.Param.{param}
 use denote.Param.Send.{param_send, param_sync, arg_send, arg_sync}
 use Rattle.std.proofs.Common.{drop, length, take, ◌∙◌}
-use Rattle.cv_hub.proofs.Crossing.{hub_sync}
-use Rattle.cv_seats.proofs.Crossing.{seat_send}
-use Rattle.cv_round.proofs.Crossing.{crew_sync, team_sync}
-use Rattle.cv_round.proofs.CrewLemmas.{seats_past, workers_did, workers_ready}
-use Rattle.cv_round.proofs.TeamLemmas.{lanes_did, lanes_ready}
-use Rattle.cv_round.proofs.WorkerLemmas.{on_ok}
+use Rattle.cv_workers.proofs.Crossing.{hub_sync}
+use Rattle.cv_workers.proofs.CrewCrossing.{crew_sync}
+use Rattle.cv_workers.proofs.TeamCrossing.{seat_send, team_sync}
+use Rattle.cv_workers.proofs.CrewLemmas.{seats_past, workers_did, workers_ready}
+use Rattle.cv_workers.proofs.TeamLemmas.{lanes_did, lanes_ready}
+use Rattle.cv_workers.proofs.WorkerLemmas.{on_ok}
 use Rattle.cv_round.proofs.round.run_all.Goals as goal
 
 pub run_sides-requires-sync-T : goal.run_sides-requires-sync-T

@@ -1,6 +1,6 @@
 -- The reads of the lanes taken so far.
 use Rattle.std.specs.Prelude.{◌≡◌, map}
-use Rattle.cv_round.specs.declared.lane.Lane.{Lane}
+use Rattle.cv_dealing.specs.declared.lane.Lane.{Lane}
 use Rattle.cv_round.proofs.whole.reads_of.Given as goal
 
 abbrev pub invariant-loop-lane : goal.invariant-loop-lane

@@ -2,11 +2,12 @@ use Rattle.std.proofs.Common.{◌≡◌, ◌+◌, ◌++◌, List, drop, length, 
 use Rattle.std.specs.List.{AllByRecursion}
 use Rattle.cv_pool.specs.Hands.{AreHandsOf, AreSameHands, HandState, any_done, lists_of}
 use Rattle.cv_pool.specs.Jobs.{weigh_below}
-use Rattle.cv_round.specs.code.Lane.{IsLaneReady, LanesDid}
-use Rattle.cv_round.specs.code.Worker.{AreHandsReady, WorkersDid}
-use Rattle.cv_round.specs.declared.lane.Lane.{Lane}
-use Rattle.cv_round.proofs.CrewLemmas.{seats_past}
-use Rattle.cv_round.proofs.DealLemmas.{dealt_ready}
+use Rattle.cv_dealing.specs.code.Dealt.{IsLaneReady}
+use Rattle.cv_dealing.specs.declared.lane.Lane.{Lane}
+use Rattle.cv_dealing.proofs.DealLemmas.{dealt_ready}
+use Rattle.cv_workers.specs.code.Lane.{LanesDid}
+use Rattle.cv_workers.specs.code.Worker.{AreHandsReady, WorkersDid}
+use Rattle.cv_workers.proofs.CrewLemmas.{seats_past}
 use Rattle.cv_round.proofs.WalkLemmas.{begun, begun_drop, done_any, ended, ended_drop, new_many, new_ready, room_begun, room_ended}
 use Rattle.cv_round.proofs.WholeLemmas.{Worked, ends_numbered, front_is, ran_of}
 use Rattle.cv_round.proofs.whole.run_parts.Goals as goal

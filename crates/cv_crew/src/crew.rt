@@ -1,0 +1,110 @@
+ghost use Rattle.std.specs.Prelude.{◌+◌, ◌<◌, ◌^◌, ℕ, length, OnOk};
+ghost use Rattle.std.specs.Thread.{IsSend, IsSync};
+ghost use Rattle.cv_crew.specs.code.Team.{AreReadyFrom, EachDidFrom};
+
+use cv_seq::NoMemory;
+use std::thread::{Threads, join_mut};
+
+/// Work that is done with a hand, a seat and a desk, by many threads with some of their own, each of a number.
+pub trait Crew<H, S, K> {
+    /// What has to hold before.
+    ghost ready: { Self → ℕ → H → S → K → Type 0 };
+
+    /// What was done.
+    ghost did: { Self → ℕ → H → H → S → S → K → K → Type 0 };
+
+    /// Whether so little work is there that threads are not worth it.
+    fn is_idle(&self) -> bool;
+
+    /// Does the work of one number.
+    fn run(&self, number: u32, hand: &mut H, seat: &mut S, desk: &mut K) -> Result<(), NoMemory>
+        requires { ready self.now number hand.old seat.old desk.old }
+        ensures { OnOk result (did self.now number hand.old hand.new seat.old seat.new desk.old desk.new) };
+}
+
+/// Does the work of all numbers from one on, beside each other, as far as all slices go. The last one has no thread of its own, and
+/// none has if the crew is idle.
+#[cycle(crew)]
+pub fn run_crew<H: Send, S: Send, K: Send, T: Crew<H, S, K> + Sync, W: Threads + Sync>(
+    rt: &W,
+    crew: &T,
+    number: u32,
+    hands: &mut [H],
+    seats: &mut [S],
+    desks: &mut [K],
+) -> Result<(), NoMemory>
+    requires few { number + length desks.old < 2 ^ 32 }
+    requires ready { AreReadyFrom (T.ready crew.now) number hands.old seats.old desks.old }
+    ensures { OnOk result (EachDidFrom (T.did crew.now) number hands.old hands.new seats.old seats.new desks.old desks.new) }
+{
+    let Some((hand, hands)) = hands.split_first_mut() else {
+        return Ok(());
+    };
+    let Some((seat, seats)) = seats.split_first_mut() else {
+        return Ok(());
+    };
+    let Some((desk, desks)) = desks.split_first_mut() else {
+        return Ok(());
+    };
+    crew_from(rt, crew, number, hand, hands, seat, seats, desk, desks)
+}
+
+/// Does the work of one number and of those after it.
+#[cycle(crew)]
+fn crew_from<H: Send, S: Send, K: Send, T: Crew<H, S, K> + Sync, W: Threads + Sync>(
+    rt: &W,
+    crew: &T,
+    number: u32,
+    hand: &mut H,
+    hands: &mut [H],
+    seat: &mut S,
+    seats: &mut [S],
+    desk: &mut K,
+    desks: &mut [K],
+) -> Result<(), NoMemory>
+    requires few { number + 1 + length desks.old < 2 ^ 32 }
+    requires first { T.ready crew.now number hand.old seat.old desk.old }
+    requires ready { AreReadyFrom (T.ready crew.now) (number + 1) hands.old seats.old desks.old }
+    ensures first { OnOk result (T.did crew.now number hand.old hand.new seat.old seat.new desk.old desk.new) }
+    ensures others { OnOk result (EachDidFrom (T.did crew.now) (number + 1) hands.old hands.new seats.old seats.new desks.old desks.new) }
+{
+    if desks.is_empty() || crew.is_idle() {
+        crew.run(number, hand, seat, desk)?;
+        return run_crew(rt, crew, number + 1, hands, seats, desks);
+    }
+    crew_beside(rt, crew, number, hand, hands, seat, seats, desk, desks)
+}
+
+/// Does the work of one number beside that of the numbers after it.
+#[cycle(crew)]
+fn crew_beside<H: Send, S: Send, K: Send, T: Crew<H, S, K> + Sync, W: Threads + Sync>(
+    rt: &W,
+    crew: &T,
+    number: u32,
+    hand: &mut H,
+    hands: &mut [H],
+    seat: &mut S,
+    seats: &mut [S],
+    desk: &mut K,
+    desks: &mut [K],
+) -> Result<(), NoMemory>
+    requires few { number + 1 + length desks.old < 2 ^ 32 }
+    requires first { T.ready crew.now number hand.old seat.old desk.old }
+    requires ready { AreReadyFrom (T.ready crew.now) (number + 1) hands.old seats.old desks.old }
+    ensures first { OnOk result (T.did crew.now number hand.old hand.new seat.old seat.new desk.old desk.new) }
+    ensures others { OnOk result (EachDidFrom (T.did crew.now) (number + 1) hands.old hands.new seats.old seats.new desks.old desks.new) }
+{
+    let (first, others) = join_mut(
+        rt,
+        &mut || -> Result<(), NoMemory>
+            requires { T.ready crew.now number hand.now seat.now desk.now }
+            ensures { OnOk result (T.did crew.entry.now number hand.entry.now hand.exit.now seat.entry.now seat.exit.now desk.entry.now desk.exit.now) }
+        { crew.run(number, hand, seat, desk) },
+        &mut || -> Result<(), NoMemory>
+            requires { IsSync W.row × IsSync T.row × IsSend H.row × IsSend S.row × IsSend K.row × (number + 1 + length desks.now < 2 ^ 32) × AreReadyFrom (T.ready crew.now) (number + 1) hands.now seats.now desks.now }
+            ensures { OnOk result (EachDidFrom (T.did crew.entry.now) (number + 1) hands.entry.now hands.exit.now seats.entry.now seats.exit.now desks.entry.now desks.exit.now) }
+        { run_crew(rt, crew, number + 1, hands, seats, desks) },
+    );
+    first?;
+    others
+}

@@ -1,0 +1,130 @@
+-- The lines of a round, apart, and the requests of its lanes.
+use Rattle.std.specs.Prelude.{◌≡◌, ◌≢◌, ◌⊎◌, ℕ, ◌==◌, ◌+◌, ◌<◌, Bool, true, false, not, cond, List, [], ◌∷◌, ◌++◌, filter, length, Option, Some, None, Result, Ok, Err, refl}
+use Rattle.std.specs.List.{AllByRecursion, cons_option}
+use Rattle.std.proofs.Common.{ap, arith, inl, inr, length-append, subst, sym, ◌∙◌}
+use Rattle.std.proofs.lemmas.Bool.{ne_eqb}
+use Rattle.std.proofs.lemmas.Bool.Decides.{eqb_tells}
+use Rattle.std.proofs.lemmas.List.{append-nil}
+use Rattle.cv_request.specs.Limits.{IsWithinLimits}
+use Rattle.cv_request.specs.declared.error.RequestError.{RequestError}
+use Rattle.cv_request.specs.declared.request.Request.{Request}
+use Rattle.cv_transcript.specs.declared.entry.Entry.{Entry}
+use Rattle.cv_transcript.specs.declared.entry.Entry.TheVariants as entry
+use Rattle.cv_legal.specs.Taken.{refusal_at, refusals, request_at, requests}
+use Rattle.cv_legal.specs.code.Segment.{lane_requests}
+use Rattle.cv_legal.specs.declared.taken.Requested.{Requested}
+use Rattle.cv_legal.specs.declared.taken.Taken.{Taken}
+use Rattle.cv_dealing.specs.Sound.{IsSoundAnswer, IsSoundRequest, IsSoundTaken}
+use Rattle.cv_dealing.specs.code.Dealt.{AreDealt, IsDealt, IsLaneReady, of_other_lane}
+use Rattle.cv_dealing.specs.declared.lane.Lane.{Lane}
+
+cons_both : {X : Type 0} (o : Option X) (xs ys : List X) → cons_option o (xs ++ ys) ≡ cons_option o xs ++ ys
+cons_both None xs ys = refl
+cons_both (Some x) xs ys = refl
+
+pub low_lanes : (asked : List Requested) → AllByRecursion IsSoundRequest asked → AllByRecursion (λ r. r.request.lane < 8) asked
+low_lanes [] h = tt
+low_lanes (r ∷ rs) h = (h.0.0, low_lanes rs h.1)
+
+-- ---- the lines of a round, apart
+
+sound_requests : (taken : List Taken) → AllByRecursion IsSoundTaken taken → AllByRecursion IsSoundRequest (requests taken)
+sound_requests [] h = tt
+sound_requests (t ∷ ts) h = by_answer t.answer h.0 (sound_requests ts h.1) where
+  by_answer : (a : Result Request RequestError) → IsSoundAnswer a → AllByRecursion IsSoundRequest (requests ts) → AllByRecursion IsSoundRequest (cons_option (request_at t.line a) (requests ts))
+  by_answer (Ok request) s later = (s, later)
+  by_answer (Err error) s later = later
+
+pub sound_asked : (taken : List Taken) (asked : List Requested) → AllByRecursion IsSoundTaken taken → asked ≡ requests taken → AllByRecursion IsSoundRequest asked
+sound_asked taken asked h is = subst (AllByRecursion IsSoundRequest) (sym is) (sound_requests taken h)
+
+refusals_both : (xs ys : List Taken) → refusals (xs ++ ys) ≡ refusals xs ++ refusals ys
+refusals_both [] ys = refl
+refusals_both (x ∷ xs) ys = ap (cons_option (refusal_at x.line x.answer)) (refusals_both xs ys) ∙ cons_both (refusal_at x.line x.answer) (refusals xs) (refusals ys)
+
+requests_both : (xs ys : List Taken) → requests (xs ++ ys) ≡ requests xs ++ requests ys
+requests_both [] ys = refl
+requests_both (x ∷ xs) ys = ap (cons_option (request_at x.line x.answer)) (requests_both xs ys) ∙ cons_both (request_at x.line x.answer) (requests xs) (requests ys)
+
+-- one more line, which is a request
+pub one_asked : (taken : List Taken) (t : Taken) (request : Request) (refused : List Entry) (asked all : List Requested) → t.answer ≡ Ok request
+    → refused ≡ refusals taken → asked ≡ requests taken → all ≡ asked ++ record { line = t.line; request = request } ∷ []
+    → (refused ≡ refusals (taken ++ t ∷ [])) × (all ≡ requests (taken ++ t ∷ []))
+one_asked taken t request refused asked all ok refused_is asked_is joined = (
+  refused_is ∙ sym (refusals_both taken (t ∷ []) ∙ ap (λ a. refusals taken ++ cons_option (refusal_at t.line a) []) ok ∙ append-nil (refusals taken)),
+  joined ∙ ap (λ rs. rs ++ record { line = t.line; request = request } ∷ []) asked_is
+      ∙ sym (requests_both taken (t ∷ []) ∙ ap (λ a. requests taken ++ cons_option (request_at t.line a) []) ok),
+)
+
+-- one more line, which is refused
+pub one_refused : (taken : List Taken) (t : Taken) (error : RequestError) (refused all : List Entry) (asked : List Requested) → t.answer ≡ Err error
+    → refused ≡ refusals taken → asked ≡ requests taken → all ≡ refused ++ entry.Refused t.line error ∷ []
+    → (all ≡ refusals (taken ++ t ∷ [])) × (asked ≡ requests (taken ++ t ∷ []))
+one_refused taken t error refused all asked err refused_is asked_is joined = (
+  joined ∙ ap (λ es. es ++ entry.Refused t.line error ∷ []) refused_is
+      ∙ sym (refusals_both taken (t ∷ []) ∙ ap (λ a. refusals taken ++ cons_option (refusal_at t.line a) []) err),
+  asked_is ∙ sym (requests_both taken (t ∷ []) ∙ ap (λ a. requests taken ++ cons_option (request_at t.line a) []) err ∙ append-nil (requests taken)),
+)
+
+-- ---- lanes
+
+-- requests of other lanes are all those of each other lane
+pub lane_of_others : (lane other : ℕ) (asked : List Requested) → lane < other → lane_requests other (filter (of_other_lane lane) asked) ≡ lane_requests other asked
+lane_of_others lane other [] h = refl
+lane_of_others lane other (r ∷ rs) h =
+    by_test (eqb_tells r.request.lane lane) (lane_of_others lane other rs h)
+  where
+    rest : List Requested
+    rest = filter (of_other_lane lane) rs
+
+    first_if : Bool → List Requested → List Requested
+    first_if b tail = cond b (r ∷ tail) tail
+
+    by_test : (((r.request.lane == lane) ≡ true) × (r.request.lane ≡ lane)) ⊎ (((r.request.lane == lane) ≡ false) × (r.request.lane ≢ lane))
+        → lane_requests other rest ≡ lane_requests other rs
+        → lane_requests other (first_if (not (r.request.lane == lane)) rest) ≡ first_if (r.request.lane == other) (lane_requests other rs)
+    by_test (inl same) later =
+        ap (λ b. lane_requests other (first_if (not b) rest)) same.0 ∙ later
+        ∙ ap (λ b. first_if b (lane_requests other rs)) (sym (ne_eqb r.request.lane other (λ e. omega (arith, e, same.1, h))))
+    by_test (inr apart) later =
+        ap (λ b. lane_requests other (first_if (not b) rest)) apart.0 ∙ ap (first_if (r.request.lane == other)) later
+
+pub all_kept : {A : Type 0} (P : A → Type 0) (f : A → Bool) (xs : List A) → AllByRecursion P xs → AllByRecursion P (filter f xs)
+all_kept P f [] h = tt
+all_kept {A} P f (x ∷ xs) h = by_test (f x) (all_kept P f xs h.1) where
+  by_test : (b : Bool) → AllByRecursion P (filter f xs) → AllByRecursion P (cond b (x ∷ filter f xs) (filter f xs))
+  by_test true later = (h.0, later)
+  by_test false later = later
+
+-- ---- lanes that were dealt
+
+pub one_longer : {A : Type 0} (xs : List A) (x : A) (ys : List A) (n : ℕ) → length xs ≡ n → ys ≡ xs ++ x ∷ [] → length ys ≡ n + 1
+one_longer xs x ys n is joined = let more = length-append xs (x ∷ []) in let all = ap length joined in omega (arith, is, more, all)
+
+dealt_then : (n : ℕ) (asked : List Requested) (lanes : List Lane) (lane : Lane) → AreDealt n asked lanes → IsDealt (n + length lanes) asked lane → AreDealt n asked (lanes ++ lane ∷ [])
+dealt_then n asked [] lane h one = (subst (λ (k : ℕ). IsDealt k asked lane) (omega arith) one, tt)
+dealt_then n asked (first ∷ lanes) lane h one =
+    let at : n + length (first ∷ lanes) ≡ n + 1 + length lanes = omega arith in
+    (h.0, dealt_then (n + 1) asked lanes lane h.1 (subst (λ (k : ℕ). IsDealt k asked lane) at one))
+
+-- one more lane was dealt
+pub dealt_more : (asked : List Requested) (lanes : List Lane) (lane : Lane) (all : List Lane) (n : ℕ) → length lanes ≡ n → all ≡ lanes ++ lane ∷ [] → AreDealt 0 asked lanes → IsDealt n asked lane
+    → AreDealt 0 asked all
+dealt_more asked lanes lane all n count joined h one =
+    subst (AreDealt 0 asked) (sym joined) (dealt_then 0 asked lanes lane h (subst (λ (k : ℕ). IsDealt k asked lane) (omega (arith, count)) one))
+
+within : (asked : List Requested) → AllByRecursion IsSoundRequest asked → AllByRecursion (λ (r : Requested). IsWithinLimits r.request.act) asked
+within [] h = tt
+within (r ∷ rs) h = (h.0.1, within rs h.1)
+
+-- lanes that were dealt can be worked at
+pub dealt_ready : (n : ℕ) (asked : List Requested) (lanes : List Lane) → AllByRecursion IsSoundRequest asked → AreDealt n asked lanes → AllByRecursion IsLaneReady lanes
+dealt_ready n asked [] sound h = tt
+dealt_ready n asked (lane ∷ lanes) sound h = (
+  record {
+    within_limits = subst (AllByRecursion (λ (r : Requested). IsWithinLimits r.request.act)) (sym h.0.1)
+        (within (lane_requests n asked) (all_kept IsSoundRequest (λ r. r.request.lane == n) asked sound));
+    no_reads = h.0.2;
+  },
+  dealt_ready (n + 1) asked lanes sound h.1,
+)

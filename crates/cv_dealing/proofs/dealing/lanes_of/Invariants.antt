@@ -1,0 +1,12 @@
+-- The lanes below this one have their requests, and those of the others remain.
+use Rattle.std.specs.Prelude.{◌≡◌, ℕ, ◌≤◌, length}
+use Rattle.cv_legal.specs.code.Segment.{lane_requests}
+use Rattle.cv_dealing.specs.code.Dealt.{AreDealt}
+use Rattle.cv_dealing.proofs.dealing.lanes_of.Given as goal
+
+abbrev pub invariant-loop-number : goal.invariant-loop-number
+invariant-loop-number l = record {
+  rest : (other : ℕ) → l.number ≤ other → lane_requests other l.rest.items ≡ lane_requests other l.fn.asked.items;
+  count : length l.lanes.items ≡ l.number;
+  dealt : AreDealt 0 l.fn.asked.items l.lanes.items;
+}

@@ -1,0 +1,10 @@
+-- Those taken so far, apart.
+use Rattle.std.specs.Prelude.{◌≡◌}
+use Rattle.cv_legal.specs.Taken.{refusals, requests}
+use Rattle.cv_dealing.proofs.dealing.part.Given as goal
+
+abbrev pub invariant-loop-line : goal.invariant-loop-line
+invariant-loop-line l = record {
+  refused : l.refused.items ≡ refusals l.yielded;
+  asked : l.asked.items ≡ requests l.yielded;
+}

@@ -1,0 +1,19 @@
+-- The requests that a round may carry out (defined by this project).
+use Rattle.std.specs.Prelude.{⊤, ◌<◌, Result, Ok, Err}
+use Rattle.cv_request.specs.Limits.{IsWithinLimits}
+use Rattle.cv_request.specs.declared.error.RequestError.{RequestError}
+use Rattle.cv_request.specs.declared.request.Request.{Request}
+use Rattle.cv_legal.specs.declared.taken.Requested.{Requested}
+use Rattle.cv_legal.specs.declared.taken.Taken.{Taken}
+
+-- a request has one of eight lanes, and is within the limits of requests
+abbrev pub IsSoundRequest : Requested → Type 0
+IsSoundRequest asked = (asked.request.lane < 8) × IsWithinLimits asked.request.act
+
+-- so is the request of a line that was read
+abbrev pub IsSoundAnswer : Result Request RequestError → Type 0
+IsSoundAnswer (Ok request) = (request.lane < 8) × IsWithinLimits request.act
+IsSoundAnswer (Err error) = ⊤
+
+abbrev pub IsSoundTaken : Taken → Type 0
+IsSoundTaken taken = IsSoundAnswer taken.answer

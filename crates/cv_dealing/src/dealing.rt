@@ -1,0 +1,71 @@
+ghost use Rattle.std.specs.Prelude.{◌≡◌, filter, length, IfOk};
+ghost use Rattle.std.specs.List.{AllByRecursion};
+ghost use Rattle.cv_legal.specs.Taken.{refusals, requests};
+ghost use Rattle.cv_legal.specs.code.Segment.{lane_requests};
+ghost use Rattle.cv_dealing.specs.Sound.{IsSoundRequest, IsSoundTaken};
+ghost use Rattle.cv_dealing.specs.code.Dealt.{AreDealt, of_other_lane};
+
+use crate::lane::Lane;
+use cv_legal::{Requested, Taken};
+use cv_request::MAX_LANES;
+use cv_seq::NoMemory;
+use cv_transcript::Entry;
+use std::alloc::Global;
+
+/// The entries of the refused lines, and the requests, each in input order.
+pub fn part(alloc: Global, taken: Vec<Taken>) -> Result<(Vec<Entry>, Vec<Requested>), NoMemory>
+    requires sound { AllByRecursion IsSoundTaken taken.items }
+    ensures refused { IfOk result (λ parts. parts.0.items ≡ refusals taken.items) }
+    ensures asked { IfOk result (λ parts. parts.1.items ≡ requests taken.items) }
+    ensures sound { IfOk result (λ parts. AllByRecursion IsSoundRequest parts.1.items) }
+{
+    let mut refused = Vec::new(alloc);
+    let mut asked = Vec::new(alloc);
+    for Taken { line, answer } in taken {
+        match answer {
+            Ok(request) => asked.push(Requested { line, request })?,
+            Err(error) => refused.push(Entry::Refused { line, error })?,
+        }
+    }
+    Ok((refused, asked))
+}
+
+/// The eight lanes with their requests, each in input order.
+pub fn lanes_of(alloc: Global, asked: Vec<Requested>) -> Result<Vec<Lane>, NoMemory>
+    ensures count { IfOk result (λ lanes. length lanes.items ≡ 8) }
+    ensures dealt { IfOk result (λ lanes. AreDealt 0 asked.items lanes.items) }
+{
+    let mut rest = asked;
+    let mut lanes = Vec::new(alloc);
+    for number in 0..MAX_LANES {
+        let (mine, others) = of_lane(alloc, rest, number)?;
+        rest = others;
+        lanes.push(Lane {
+            number,
+            asked: mine,
+            reads: Vec::new(alloc),
+        })?;
+    }
+    Ok(lanes)
+}
+
+/// The requests of a lane and those of other lanes, each in their order.
+fn of_lane(
+    alloc: Global,
+    asked: Vec<Requested>,
+    lane: u8,
+) -> Result<(Vec<Requested>, Vec<Requested>), NoMemory>
+    ensures mine { IfOk result (λ parts. parts.0.items ≡ lane_requests lane asked.items) }
+    ensures others { IfOk result (λ parts. parts.1.items ≡ filter (of_other_lane lane) asked.items) }
+{
+    let mut mine = Vec::new(alloc);
+    let mut others = Vec::new(alloc);
+    for requested in asked {
+        if requested.request.lane == lane {
+            mine.push(requested)?;
+        } else {
+            others.push(requested)?;
+        }
+    }
+    Ok((mine, others))
+}

@@ -1,0 +1,4 @@
+pub mod Lane
+pub mod Own
+pub mod Place
+pub mod Refreshed

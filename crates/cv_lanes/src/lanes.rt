@@ -1,0 +1,53 @@
+ghost use Rattle.std.specs.Prelude.{OnOk};
+ghost use Rattle.cv_dealing.specs.code.Dealt.{IsLaneReady};
+ghost use Rattle.cv_lanes.specs.code.Lane.{LaneAt};
+
+use crate::request::carry_out;
+use cv_crew::Team;
+use cv_dealing::Lane;
+use cv_desk::Desk;
+use cv_hub::{Hub, Identity, Seat};
+use cv_seq::NoMemory;
+use std::mem;
+use std::sync::Wait;
+
+/// What lanes work with.
+#[derive(Drop)]
+pub struct LaneTeam<'a, D: Desk + Drop, L: Identity, W: Wait> {
+    pub rt: &'a W,
+    pub hub: &'a Hub<D, L>,
+}
+
+impl<'a, D: Desk + Drop, L: Identity, W: Wait> Team<Seat<D, L>, Lane> for LaneTeam<'a, D, L, W> {
+    ghost ready = { λ _ _ lane. IsLaneReady lane };
+
+    ghost did = { λ _ before after lane lane_after. LaneAt D.tree L.limits before after lane lane_after };
+
+    fn is_idle(&self, lane: &Lane) -> bool {
+        lane.asked.is_empty()
+    }
+
+    fn run(&self, seat: &mut Seat<D, L>, lane: &mut Lane) -> Result<(), NoMemory> {
+        run_lane(self.rt, self.hub, seat, lane)
+    }
+}
+
+/// Carries out the requests of a lane in their order.
+fn run_lane<D: Desk + Drop, L: Identity, W: Wait>(
+    rt: &W,
+    hub: &Hub<D, L>,
+    seat: &mut Seat<D, L>,
+    lane: &mut Lane,
+) -> Result<(), NoMemory>
+    requires { IsLaneReady lane.old }
+    ensures { OnOk result (LaneAt D.tree L.limits seat.old seat.new lane.old lane.new) }
+{
+    let alloc = *lane.asked.allocator();
+    let asked = mem::replace(&mut lane.asked, Vec::new(alloc));
+    for requested in asked {
+        if let Some(read) = carry_out(rt, alloc, hub, seat, requested) {
+            lane.reads.push(read)?;
+        }
+    }
+    Ok(())
+}

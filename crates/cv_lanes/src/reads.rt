@@ -1,0 +1,182 @@
+ghost use Rattle.std.specs.Prelude.{◌≡◌, ◌≤◌, IfOk, Some};
+ghost use Rattle.cv_records.specs.declared.read.ReportOutcome.TheVariants as outcome;
+ghost use Rattle.cv_machine.specs.Answer.{Heads, Page, Read, Report, answer_to, report_of};
+ghost use Rattle.cv_machine.specs.Scans.{IsKnown, trees_of};
+ghost use Rattle.cv_request.specs.declared.request.Act.{Act};
+ghost use Rattle.cv_request.specs.declared.request.Act.TheVariants as act;
+ghost use Rattle.cv_legal.specs.Replay.{read_of};
+ghost use Rattle.cv_hub.specs.Events.{state_of};
+ghost use Rattle.cv_lanes.specs.code.Lane.{Looked, OneStep};
+ghost use Rattle.cv_lanes.specs.code.Place.{looked_at, requested};
+
+use crate::request::Place;
+use cv_base::{Digest, Finding};
+use cv_board::ReportRefusal;
+use cv_dealing::{copy_findings, copy_rows};
+use cv_desk::Desk;
+use cv_hub::{Held, Hub, Identity, Seat};
+use cv_notice::PageError;
+use cv_overlay::ImageFault;
+use cv_records::{Answer, PageOutcome, ReadEntry, ReportOutcome};
+use cv_seq::NoMemory;
+use std::alloc::Global;
+use std::sync::Wait;
+
+/// The report of an image, read now.
+pub fn report_at<D: Desk + Drop, L: Identity, W: Wait>(
+    rt: &W,
+    alloc: Global,
+    hub: &Hub<D, L>,
+    seat: &mut Seat<D, L>,
+    place: Place,
+    image: Digest,
+) -> ReadEntry
+    ensures { OneStep D.tree L.limits (requested place (act.Report image)) seat.old seat.new (Looked result) }
+{
+    let held = hub.view(rt, seat);
+    let answer = report(alloc, &held, image);
+    read_entry(&held, place, answer)
+}
+
+/// A page of a notification, read now.
+pub fn page_at<D: Desk + Drop, L: Identity, W: Wait>(
+    rt: &W,
+    alloc: Global,
+    hub: &Hub<D, L>,
+    seat: &mut Seat<D, L>,
+    place: Place,
+    number: u64,
+    size: u32,
+    page: u64,
+) -> ReadEntry
+    requires size { 1 ≤ size }
+    requires page { 1 ≤ page }
+    ensures { OneStep D.tree L.limits (requested place (act.Page number size page)) seat.old seat.new (Looked result) }
+{
+    let held = hub.view(rt, seat);
+    let answer = page_of(alloc, &held, number, size, page);
+    read_entry(&held, place, answer)
+}
+
+/// All notifications, read now.
+pub fn list_at<D: Desk + Drop, L: Identity, W: Wait>(
+    rt: &W,
+    alloc: Global,
+    hub: &Hub<D, L>,
+    seat: &mut Seat<D, L>,
+    place: Place,
+) -> ReadEntry
+    ensures { OneStep D.tree L.limits (requested place act.List) seat.old seat.new (Looked result) }
+{
+    let held = hub.view(rt, seat);
+    let answer = list(alloc, &held);
+    read_entry(&held, place, answer)
+}
+
+/// That a request ran out of memory, now.
+pub fn no_memory_at<D: Desk + Drop, L: Identity, W: Wait>(
+    rt: &W,
+    hub: &Hub<D, L>,
+    seat: &mut Seat<D, L>,
+    place: Place,
+) -> ReadEntry
+    ensures { (act : Act) → OneStep D.tree L.limits (requested place act) seat.old seat.new (Looked result) }
+{
+    let held = hub.view(rt, seat);
+    read_entry(&held, place, Err(NoMemory))
+}
+
+/// The entry of a read with this answer, or that memory ran out.
+fn read_entry<D: Desk + Drop, L: Identity>(
+    held: &Held<'_, D, L>,
+    place: Place,
+    answer: Result<Answer, NoMemory>,
+) -> ReadEntry
+    ensures { result ≡ looked_at place held.now answer }
+{
+    ReadEntry {
+        front: held.front(),
+        lane: place.lane,
+        line: place.line,
+        answer: answer.unwrap_or(Answer::NoMemory),
+    }
+}
+
+fn report<D: Desk + Drop, L: Identity>(
+    alloc: Global,
+    held: &Held<'_, D, L>,
+    image: Digest,
+) -> Result<Answer, NoMemory>
+    ensures { IsKnown D.tree → IfOk result (λ found. found ≡ answer_to (trees_of D.tree) (state_of (trees_of D.tree) L.limits held.now) (Report image)) }
+{
+    let outcome = report_outcome(alloc, held, &image)?;
+    Ok(Answer::Report { image, outcome })
+}
+
+/// The report of an image, copied.
+fn report_outcome<D: Desk + Drop, L: Identity>(
+    alloc: Global,
+    held: &Held<'_, D, L>,
+    image: &Digest,
+) -> Result<ReportOutcome, NoMemory>
+    ensures { IsKnown D.tree → IfOk result (λ outcome. outcome ≡ report_of (trees_of D.tree) (state_of (trees_of D.tree) L.limits held.now) image.now) }
+{
+    match held.report(image) {
+        Ok(report) => good(alloc, report.generation, report.findings.as_slice()),
+        Err(ReportRefusal::NotRegistered) => Ok(ReportOutcome::NotRegistered),
+        Err(ReportRefusal::Pending(ref layer)) => Ok(ReportOutcome::Pending(*layer)),
+        Err(ReportRefusal::BadImage(fault)) => bad(fault),
+    }
+}
+
+fn good(alloc: Global, generation: u64, findings: &[Finding]) -> Result<ReportOutcome, NoMemory>
+    ensures { IfOk result (λ found. found ≡ outcome.Good generation findings.now) }
+{
+    let findings = copy_findings(alloc, findings)?;
+    Ok(ReportOutcome::Good {
+        generation,
+        findings,
+    })
+}
+
+fn bad(fault: &ImageFault) -> Result<ReportOutcome, NoMemory>
+    ensures { IfOk result (λ found. found ≡ outcome.BadImage fault.now) }
+{
+    Ok(ReportOutcome::BadImage(fault.clone()?))
+}
+
+fn page_of<D: Desk + Drop, L: Identity>(
+    alloc: Global,
+    held: &Held<'_, D, L>,
+    number: u64,
+    size: u32,
+    page: u64,
+) -> Result<Answer, NoMemory>
+    requires size { 1 ≤ size }
+    requires page { 1 ≤ page }
+    ensures { IsKnown D.tree → IfOk result (λ found. found ≡ answer_to (trees_of D.tree) (state_of (trees_of D.tree) L.limits held.now) (Page number size page)) }
+{
+    let outcome = match held.page(number, u64::from(size), page) {
+        Ok(found) => PageOutcome::Rows {
+            pages: found.pages,
+            rows: copy_rows(alloc, found.rows)?,
+        },
+        Err(PageError::NoNotification) => PageOutcome::NoNotification,
+        Err(PageError::NoPage { pages }) => PageOutcome::NoPage { pages },
+    };
+    Ok(Answer::Page {
+        number,
+        size,
+        page,
+        outcome,
+    })
+}
+
+fn list<D: Desk + Drop, L: Identity>(
+    alloc: Global,
+    held: &Held<'_, D, L>,
+) -> Result<Answer, NoMemory>
+    ensures { IsKnown D.tree → IfOk result (λ found. found ≡ answer_to (trees_of D.tree) (state_of (trees_of D.tree) L.limits held.now) Heads) }
+{
+    Ok(Answer::List(held.list(alloc)?))
+}

@@ -1,0 +1,118 @@
+ghost use Rattle.std.specs.Prelude.{◌≡◌, IfErr, IfNone, IfOk, IfSome, Some};
+ghost use Rattle.cv_request.specs.declared.request.Act.{Act};
+ghost use Rattle.cv_request.specs.Limits.{IsWithinLimits};
+ghost use Rattle.cv_steps.specs.Core.{IsSound, act_of};
+ghost use Rattle.cv_legal.specs.Replay.{event_of};
+ghost use Rattle.cv_lanes.specs.code.Lane.{Looked, OneStep, Submitted};
+ghost use Rattle.cv_lanes.specs.code.Own.{Placed};
+ghost use Rattle.cv_lanes.specs.code.Place.{asked_by, requested};
+
+use crate::reads::{list_at, no_memory_at, page_at, report_at};
+use cv_base::Digest;
+use cv_desk::Desk;
+use cv_hub::{Hub, Identity, Seat};
+use cv_legal::Requested;
+use cv_records::{By, ReadEntry};
+use cv_request::{Act, Request};
+use cv_steps::Event;
+use std::alloc::Global;
+use std::sync::Wait;
+
+/// Where a request stands in the input.
+#[derive(Clone, Copy)]
+pub struct Place {
+    pub lane: u8,
+    pub line: u64,
+}
+
+/// A read that a request asks for.
+pub enum Look {
+    Report(Digest),
+    Page { number: u64, size: u32, page: u64 },
+    List,
+}
+
+/// Carries out a request. It gives the entry of a read, also if memory ran out: then nothing has changed. For an event there is
+/// none: its entry is that of the hub's list.
+pub fn carry_out<D: Desk + Drop, L: Identity, W: Wait>(
+    rt: &W,
+    alloc: Global,
+    hub: &Hub<D, L>,
+    seat: &mut Seat<D, L>,
+    asked: Requested,
+) -> Option<ReadEntry>
+    requires within { IsWithinLimits asked.request.act }
+    ensures event { IfNone result ((placed : Placed) × OneStep D.tree L.limits asked seat.old seat.new (Submitted placed)) }
+    ensures read { IfSome result (λ read. OneStep D.tree L.limits asked seat.old seat.new (Looked read)) }
+{
+    let Requested {
+        line,
+        request: Request { lane, act },
+    } = asked;
+    let place = Place { lane, line };
+    match event_in(act) {
+        Ok(event) => submit(rt, alloc, hub, seat, place, event),
+        Err(look) => Some(look_at(rt, alloc, hub, seat, place, look)),
+    }
+}
+
+/// The event that a request asks for, or the read.
+fn event_in<D: Desk>(act: Act) -> Result<Event<D>, Look>
+    requires within { IsWithinLimits act }
+    ensures event { IfOk result (λ event. (event_of act ≡ Some (act_of event)) × IsSound (act_of event)) }
+    ensures read { IfErr result (λ look. (act ≡ asked_by look) × IsWithinLimits (asked_by look)) }
+{
+    match act {
+        Act::Register(manifest) => Ok(Event::Register(manifest)),
+        Act::DropImage(image) => Ok(Event::DropImage(image)),
+        Act::Update { feed, records } => Ok(Event::Update(feed, records)),
+        Act::Report(image) => Err(Look::Report(image)),
+        Act::Page { number, size, page } => Err(Look::Page { number, size, page }),
+        Act::List => Err(Look::List),
+        Act::Ack(number) => Ok(Event::Ack(number)),
+    }
+}
+
+/// The read of a request, now.
+fn look_at<D: Desk + Drop, L: Identity, W: Wait>(
+    rt: &W,
+    alloc: Global,
+    hub: &Hub<D, L>,
+    seat: &mut Seat<D, L>,
+    place: Place,
+    look: Look,
+) -> ReadEntry
+    requires within { IsWithinLimits (asked_by look) }
+    ensures { OneStep D.tree L.limits (requested place (asked_by look)) seat.old seat.new (Looked result) }
+{
+    match look {
+        Look::Report(image) => report_at(rt, alloc, hub, seat, place, image),
+        Look::Page { number, size, page } => {
+            page_at(rt, alloc, hub, seat, place, number, size, page)
+        }
+        Look::List => list_at(rt, alloc, hub, seat, place),
+    }
+}
+
+/// Submits the event of a request.
+fn submit<D: Desk + Drop, L: Identity, W: Wait>(
+    rt: &W,
+    alloc: Global,
+    hub: &Hub<D, L>,
+    seat: &mut Seat<D, L>,
+    place: Place,
+    event: Event<D>,
+) -> Option<ReadEntry>
+    requires sound { IsSound (act_of event) }
+    ensures event { (act : Act) → event_of act ≡ Some (act_of event) → IfNone result ((placed : Placed) × OneStep D.tree L.limits (requested place act) seat.old seat.new (Submitted placed)) }
+    ensures read { (act : Act) → event_of act ≡ Some (act_of event) → IfSome result (λ read. OneStep D.tree L.limits (requested place act) seat.old seat.new (Looked read)) }
+{
+    let by = By::Lane {
+        lane: place.lane,
+        line: place.line,
+    };
+    let Ok(_receipt) = hub.submit(rt, alloc, seat, by, event) else {
+        return Some(no_memory_at(rt, hub, seat, place));
+    };
+    None
+}

@@ -1,0 +1,11 @@
+pub use Rattle.cv_lanes.proofs.Crossing
+pub use Rattle.cv_lanes.proofs.LaneLemmas
+pub use Rattle.cv_lanes.proofs.Made
+pub use Rattle.cv_lanes.proofs.OwnLemmas
+pub use Rattle.cv_lanes.proofs.Prefixes
+pub use Rattle.cv_lanes.proofs.Replays
+pub use Rattle.cv_lanes.proofs.TeamCrossing
+pub use Rattle.cv_lanes.proofs.TeamLemmas
+pub mod CrewCrossing
+pub mod CrewLemmas
+pub mod WorkerLemmas

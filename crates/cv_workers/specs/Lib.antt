@@ -1,0 +1,4 @@
+pub use Rattle.cv_lanes.specs.Events
+pub use Rattle.cv_lanes.specs.Seats
+pub mod Counts
+pub mod code

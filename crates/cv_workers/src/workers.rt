@@ -1,0 +1,44 @@
+ghost use Rattle.std.specs.Prelude.{length};
+ghost use Rattle.cv_workers.specs.code.Worker.{HandDid, HasRoom, IsHandReady};
+
+use crate::worker::run_worker;
+use cv_base::Digest;
+use cv_crew::Crew;
+use cv_desk::Desk;
+use cv_lanes::{Hub, Identity, Seat};
+use cv_pool::Hand;
+use cv_seq::NoMemory;
+use std::alloc::Global;
+use std::sync::Wait;
+
+/// What workers work with.
+#[derive(Drop)]
+pub struct WorkerCrew<'a, D: Desk + Drop, L: Identity, W: Wait> {
+    pub rt: &'a W,
+    pub alloc: Global,
+    pub hub: &'a Hub<D, L>,
+    pub queue: &'a [Digest],
+}
+
+impl<'a, D: Desk + Drop, L: Identity, W: Wait> Crew<Hand, Seat<D, L>, D>
+    for WorkerCrew<'a, D, L, W> {
+    ghost ready = { λ crew _ hand seat desk. IsHandReady (length crew.queue.now) hand × HasRoom D.listings seat desk };
+
+    ghost did = { λ crew worker hand hand_after seat seat_after desk desk_after. HandDid D.listings D.faults crew.queue.now worker hand hand_after seat seat_after desk desk_after };
+
+    fn is_idle(&self) -> bool {
+        self.queue.is_empty()
+    }
+
+    fn run(
+        &self,
+        number: u32,
+        hand: &mut Hand,
+        seat: &mut Seat<D, L>,
+        desk: &mut D,
+    ) -> Result<(), NoMemory> {
+        run_worker(
+            self.rt, self.alloc, self.hub, number, self.queue, hand, seat, desk,
+        )
+    }
+}
