@@ -1,16 +1,34 @@
-use cv_base::{Finding, Package, PackageKind, RelPath, Text};
+use cv_base::{Finding, NoMemory, Package, PackageKind, RelPath, Text};
 use cv_match::in_order;
 use std::alloc::Global;
 use std::test::Fail;
 
-fn finding(
-    alloc: Global,
-    name: &str,
-    feed: &str,
-    advisory: &str,
-    fixed: &str,
-) -> Result<Finding, Fail> {
-    let package = Package {
+/// The name of a package, the feed, the advisory and the fixed version.
+type FindingRow = (&'static str, &'static str, &'static str, &'static str);
+
+/// Two of package, feed and advisory stand twice.
+const GIVEN: &[FindingRow] = &[
+    ("zlib", "a", "X-2", "2"),
+    ("libssl3", "b", "X-1", "3"),
+    ("zlib", "a", "X-10", "2"),
+    ("zlib", "a", "X-1", "2"),
+    ("libssl3", "a", "X-9", "3"),
+    ("zlib", "a", "X-2", "4"),
+    ("zlib", "a", "X-10", "2"),
+];
+
+/// By bytes of the texts. Of findings that are the same by package, feed and advisory the last one stays.
+const SORTED: &str = "\
+libssl3 a X-9 3
+libssl3 b X-1 3
+zlib a X-1 2
+zlib a X-10 2
+zlib a X-2 4
+";
+
+/// Version 1 of a package of Debian 12, which is its own source.
+fn package(alloc: Global, name: &str) -> Result<Package, Fail> {
+    Ok(Package {
         kind: PackageKind::Deb,
         path: RelPath::read(alloc, "var/lib/dpkg/status")?,
         name: Text::of(alloc, name)?,
@@ -19,45 +37,46 @@ fn finding(
         source_version: Text::of(alloc, "1")?,
         arch: Text::of(alloc, "amd64")?,
         ecosystem: Text::of(alloc, "Debian:12")?,
-    };
+    })
+}
+
+fn finding(alloc: Global, row: &FindingRow) -> Result<Finding, Fail> {
+    let (name, feed, advisory, fixed) = *row;
     Ok(Finding {
-        package,
+        package: package(alloc, name)?,
         feed: Text::of(alloc, feed)?,
         advisory: Text::of(alloc, advisory)?,
         fixed: Some(Text::of(alloc, fixed)?),
     })
 }
 
-fn findings(alloc: Global, rows: &[(&str, &str, &str, &str)]) -> Result<Vec<Finding>, Fail> {
-    let mut found = Vec::new(alloc);
-    for (name, feed, advisory, fixed) in rows {
-        found.push(finding(alloc, name, feed, advisory, fixed)?)?;
-    }
-    Ok(found)
+/// The name of a package, the feed, the advisory and the fixed version.
+fn line(alloc: Global, finding: &Finding) -> Result<String, NoMemory> {
+    let fixed = match &finding.fixed {
+        Some(text) => text.as_str(),
+        None => "none",
+    };
+    let (name, feed) = (finding.package.name.as_str(), finding.feed.as_str());
+    let advisory = finding.advisory.as_str();
+    Ok(format!(in alloc; "{name} {feed} {advisory} {fixed}\n")?)
 }
 
-/// By bytes of the texts. Of findings that are the same by package, feed and advisory the last one stays.
+/// The findings of these rows in order, a line each.
+fn sorted(alloc: Global, rows: &[FindingRow]) -> Result<String, Fail> {
+    let mut found = Vec::new(alloc);
+    for row in rows {
+        found.push(finding(alloc, row)?)?;
+    }
+    let mut lines = String::new(alloc);
+    for finding in in_order(alloc, found)?.as_slice() {
+        lines.push_str(line(alloc, finding)?.as_str())?;
+    }
+    Ok(lines)
+}
+
 #[test]
 fn findings_are_sorted_by_package_feed_and_advisory_each_once(rt: HostRuntime) -> Result<(), Fail> {
-    let alloc = rt.alloc();
-    let given = [
-        ("zlib", "a", "X-2", "2"),
-        ("libssl3", "b", "X-1", "3"),
-        ("zlib", "a", "X-10", "2"),
-        ("zlib", "a", "X-1", "2"),
-        ("libssl3", "a", "X-9", "3"),
-        ("zlib", "a", "X-2", "4"),
-        ("zlib", "a", "X-10", "2"),
-    ];
-    let want = [
-        ("libssl3", "a", "X-9", "3"),
-        ("libssl3", "b", "X-1", "3"),
-        ("zlib", "a", "X-1", "2"),
-        ("zlib", "a", "X-10", "2"),
-        ("zlib", "a", "X-2", "4"),
-    ];
-    let out = in_order(alloc, findings(alloc, &given)?)?;
-    assert_eq!(rt; out.as_slice(), findings(alloc, &want)?.as_slice());
-    assert_eq!(rt; in_order(alloc, Vec::new(alloc))?.as_slice().len(), 0);
+    assert_eq!(rt; sorted(rt.alloc(), GIVEN)?.as_str(), SORTED);
+    assert_eq!(rt; sorted(rt.alloc(), &[])?.as_str(), "");
     Ok(())
 }
