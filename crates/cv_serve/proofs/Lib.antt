@@ -1,6 +1,7 @@
 mod Ending
 mod Further
 mod Input
+mod Queued
 mod Quiet
 mod Seats
 mod Told

@@ -14,7 +14,9 @@ mod end;
 mod lines;
 mod print;
 mod round;
+mod run;
 mod service;
+mod start;
 
 pub use end::ServeEnd;
 pub use service::serve;

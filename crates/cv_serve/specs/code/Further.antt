@@ -1,5 +1,5 @@
 -- What a service did from one moment of its run to another.
-use Rattle.std.specs.Prelude.{◌≡◌, ℕ, true, List, [], ◌++◌, map, Option}
+use Rattle.std.specs.Prelude.{◌≡◌, ℕ, List, ◌++◌, map, Option}
 use Rattle.std.specs.Io.KnownBytes.{Appends}
 use Rattle.std.specs.List.{AllByRecursion, flat_map}
 use Rattle.cv_transcript.specs.Entry.{entry_text}
@@ -9,7 +9,7 @@ use Rattle.cv_machine.specs.Scans.{Trees}
 use Rattle.cv_legal.specs.Legal.{AreLast}
 use Rattle.cv_legal.specs.Replay.{Moment}
 use Rattle.cv_legal.specs.Round.{IsLegalRound}
-use Rattle.cv_legal.specs.Rounds.{Cut, Round, counted}
+use Rattle.cv_legal.specs.Rounds.{Cut, Round}
 use Rattle.cv_legal.specs.code.Served.{Served}
 use Rattle.cv_legal.specs.declared.taken.Taken.{Taken}
 use Rattle.cv_round.specs.Round.{DesksTold}
@@ -46,7 +46,3 @@ pub record LastRun {D : Type 0} (trees : Trees) (workers : ℕ) (listings faults
   pub appended : Appends written written_now (flat_map entry_text entries)
   pub tags : AllByRecursion HasTag entries
   pub told : DesksTold listings faults 0 desks desks_now entries
-
--- all rounds of an input that ended, also the one that has begun, if it has a line
-abbrev pub all_rounds : Cut → Cut
-all_rounds cut = record { rounds = counted true cut; begun = [] }
