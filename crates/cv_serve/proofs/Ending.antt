@@ -15,13 +15,13 @@ use Rattle.cv_legal.specs.Rounds.{Cut, counted, cut_lines, end_round, round_limi
 use Rattle.cv_legal.specs.Taken.{IsTaken}
 use Rattle.cv_legal.specs.declared.taken.Taken.{Taken}
 use Rattle.cv_legal.proofs.Serving.{counted_none, counted_some}
-use Rattle.cv_round.specs.Round.{DesksTold}
+use Rattle.cv_round_lines.specs.Round.{DesksTold}
 use Rattle.cv_serve.specs.Served.{IsServed}
-use Rattle.cv_serve.specs.code.Further.{Further, LastRun}
+use Rattle.cv_round_lines.specs.Further.{Further, LastRun}
 use Rattle.cv_serve.specs.code.Reading.{Done}
-use Rattle.cv_serve.proofs.Further.{lines_both, same_cons, tags_both}
+use Rattle.cv_round_lines.proofs.Further.{lines_both, same_cons, tags_both}
 use Rattle.cv_serve.proofs.Quiet.{Laws, complete_of}
-use Rattle.cv_serve.proofs.Told.{told_both}
+use Rattle.cv_round_lines.proofs.Told.{told_both}
 
 nothing : (lines : List Line) → is_cons lines ≡ false → lines ≡ []
 nothing [] e = refl

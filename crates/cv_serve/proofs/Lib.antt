@@ -1,9 +1,4 @@
 mod Ending
-mod Further
 mod Input
-mod Queued
 mod Quiet
-mod Seats
-mod Told
 mod UpTo
-mod Written

@@ -8,23 +8,21 @@ ghost use Rattle.cv_io.specs.Reader.{reading, room_of};
 ghost use Rattle.cv_io.specs.declared.line.LineError.TheVariants as line;
 ghost use Rattle.cv_scan_input.specs.Taken.{IsTaken, IsTakenWithin};
 ghost use Rattle.cv_scan_input.specs.code.TakenParts.{IsTakenFrom, IsTakenTo};
-ghost use Rattle.cv_round.specs.Round.{moment_of};
+ghost use Rattle.cv_round_lines.specs.Round.{moment_of};
 ghost use Rattle.cv_serve.specs.Ends.{end_of, is_read_stop, is_write_stop};
 ghost use Rattle.cv_serve.specs.Served.{FitsInput, IsServed, TakesUpTo};
-ghost use Rattle.cv_serve.specs.code.Begun.{IsPrepared, IsSoundRound};
+ghost use Rattle.cv_round_lines.specs.Begun.{IsPrepared, IsSoundRound};
 ghost use Rattle.cv_serve.specs.code.Reading.{Done, HasReadAll, StopsLines};
 ghost use Rattle.cv_serve.specs.declared.end.Stop.TheVariants as stop;
 
 use crate::end::{ServeEnd, Stop, end_of};
-use crate::lines::take_line;
-use crate::round::{Round, has_lines};
-use crate::run::{end_if, end_queued};
-use crate::start::{Service, started};
 use cv_complete::completeness_laws;
 use cv_desk::Desk;
-use cv_hub::{Blank, Identity};
 use cv_io::{Line, LineReader, Sink, Source};
 use cv_request::MAX_LANES;
+use cv_round_lines::{
+    Blank, Identity, Round, Service, end_if, end_queued, has_lines, started, take_line,
+};
 use cv_scan_input::{MAX_INPUT, MAX_LINE};
 use std::alloc::Global;
 use std::marker::Brand;

@@ -11,7 +11,7 @@ use Rattle.cv_machine.specs.Scans.{Trees}
 use Rattle.cv_legal.specs.Replay.{Moment}
 use Rattle.cv_legal.specs.Rounds.{cut_lines, round_limits}
 use Rattle.cv_legal.specs.declared.taken.Taken.{Taken}
-use Rattle.cv_serve.specs.code.Further.{Further}
+use Rattle.cv_round_lines.specs.Further.{Further}
 use Rattle.cv_serve.specs.declared.end.Stop.{Stop as Stopped}
 use Rattle.cv_serve.specs.declared.end.Stop.TheVariants as stop
 

@@ -9,11 +9,11 @@ use Rattle.cv_legal.specs.Replay.{beginning}
 use Rattle.cv_legal.specs.Rounds.{cut_lines, round_limits}
 use Rattle.cv_legal.specs.code.Served.{Served}
 use Rattle.cv_legal.proofs.Serving.{begins}
-use Rattle.cv_round.specs.Round.{moment_of}
+use Rattle.cv_round_lines.specs.Round.{moment_of}
 use Rattle.cv_serve.specs.Served.{IsServed}
 use Rattle.cv_serve.specs.code.Reading.{Done, HasReadAll}
 use Rattle.cv_serve.proofs.Ending.{all_served}
-use Rattle.cv_serve.proofs.Further.{stays}
+use Rattle.cv_round_lines.proofs.Further.{stays}
 use Rattle.cv_serve.proofs.Input.{all_taken_up, fits_all, handed_on, reads_input}
 use Rattle.cv_serve.proofs.Quiet.{Laws}
 use Rattle.cv_serve.proofs.service.serve_by.Goals as goal

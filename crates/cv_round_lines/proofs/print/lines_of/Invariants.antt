@@ -2,8 +2,8 @@
 use Rattle.std.specs.Prelude.{◌≡◌, map, string_bytes, take}
 use Rattle.std.specs.List.{AllByRecursion}
 use Rattle.cv_transcript.specs.Entry.{entry_text}
-use Rattle.cv_serve.specs.code.Printed.{HasTag}
-use Rattle.cv_serve.proofs.print.lines_of.Given as goal
+use Rattle.cv_round_lines.specs.Printed.{HasTag}
+use Rattle.cv_round_lines.proofs.print.lines_of.Given as goal
 
 abbrev pub invariant-loop-entry : goal.invariant-loop-entry
 invariant-loop-entry l = record {

@@ -11,8 +11,9 @@ ghost use Rattle.cv_legal.specs.Rounds.{Cut, Round as Lines, end_round};
 ghost use Rattle.cv_legal.specs.Taken.{IsTaken};
 ghost use Rattle.cv_legal.specs.code.Served.{LinesRise, Served};
 ghost use Rattle.cv_round.specs.Round.{IsSoundTaken, moment_of};
-ghost use Rattle.cv_serve.specs.code.Begun.{IsPrepared, IsSoundRound};
-ghost use Rattle.cv_serve.specs.code.Further.{Further, LastRun, LegalTexts, RoundRun};
+ghost use Rattle.cv_round_lines.specs.Begun.{IsPrepared, IsSoundRound};
+ghost use Rattle.cv_round_lines.specs.Further.{Further, LastRun};
+ghost use Rattle.cv_round_lines.specs.code.Parts.{LegalTexts, RoundRun};
 
 use crate::print::{lines_of, write_lines};
 use crate::round::Round;

@@ -19,9 +19,10 @@ use Rattle.cv_legal.specs.declared.limits.TheConstants.{MAX_ROUND_BYTES, MAX_ROU
 use Rattle.cv_legal.specs.declared.taken.Taken.{Taken}
 use Rattle.cv_legal.proofs.Serving.{ends_round, takes_line}
 use Rattle.cv_round.specs.Round.{DesksTold}
-use Rattle.cv_serve.specs.code.Further.{Further, RoundRun}
-use Rattle.cv_serve.specs.code.Printed.{HasTag}
-use Rattle.cv_serve.proofs.Told.{told_both, told_none}
+use Rattle.cv_round_lines.specs.Further.{Further}
+use Rattle.cv_round_lines.specs.code.Parts.{RoundRun}
+use Rattle.cv_round_lines.specs.Printed.{HasTag}
+use Rattle.cv_round_lines.proofs.Told.{told_both, told_none}
 
 pub tags_both : (xs ys : List Entry) → AllByRecursion HasTag xs → AllByRecursion HasTag ys → AllByRecursion HasTag (xs ++ ys)
 tags_both [] ys h k = k

@@ -4,7 +4,7 @@ ghost use Rattle.std.specs.List.{AllByRecursion, flat_map};
 ghost use Rattle.cv_seq.specs.Cause.{CausedBy};
 ghost use Rattle.cv_io.specs.Fault.{is_write_fault};
 ghost use Rattle.cv_transcript.specs.Entry.{entry_text};
-ghost use Rattle.cv_serve.specs.code.Printed.{HasTag};
+ghost use Rattle.cv_round_lines.specs.Printed.{HasTag};
 
 use cv_io::{Sink, WriteError, write_all};
 use cv_seq::NoMemory;

@@ -3,9 +3,9 @@ use Rattle.std.specs.Io.KnownBytes.{Appends}
 use Rattle.std.specs.List.{AllZip, flat_map}
 use Rattle.std.proofs.Common.{ap, subst, sym, ◌∙◌}
 use Rattle.cv_legal.specs.Taken.{IsTaken}
-use Rattle.cv_serve.proofs.Further.{on_ok}
-use Rattle.cv_serve.proofs.Written.{same_bytes}
-use Rattle.cv_serve.proofs.run.write_round.Goals as goal
+use Rattle.cv_round_lines.proofs.Further.{on_ok}
+use Rattle.cv_round_lines.proofs.Written.{same_bytes}
+use Rattle.cv_round_lines.proofs.run.write_round.Goals as goal
 
 pub returns-clause-ran : goal.returns-clause-ran
 returns-clause-ran g c = λ known workers many lines last read rise.

@@ -7,8 +7,8 @@ ghost use Rattle.cv_legal.specs.Rounds.{Cut, cut_line, round_limits};
 ghost use Rattle.cv_legal.specs.Taken.{IsTaken};
 ghost use Rattle.cv_legal.specs.code.Served.{Served};
 ghost use Rattle.cv_round.specs.Round.{IsSoundTaken, moment_of};
-ghost use Rattle.cv_serve.specs.code.Begun.{IsPrepared, IsSoundRound, line_at};
-ghost use Rattle.cv_serve.specs.code.Further.{Further};
+ghost use Rattle.cv_round_lines.specs.Begun.{IsPrepared, IsSoundRound, line_at};
+ghost use Rattle.cv_round_lines.specs.Further.{Further};
 
 use crate::round::{Round, is_blank, is_full, is_too_long, put};
 use crate::run::{end_if, write_round};

@@ -3,7 +3,8 @@ ghost use Rattle.std.specs.List.{AllByRecursion};
 ghost use Rattle.cv_base.specs.Texts.{is_cons, is_nil};
 ghost use Rattle.cv_legal.specs.declared.limits.TheConstants.{MAX_ROUND_BYTES, MAX_ROUND_LINES};
 ghost use Rattle.cv_round.specs.Round.{IsSoundTaken};
-ghost use Rattle.cv_serve.specs.code.Begun.{IsRoomFor, IsSoundRound};
+ghost use Rattle.cv_round_lines.specs.Begun.{IsSoundRound};
+ghost use Rattle.cv_round_lines.specs.code.Parts.{IsRoomFor};
 
 use cv_legal::{MAX_ROUND_BYTES, MAX_ROUND_LINES, Taken};
 use cv_seq::NoMemory;
@@ -31,6 +32,7 @@ pub fn put(round: &mut Round, taken: Taken, bytes: usize) -> Result<(), NoMemory
     Ok(())
 }
 
+/// Whether a line is empty.
 pub fn is_blank(text: &[u8]) -> bool
     ensures { result ≡ is_nil text.now }
 {

@@ -2,7 +2,7 @@
 use Rattle.std.specs.Prelude.{◌≤◌, string_bytes, take}
 use Rattle.std.specs.Io.KnownBytes.{Appends}
 use Rattle.std.specs.List.{flat_map}
-use Rattle.cv_serve.proofs.print.write_lines.Given as goal
+use Rattle.cv_round_lines.proofs.print.write_lines.Given as goal
 
 abbrev pub invariant-loop-line : goal.invariant-loop-line
 invariant-loop-line g l = record {

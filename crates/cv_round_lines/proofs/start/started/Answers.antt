@@ -1,6 +1,6 @@
 use Rattle.std.proofs.Common.{arith}
-use Rattle.cv_serve.proofs.Seats.{fresh_seats}
-use Rattle.cv_serve.proofs.start.started.Goals as goal
+use Rattle.cv_round_lines.proofs.Seats.{fresh_seats}
+use Rattle.cv_round_lines.proofs.start.started.Goals as goal
 
 pub returns-clause-seats : goal.returns-clause-seats
 returns-clause-seats g c =

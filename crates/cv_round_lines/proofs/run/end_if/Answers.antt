@@ -2,8 +2,8 @@ use Rattle.std.specs.Prelude.{if◌then◌else◌}
 use Rattle.std.proofs.Common.{ap}
 use Rattle.cv_machine.specs.Scans.{trees_of}
 use Rattle.cv_legal.specs.Rounds.{end_round}
-use Rattle.cv_serve.proofs.Further.{on_ok, runs_to, stays_at}
-use Rattle.cv_serve.proofs.run.end_if.Goals as goal
+use Rattle.cv_round_lines.proofs.Further.{on_ok, runs_to, stays_at}
+use Rattle.cv_round_lines.proofs.run.end_if.Goals as goal
 
 pub returns-then-ends-clause-further : goal.returns-then-ends-clause-further
 returns-then-ends-clause-further g c = λ known workers many cut last entries served.

@@ -7,9 +7,10 @@ use Rattle.cv_legal.specs.Rounds.{cut_line, end_full, end_round, put_line, round
 use Rattle.cv_legal.specs.declared.limits.TheConstants.{MAX_ROUND_BYTES}
 use Rattle.cv_legal.specs.declared.taken.Taken.{Taken}
 use Rattle.cv_legal.proofs.Serving.{later}
-use Rattle.cv_serve.specs.code.Begun.{IsRoomFor, line_at}
-use Rattle.cv_serve.proofs.Further.{before_is, blank, filled, full_is, further, on_ok, puts, runs_to}
-use Rattle.cv_serve.proofs.lines.take_line.Goals as goal
+use Rattle.cv_round_lines.specs.Begun.{line_at}
+use Rattle.cv_round_lines.specs.code.Parts.{IsRoomFor}
+use Rattle.cv_round_lines.proofs.Further.{before_is, blank, filled, full_is, further, on_ok, puts, runs_to}
+use Rattle.cv_round_lines.proofs.lines.take_line.Goals as goal
 
 -- a line fits after the round has ended that it would have made too long
 line_fits : (taken : List Taken) (bytes more now : ℕ) (ends : Bool) → (taken ≡ [] → bytes ≡ 0) → ends ≡ (is_cons taken && nat_lt MAX_ROUND_BYTES (bytes + more))

@@ -3,9 +3,9 @@ use Rattle.std.specs.List.{AllZip}
 use Rattle.std.proofs.Common.{subst, sym, ◌∙◌}
 use Rattle.cv_machine.specs.Scans.{trees_of}
 use Rattle.cv_legal.specs.Taken.{IsTaken}
-use Rattle.cv_serve.proofs.Queued.{no_layers, none_queued, some_queued}
-use Rattle.cv_serve.proofs.Further.{on_ok}
-use Rattle.cv_serve.proofs.run.end_queued.Goals as goal
+use Rattle.cv_round_lines.proofs.Queued.{no_layers, none_queued, some_queued}
+use Rattle.cv_round_lines.proofs.Further.{on_ok}
+use Rattle.cv_round_lines.proofs.run.end_queued.Goals as goal
 
 pub returns-then-not-branch-clause-further : goal.returns-then-not-branch-clause-further
 returns-then-not-branch-clause-further g c = λ known workers many.

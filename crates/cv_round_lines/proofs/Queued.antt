@@ -8,8 +8,9 @@ use Rattle.cv_machine.specs.Layers.{queued}
 use Rattle.cv_machine.specs.Scans.{Trees}
 use Rattle.cv_legal.specs.Legal.{AreLast}
 use Rattle.cv_legal.specs.Replay.{Moment}
-use Rattle.cv_serve.specs.code.Further.{LastRun, RoundRun}
-use Rattle.cv_serve.proofs.Told.{told_none}
+use Rattle.cv_round_lines.specs.Further.{LastRun}
+use Rattle.cv_round_lines.specs.code.Parts.{RoundRun}
+use Rattle.cv_round_lines.proofs.Told.{told_none}
 
 pub no_layers : (layers : List (List ℕ)) → is_cons layers ≡ false → layers ≡ []
 no_layers [] none = refl
