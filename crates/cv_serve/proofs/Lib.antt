@@ -1,8 +1,4 @@
 mod Ending
-mod Further
 mod Input
 mod Quiet
-mod Seats
-mod Told
 mod UpTo
-mod Written

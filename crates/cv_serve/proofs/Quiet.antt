@@ -33,9 +33,9 @@ use Rattle.cv_legal.specs.declared.taken.Requested.{Requested}
 use Rattle.cv_legal.specs.declared.taken.Taken.{Taken}
 use Rattle.cv_complete.specs.Complete.{AreAllIndexed, AreDivided, ArePendingRecent, HasNoFault, gives_back}
 use Rattle.cv_complete.specs.Complete as complete
-use Rattle.cv_round.specs.Round.{DesksTold, RoseBy, fault_count, is_fault}
+use Rattle.cv_round_lines.specs.Round.{DesksTold, RoseBy, fault_count, is_fault}
 use Rattle.cv_serve.specs.Quiet.{AreQuiet, HasNoMemoryLine, IsComplete, is_memory, is_memory_line}
-use Rattle.cv_serve.proofs.Told.{faults_both}
+use Rattle.cv_round_lines.proofs.Told.{faults_both}
 
 -- ---- a desk that did not fail
 

@@ -1,5 +1,5 @@
 -- How the lines of the bytes stop that were taken.
-use Rattle.std.specs.Prelude.{◌≡◌, ℕ, ◌+◌, ◌-◌, ◌<◌, ◌≤◌, ◌^◌, List, [], ◌∷◌, ◌++◌, length, take, drop, Option, IfErr, IsErrAnd, Result, Ok, Err}
+use Rattle.std.specs.Prelude.{◌≡◌, ℕ, ◌+◌, ◌-◌, ◌<◌, ◌≤◌, ◌^◌, List, [], ◌∷◌, ◌++◌, length, take, drop, Option, IsErrAnd, Result, Ok, Err}
 use Rattle.std.specs.Io.KnownBytes.{Consumes}
 use Rattle.std.specs.List.{AllByRecursion}
 use Rattle.std.proofs.Common.{ap, append_assoc, append-nil, arith, inl, inr, length-append, length-take-le, subst, sym, take-append-drop, ◌∙◌}
@@ -14,7 +14,7 @@ use Rattle.cv_io.specs.declared.line.LineError.TheVariants as line
 use Rattle.cv_io.proofs.Lines.{reading_of-last, reading_of-line, reading_of-long_input, reading_of-long_line, reading_of-nil}
 use Rattle.cv_io.proofs.Takes.{Consumes-more}
 use Rattle.cv_scan_input.specs.Unrefused.{IsPiece, ended_lines}
-use Rattle.cv_serve.specs.Ends.{IsWriting, end_of, line_stop}
+use Rattle.cv_serve.specs.Ends.{end_of}
 use Rattle.cv_serve.specs.Served.{IsTakenUpTo, TakesUpTo}
 use Rattle.cv_serve.specs.code.Reading.{AreTaken, IsTakenLines}
 use Rattle.cv_serve.specs.declared.end.Stop.{Stop as Stopped}
@@ -119,7 +119,7 @@ module _ (before now : Reader) (first l m : Option (List ℕ)) (limit : now.max_
       }
 
   -- the call failed, or refused what is next
-  none_left : (error : LineError) → AreTaken before first l → Step before now l m (Err error) → now.max_input ≡ 2 ^ 36 → TakesUpTo first m (end_of (Err (line_stop error)))
+  none_left : (error : LineError) → AreTaken before first l → Step before now l m (Err error) → now.max_input ≡ 2 ^ 36 → TakesUpTo first m (end_of (Err (stop.Input error)))
   none_left line.NoMemory h s inputs = tt
   none_left line.ReadFault (inl h) s inputs =
       let x = s.answers.0 in
@@ -139,15 +139,6 @@ module _ (before now : Reader) (first l m : Option (List ℕ)) (limit : now.max_
   none_left line.InputTooLong (inr h) s inputs = absurd (false≢true (sym s.answers.0.going ∙ (s.takes.over h.1).1))
 
   pub stop_given : (error : LineError) (r : Result Unit Stopped) → AreTaken before first l → Step before now l m (Err error) → now.max_input ≡ 2 ^ 36
-      → IsErrAnd r (λ e. e ≡ line_stop error) → TakesUpTo first m (end_of r)
+      → IsErrAnd r (λ e. e ≡ stop.Input error) → TakesUpTo first m (end_of r)
   stop_given error (Ok x) h s inputs from = absurd from
   stop_given error (Err e) h s inputs from = subst (λ e. TakesUpTo first m (end_of (Err e))) (sym from) (none_left error h s inputs)
-
--- a stop of writing says nothing of the input
-pub writing_given : (r : Result Unit Stopped) (first m : Option (List ℕ)) → IfErr r IsWriting → TakesUpTo first m (end_of r)
-writing_given (Ok x) first m h = tt
-writing_given (Err stop.WriteFault) first m h = tt
-writing_given (Err stop.NoMemory) first m h = tt
-writing_given (Err stop.ReadFault) first m h = absurd h
-writing_given (Err stop.LineTooLong) first m h = absurd h
-writing_given (Err stop.InputTooLong) first m h = absurd h

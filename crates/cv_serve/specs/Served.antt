@@ -7,7 +7,7 @@ use Rattle.cv_machine.specs.Scans.{Trees}
 use Rattle.cv_machine.specs.State.{State}
 use Rattle.cv_legal.specs.Legal.{IsLegal}
 use Rattle.cv_legal.specs.Rounds.{round_limits, rounds_of}
-use Rattle.cv_round.specs.Round.{DesksTold}
+use Rattle.cv_round_lines.specs.Round.{DesksTold}
 use Rattle.cv_scan_input.specs.Request.{input_of}
 use Rattle.cv_serve.specs.Quiet.{AreQuiet, HasNoMemoryLine, IsComplete}
 use Rattle.cv_serve.specs.declared.end.ServeEnd.{ServeEnd}

@@ -1,5 +1,5 @@
 ghost use Rattle.std.specs.Prelude.{◌≡◌};
-ghost use Rattle.cv_serve.specs.Ends.{end_of};
+ghost use Rattle.cv_serve.specs.Ends.{end_of, input_end};
 
 use cv_io::{LineError, WriteError};
 use cv_seq::NoMemory;
@@ -25,45 +25,33 @@ pub enum ServeEnd {
 /// Why a service stops before the end of its input, or before all is written.
 #[derive(Clone, Copy, Debug, PartialEq, Eq, Error)]
 pub enum Stop {
-    #[error("the input could not be read")]
-    ReadFault,
-    #[error("the output could not be written")]
-    WriteFault,
-    #[error("a line is too long")]
-    LineTooLong,
-    #[error("the input is too long")]
-    InputTooLong,
+    #[error("the input was not read to its end")]
+    Input(LineError),
+    #[error("the output was not written")]
+    Output(WriteError),
     #[error("out of memory")]
     NoMemory,
 }
 
 impl From<LineError> for Stop {
     ghost use Rattle.std.specs.Prelude.{◌≡◌};
-    ghost use Rattle.cv_serve.specs.Ends.{line_stop};
+    ghost use Rattle.cv_serve.specs.declared.end.Stop.TheVariants as stop;
 
-    ghost from_gives = { λ line e. e ≡ line_stop line };
+    ghost from_gives = { λ error e. e ≡ stop.Input error };
 
     fn from(error: LineError) -> Stop {
-        match error {
-            LineError::ReadFault => Stop::ReadFault,
-            LineError::LineTooLong => Stop::LineTooLong,
-            LineError::InputTooLong => Stop::InputTooLong,
-            LineError::NoMemory => Stop::NoMemory,
-        }
+        Stop::Input(error)
     }
 }
 
 impl From<WriteError> for Stop {
     ghost use Rattle.std.specs.Prelude.{◌≡◌};
-    ghost use Rattle.cv_serve.specs.Ends.{write_stop};
+    ghost use Rattle.cv_serve.specs.declared.end.Stop.TheVariants as stop;
 
-    ghost from_gives = { λ write e. e ≡ write_stop write };
+    ghost from_gives = { λ error e. e ≡ stop.Output error };
 
     fn from(error: WriteError) -> Stop {
-        match error {
-            WriteError::WriteFault => Stop::WriteFault,
-            WriteError::NoMemory => Stop::NoMemory,
-        }
+        Stop::Output(error)
     }
 }
 
@@ -84,10 +72,20 @@ pub fn end_of(stopped: Result<(), Stop>) -> ServeEnd
 {
     match stopped {
         Ok(()) => ServeEnd::Done,
-        Err(Stop::ReadFault) => ServeEnd::ReadFault,
-        Err(Stop::WriteFault) => ServeEnd::WriteFault,
-        Err(Stop::LineTooLong) => ServeEnd::LineTooLong,
-        Err(Stop::InputTooLong) => ServeEnd::InputTooLong,
-        Err(Stop::NoMemory) => ServeEnd::NoMemory,
+        Err(Stop::Input(error)) => input_end(error),
+        Err(Stop::Output(WriteError::WriteFault)) => ServeEnd::WriteFault,
+        Err(Stop::Output(WriteError::NoMemory) | Stop::NoMemory) => ServeEnd::NoMemory,
+    }
+}
+
+/// The end of a service whose input was not read to its end.
+fn input_end(error: LineError) -> ServeEnd
+    ensures { result ≡ input_end error }
+{
+    match error {
+        LineError::ReadFault => ServeEnd::ReadFault,
+        LineError::LineTooLong => ServeEnd::LineTooLong,
+        LineError::InputTooLong => ServeEnd::InputTooLong,
+        LineError::NoMemory => ServeEnd::NoMemory,
     }
 }

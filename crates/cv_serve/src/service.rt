@@ -1,36 +1,29 @@
-ghost use Rattle.std.specs.Prelude.{◌≡◌, ℕ, List, [], ◌+◌, ◌<◌, ◌≤◌, ◌^◌, drop, false, length, take, All, IfErr, IfOk, IfSome, IsErrOf, OnOk};
+ghost use Rattle.std.specs.Prelude.{◌≡◌, ℕ, List, [], ◌+◌, ◌<◌, ◌≤◌, ◌^◌, drop, false, length, take, All, IfSome, IsErrOf, OnOk};
 ghost use Rattle.std.specs.Io.KnownBytes.{IsAtEnd};
 ghost use Rattle.std.specs.List.{AllByRecursion};
 ghost use Rattle.cv_seq.specs.Cause.{CausedBy, Rose};
-ghost use Rattle.cv_base.specs.Texts.{is_cons};
-ghost use Rattle.cv_machine.specs.Layers.{queued};
 ghost use Rattle.cv_machine.specs.Scans.{IsKnown, trees_of};
 ghost use Rattle.cv_machine.specs.declared.limits.TheConstants.{MAX_FEEDS, MAX_IMAGES};
 ghost use Rattle.cv_io.specs.Reader.{reading, room_of};
+ghost use Rattle.cv_io.specs.declared.line.LineError.TheVariants as line;
 ghost use Rattle.cv_scan_input.specs.Taken.{IsTaken, IsTakenWithin};
 ghost use Rattle.cv_scan_input.specs.code.TakenParts.{IsTakenFrom, IsTakenTo};
-ghost use Rattle.cv_transcript.specs.declared.entry.Entry.{Entry};
-ghost use Rattle.cv_core.specs.Core.{opened};
-ghost use Rattle.cv_hub.specs.Events.{state_of};
-ghost use Rattle.cv_legal.specs.Rounds.{Cut};
-ghost use Rattle.cv_legal.specs.code.Served.{Served};
-ghost use Rattle.cv_round.specs.Round.{AreRoundSeats, moment_of};
-ghost use Rattle.cv_serve.specs.Ends.{IsWriting, end_of, is_read_stop, is_write_stop};
+ghost use Rattle.cv_round_lines.specs.Round.{moment_of};
+ghost use Rattle.cv_serve.specs.Ends.{end_of, is_read_stop, is_write_stop};
 ghost use Rattle.cv_serve.specs.Served.{FitsInput, IsServed, TakesUpTo};
-ghost use Rattle.cv_serve.specs.code.Begun.{IsPrepared, IsSoundRound};
-ghost use Rattle.cv_serve.specs.code.Further.{Further, LastRun, all_rounds};
+ghost use Rattle.cv_round_lines.specs.Begun.{IsPrepared, IsSoundRound};
 ghost use Rattle.cv_serve.specs.code.Reading.{Done, HasReadAll, StopsLines};
+ghost use Rattle.cv_serve.specs.declared.end.Stop.TheVariants as stop;
 
 use crate::end::{ServeEnd, Stop, end_of};
-use crate::round::{Round, Service, has_lines, take_line, write_round};
 use cv_complete::completeness_laws;
-use cv_core::{Core, Limits, MAX_FEEDS, MAX_IMAGES};
 use cv_desk::Desk;
-use cv_hub::{Blank, Hub, Identity};
 use cv_io::{Line, LineReader, Sink, Source};
 use cv_request::MAX_LANES;
+use cv_round_lines::{
+    Blank, Identity, Round, Service, end_if, end_queued, has_lines, started, take_line,
+};
 use cv_scan_input::{MAX_INPUT, MAX_LINE};
-use cv_seq::NoMemory;
 use std::alloc::Global;
 use std::marker::Brand;
 use std::sync::Wait;
@@ -82,24 +75,12 @@ fn serve_over<S: Source, K: Sink, D: Desk + Drop + Send + Sync, W: Threads + Wai
     ensures input { FitsInput (S.remaining input.old) (end_of result) }
     ensures front { TakesUpTo (S.remaining input.old) (S.remaining input.new) (end_of result) }
     ensures limit { IsTakenWithin (2 ^ 36) (S.remaining input.old) (S.remaining input.new) }
-    ensures taken { IsErrOf result Stop.InputTooLong → IsTaken (2 ^ 36) (S.remaining input.old) (S.remaining input.new) }
+    ensures taken { IsErrOf result (stop.Input line.InputTooLong) → IsTaken (2 ^ 36) (S.remaining input.old) (S.remaining input.new) }
     ensures read_cause { CausedBy (S.faults input.old) (S.faults input.new) (is_read_stop result) }
     ensures write_cause { CausedBy (K.faults output.old) (K.faults output.new) (is_write_stop result) }
 {
-    let core = new_core(alloc)?;
     let blank = Blank::new(u64::from(MAX_LANES) + desks.len() as u64);
-    serve_with::<S, K, D, Brand, W>(rt, alloc, blank, core, input, output, desks)
-}
-
-/// A core that has applied no event, with the limits of a service.
-fn new_core<D: Desk + Drop>(alloc: Global) -> Result<Core<D>, NoMemory>
-    ensures { IfOk result (λ core. core ≡ opened (record { images = MAX_IMAGES; feeds = MAX_FEEDS })) }
-{
-    let limits = Limits {
-        images: MAX_IMAGES,
-        feeds: MAX_FEEDS,
-    };
-    Core::new(alloc, limits)
+    serve_with::<S, K, D, Brand, W>(rt, alloc, blank, input, output, desks)
 }
 
 /// Serves with a hub of its own.
@@ -113,7 +94,6 @@ fn serve_with<
     rt: &W,
     alloc: Global,
     blank: Blank,
-    core: Core<D>,
     input: &mut S,
     output: &mut K,
     desks: &mut [D],
@@ -122,7 +102,6 @@ fn serve_with<
     requires parts { (blank.parts ≡ L.parts) × (L.parts ≡ 8 + length desks.old) }
     requires book { blank.book ≡ L.book }
     requires limits { L.limits ≡ record { images = MAX_IMAGES; feeds = MAX_FEEDS } }
-    requires core { core ≡ opened L.limits }
     requires workers { (1 ≤ length desks.old) × (length desks.old ≤ 8) }
     requires room { AllByRecursion (λ desk. D.listings desk ≤ 2 ^ 62) desks.old }
     ensures done { IsKnown D.tree → OnOk result (IfSome (S.remaining input.old) (λ bytes.
@@ -131,32 +110,12 @@ fn serve_with<
     ensures input { FitsInput (S.remaining input.old) (end_of result) }
     ensures front { TakesUpTo (S.remaining input.old) (S.remaining input.new) (end_of result) }
     ensures limit { IsTakenWithin (2 ^ 36) (S.remaining input.old) (S.remaining input.new) }
-    ensures taken { IsErrOf result Stop.InputTooLong → IsTaken (2 ^ 36) (S.remaining input.old) (S.remaining input.new) }
+    ensures taken { IsErrOf result (stop.Input line.InputTooLong) → IsTaken (2 ^ 36) (S.remaining input.old) (S.remaining input.new) }
     ensures read_cause { CausedBy (S.faults input.old) (S.faults input.new) (is_read_stop result) }
     ensures write_cause { CausedBy (K.faults output.old) (K.faults output.new) (is_write_stop result) }
 {
-    let mut service = started::<D, L>(alloc, blank, core, desks.len())?;
+    let mut service = started::<D, L>(alloc, blank, desks.len())?;
     serve_by(rt, alloc, &mut service, desks, input, output)
-}
-
-/// A service that has applied no event, with so many workers.
-fn started<D: Desk + Drop, L: Identity>(
-    alloc: Global,
-    blank: Blank,
-    core: Core<D>,
-    workers: usize,
-) -> Result<Service<D, L>, NoMemory>
-    requires name { blank.name ≡ L.name }
-    requires parts { (blank.parts ≡ L.parts) × (L.parts ≡ 8 + workers) }
-    requires book { blank.book ≡ L.book }
-    requires core { core ≡ opened L.limits }
-    requires workers { workers ≤ 8 }
-    ensures hub { IfOk result (λ service. service.hub ≡ []) }
-    ensures seats { IfOk result (λ service. AreRoundSeats L.parts workers [] service.seats.items) }
-{
-    let count = u32::from(MAX_LANES) + workers as u32;
-    let (hub, seats) = Hub::<D, L>::start(alloc, blank, core, count)?;
-    Ok(Service { hub, seats })
 }
 
 /// Serves with a hub that has applied no event.
@@ -183,7 +142,7 @@ fn serve_by<
     ensures input { FitsInput (S.remaining input.old) (end_of result) }
     ensures front { TakesUpTo (S.remaining input.old) (S.remaining input.new) (end_of result) }
     ensures limit { IsTakenWithin (2 ^ 36) (S.remaining input.old) (S.remaining input.new) }
-    ensures taken { IsErrOf result Stop.InputTooLong → IsTaken (2 ^ 36) (S.remaining input.old) (S.remaining input.new) }
+    ensures taken { IsErrOf result (stop.Input line.InputTooLong) → IsTaken (2 ^ 36) (S.remaining input.old) (S.remaining input.new) }
     ensures read_cause { CausedBy (S.faults input.old) (S.faults input.new) (is_read_stop result) }
     ensures write_cause { CausedBy (K.faults output.old) (K.faults output.new) (is_write_stop result) }
 {
@@ -195,8 +154,9 @@ fn serve_by<
     };
     let lines = &mut reader;
     read_lines(rt, alloc, service, desks, input, output, lines, &mut round)?;
-    end_last(rt, alloc, service, desks, output, &mut round)?;
-    end_queued(rt, alloc, service, desks, output, &mut round)
+    let begun = has_lines(&round);
+    end_if(rt, alloc, service, desks, output, &mut round, begun)?;
+    Ok(end_queued(rt, alloc, service, desks, output, &mut round)?)
 }
 
 /// Reads all lines, and runs each round that ends before the end of the input.
@@ -230,7 +190,7 @@ fn read_lines<
     ensures stops { IfSome (reading reader.old (S.remaining input.old)) (λ whole. StopsLines whole.stop result) }
     ensures front { TakesUpTo (S.remaining input.old) (S.remaining input.new) (end_of result) }
     ensures limit { IsTakenFrom reader.old.taken (S.remaining input.old) (S.remaining input.new) }
-    ensures taken { IsErrOf result Stop.InputTooLong → IsTakenTo reader.old.taken (2 ^ 36) (S.remaining input.old) (S.remaining input.new) }
+    ensures taken { IsErrOf result (stop.Input line.InputTooLong) → IsTakenTo reader.old.taken (2 ^ 36) (S.remaining input.old) (S.remaining input.new) }
     ensures ended { OnOk result (IsAtEnd (S.remaining input.new)) }
     ensures sound { OnOk result (IsSoundRound round.new.taken.items round.new.bytes) }
     ensures prepared { OnOk result (IsPrepared D.listings L.parts service.new.hub service.new.seats.items desks.new) }
@@ -252,74 +212,4 @@ fn read_lines<
         )?;
     }
     Ok(())
-}
-
-/// Runs the round that has begun as the input ends, if it has a line.
-fn end_last<
-    K: Sink,
-    D: Desk + Drop + Send + Sync,
-    L: Identity + Send + Sync,
-    W: Threads + Wait + Sync,
->(
-    rt: &W,
-    alloc: Global,
-    service: &mut Service<D, L>,
-    desks: &mut [D],
-    output: &mut K,
-    round: &mut Round,
-) -> Result<(), Stop>
-    requires sound { IsSoundRound round.old.taken.items round.old.bytes }
-    requires prepared { IsPrepared D.listings L.parts service.old.hub service.old.seats.items desks.old }
-    ensures further { IsKnown D.tree → (workers : ℕ) → length desks.old ≡ workers → (cut : Cut) (last : ℕ) (entries : List Entry)
-        → Served (trees_of D.tree) workers cut last round.old.taken.items round.old.bytes entries (moment_of (trees_of D.tree) L.limits service.old.hub)
-        → OnOk result (Further (trees_of D.tree) workers D.listings D.faults (all_rounds cut) last [] 0 entries (moment_of (trees_of D.tree) L.limits service.new.hub)
-        (K.contents output.old) (K.contents output.new) desks.old desks.new) }
-    ensures begins { OnOk result (round.new.taken.items ≡ []) }
-    ensures prepared { OnOk result (IsPrepared D.listings L.parts service.new.hub service.new.seats.items desks.new) }
-    ensures stops { IfErr result IsWriting }
-    ensures cause { CausedBy (K.faults output.old) (K.faults output.new) (is_write_stop result) }
-{
-    if !has_lines(round) {
-        return Ok(());
-    }
-    write_round(rt, alloc, service, desks, output, round)
-}
-
-/// Runs one more round without requests, if a layer is queued.
-fn end_queued<
-    K: Sink,
-    D: Desk + Drop + Send + Sync,
-    L: Identity + Send + Sync,
-    W: Threads + Wait + Sync,
->(
-    rt: &W,
-    alloc: Global,
-    service: &mut Service<D, L>,
-    desks: &mut [D],
-    output: &mut K,
-    round: &mut Round,
-) -> Result<(), Stop>
-    requires none { round.old.taken.items ≡ [] }
-    requires prepared { IsPrepared D.listings L.parts service.old.hub service.old.seats.items desks.old }
-    ensures further { IsKnown D.tree → (workers : ℕ) → length desks.old ≡ workers → OnOk result (LastRun (trees_of D.tree) workers D.listings D.faults (moment_of (trees_of D.tree) L.limits service.old.hub) (moment_of (trees_of D.tree) L.limits service.new.hub)
-        (K.contents output.old) (K.contents output.new) desks.old desks.new) }
-    ensures stops { IfErr result IsWriting }
-    ensures cause { CausedBy (K.faults output.old) (K.faults output.new) (is_write_stop result) }
-{
-    if !is_some_queued(rt, alloc, &service.hub)? {
-        return Ok(());
-    }
-    write_round(rt, alloc, service, desks, output, round)
-}
-
-/// Whether a layer is queued.
-fn is_some_queued<D: Desk + Drop, L: Identity, W: Wait>(
-    rt: &W,
-    alloc: Global,
-    hub: &Hub<D, L>,
-) -> Result<bool, NoMemory>
-    ensures { IsKnown D.tree → IfOk result (λ found. found ≡ is_cons (queued (state_of (trees_of D.tree) L.limits hub.now).layers)) }
-{
-    let layers = hub.queued(rt, alloc)?;
-    Ok(!layers.as_slice().is_empty())
 }

@@ -5,12 +5,13 @@ use Rattle.std.specs.List.{AllByRecursion}
 use Rattle.cv_base.specs.Lines.{numbered}
 use Rattle.cv_io.specs.Lines.{Reading, Stop, Finished, LongLine, LongInput, lines_then}
 use Rattle.cv_io.specs.Reader.{Reader}
+use Rattle.cv_io.specs.declared.line.LineError.TheVariants as line
 use Rattle.cv_scan_input.specs.Unrefused.{IsPiece, ended_lines}
 use Rattle.cv_machine.specs.Scans.{Trees}
 use Rattle.cv_legal.specs.Replay.{Moment}
 use Rattle.cv_legal.specs.Rounds.{cut_lines, round_limits}
 use Rattle.cv_legal.specs.declared.taken.Taken.{Taken}
-use Rattle.cv_serve.specs.code.Further.{Further}
+use Rattle.cv_round_lines.specs.Further.{Further}
 use Rattle.cv_serve.specs.declared.end.Stop.{Stop as Stopped}
 use Rattle.cv_serve.specs.declared.end.Stop.TheVariants as stop
 
@@ -25,8 +26,8 @@ HasReadAll before texts = IfSome before (λ whole. whole ≡ record { lines = te
 -- what a stop says of how the lines stop
 abbrev pub StopsLines : Stop → Result Unit Stopped → Type 0
 StopsLines how (Ok _) = how ≡ Finished
-StopsLines how (Err stop.LineTooLong) = how ≡ LongLine
-StopsLines how (Err stop.InputTooLong) = how ≡ LongInput
+StopsLines how (Err (stop.Input line.LineTooLong)) = how ≡ LongLine
+StopsLines how (Err (stop.Input line.InputTooLong)) = how ≡ LongInput
 StopsLines how (Err _) = ⊤
 
 -- the bytes that were taken are whole lines, and what the reader holds

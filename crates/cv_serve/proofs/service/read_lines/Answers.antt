@@ -7,8 +7,8 @@ use Rattle.cv_scan_input.proofs.Taken.{taken_first, taken_from, taken_more}
 use Rattle.cv_machine.specs.Scans.{trees_of}
 use Rattle.cv_legal.specs.Rounds.{Cut, cut_line, cut_lines, round_limits}
 use Rattle.cv_legal.proofs.Serving.{cut_more, numbered_more}
-use Rattle.cv_serve.specs.code.Begun.{line_at}
-use Rattle.cv_serve.proofs.Further.{further}
+use Rattle.cv_round_lines.specs.Begun.{line_at}
+use Rattle.cv_round_lines.proofs.Further.{further}
 use Rattle.cv_serve.proofs.Input.{reads_more, reads_none, taken_stop}
 use Rattle.cv_serve.proofs.UpTo.{none_given, one_given, stop_given}
 use Rattle.cv_serve.proofs.service.read_lines.Goals as goal

@@ -4,8 +4,8 @@ use Rattle.std.specs.Io.KnownBytes.{IsAtEnd}
 use Rattle.cv_io.specs.Reader.{reading, room_of}
 use Rattle.cv_scan_input.specs.code.TakenParts.{IsTakenTo}
 use Rattle.cv_machine.specs.Scans.{IsKnown, trees_of}
-use Rattle.cv_round.specs.Round.{moment_of}
-use Rattle.cv_serve.specs.code.Begun.{IsPrepared, IsSoundRound}
+use Rattle.cv_round_lines.specs.Round.{moment_of}
+use Rattle.cv_round_lines.specs.Begun.{IsPrepared, IsSoundRound}
 use Rattle.cv_serve.specs.code.Reading.{AreTaken, Done, HasRead}
 use Rattle.cv_serve.proofs.service.read_lines.Given as goal
 

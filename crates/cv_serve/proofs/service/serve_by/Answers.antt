@@ -9,12 +9,12 @@ use Rattle.cv_legal.specs.Replay.{beginning}
 use Rattle.cv_legal.specs.Rounds.{cut_lines, round_limits}
 use Rattle.cv_legal.specs.code.Served.{Served}
 use Rattle.cv_legal.proofs.Serving.{begins}
-use Rattle.cv_round.specs.Round.{moment_of}
+use Rattle.cv_round_lines.specs.Round.{moment_of}
 use Rattle.cv_serve.specs.Served.{IsServed}
 use Rattle.cv_serve.specs.code.Reading.{Done, HasReadAll}
 use Rattle.cv_serve.proofs.Ending.{all_served}
-use Rattle.cv_serve.proofs.Further.{on_ok, stays}
-use Rattle.cv_serve.proofs.Input.{all_taken_up, fits_last, handed_on, reads_input}
+use Rattle.cv_round_lines.proofs.Further.{stays}
+use Rattle.cv_serve.proofs.Input.{all_taken_up, fits_all, handed_on, reads_input}
 use Rattle.cv_serve.proofs.Quiet.{Laws}
 use Rattle.cv_serve.proofs.service.serve_by.Goals as goal
 
@@ -36,23 +36,21 @@ returns-clause-done g c = λ known.
     (subst (λ m. Served trees workers (cut_lines round_limits []) 0 [] 0 [] m) (sym begin) (begins trees workers round_limits)) in
     let first = subst (λ taken. Done trees workers listings faults [] taken 0 now written written desks desks) (sym c.new-2.ensures.items) start in
     let done = lines.2 known workers refl first in
-    let ended = c.in_ok-end_last.ensures.further known workers c.read_lines.auto.desks (cut_lines round_limits (numbered 1 texts)) (length texts) done.more done.served in
+    let ended = c.in_ok-end_if.ensures.further known workers c.read_lines.auto.desks (cut_lines round_limits (numbered 1 texts)) (length texts) done.more done.served in
     let all = subst (λ r. HasReadAll (reading r remaining) texts) c.in_ok-reader.ensures.value lines.1 in
     let laws : Laws = record {
       indexed = c.completeness_laws.ensures.indexed;
       divided = c.completeness_laws.ensures.divided;
       pending = c.completeness_laws.ensures.pending;
     } in
-    on_ok c.end_queued.result
-    (λ last. reads_input (λ bytes. IsServed trees workers listings faults bytes written (g.K.Sink.contents c.end_queued.new.output) desks c.end_queued.new.desks) remaining texts all
-    (λ bytes e. all_served laws trees workers listings faults bytes texts (length texts) _ _ _ _ _ written _ _ _ desks _ _ _ e refl done ended last))
-    (c.end_queued.ensures.further known workers (c.end_last.auto.desks ∙ c.read_lines.auto.desks))
+    let last = c.in_ok-end_queued.ensures.further known workers (c.end_if.auto.desks ∙ c.read_lines.auto.desks) in
+    reads_input (λ bytes. IsServed trees workers listings faults bytes written (g.K.Sink.contents c.end_queued.new.output) desks c.end_queued.new.desks) remaining texts all
+    (λ bytes e. all_served laws trees workers listings faults bytes texts (length texts) _ _ _ _ c.has_lines-begun.result _ _ _ written _ _ _ desks _ _ _ e refl done c.has_lines-begun.ensures ended last)
 
 pub returns-clause-input : goal.returns-clause-input
 returns-clause-input g c =
     let remaining = g.S.Source.remaining c.args.input.now in
-    fits_last remaining c.end_queued.result c.end_queued.ensures.stops
-    (subst (λ r. IfSome (reading r remaining) (λ whole. whole.stop ≡ Finished)) c.in_ok-reader.ensures.value c.in_ok-read_lines.ensures.stops)
+    fits_all remaining (subst (λ r. IfSome (reading r remaining) (λ whole. whole.stop ≡ Finished)) c.in_ok-reader.ensures.value c.in_ok-read_lines.ensures.stops)
 
 pub returns-in_err-read_lines-clause-taken : goal.returns-in_err-read_lines-clause-taken
 returns-in_err-read_lines-clause-taken g c = λ e.

@@ -1,0 +1,5 @@
+pub mod Further
+mod Queued
+mod Seats
+pub mod Told
+mod Written

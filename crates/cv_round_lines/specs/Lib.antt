@@ -1,0 +1,5 @@
+pub use Rattle.cv_round.specs.Round
+pub mod Begun
+pub mod Further
+pub mod Printed
+pub mod code

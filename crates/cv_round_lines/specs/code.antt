@@ -1,0 +1,2 @@
+-- Definitions that only restate private functions.
+pub mod Parts
