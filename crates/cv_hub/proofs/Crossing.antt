@@ -7,14 +7,23 @@ use Rattle.std.proofs.Crossing.{crosses}
 use Rattle.std.specs.declared.sync.ledger.Ledger as ledger
 use Rattle.cv_desk.specs.declared.desk.Desk as desk
 use Rattle.cv_seats.proofs.Crossing.{front_send, front_sync}
+use Rattle.cv_seats.specs.contracts.front.Front as front
 use Rattle.cv_seats.specs.declared.identity.Identity as identity
 use Rattle.cv_locked.proofs.Crossing.{locked_send}
+use Rattle.cv_locked.specs.contracts.locked.Locked as locked
 use Rattle.cv_hub.specs.contracts.hub.Hub as hub
 
 module _ (D L : RattleType) (d : desk.Ghosts D.Denot) (i : identity.Ghosts L.Denot) (l : ledger.Ghosts L.Denot) where
+  -- with the parts as they are: a search that knows more of them gives up
+  of_parts : IsSend (locked.the_row D L d i l) → IsSend (front.the_row D L d i l) → IsSend (hub.the_row D L d i l)
+  of_parts locked_goes front_goes = search (sendable, crosses, declared_send) depth 30 fits 5000
+
   -- what lies under a lock need not be shared: who holds the lock has it alone
+  shared_of_parts : IsSend (locked.the_row D L d i l) → IsSync (front.the_row D L d i l) → IsSync (hub.the_row D L d i l)
+  shared_of_parts locked_goes front_shared = search (sendable, crosses, declared_sync) depth 30 fits 5000
+
   pub hub_send : IsSend D → IsSync D → IsSend L → IsSync L → IsSend (hub.the_row D L d i l)
-  hub_send ds dy ls ly = search (locked_send, front_send, sendable, crosses, declared_send) depth 30 fits 5000
+  hub_send ds dy ls ly = of_parts (locked_send D L d i l ds dy ls ly) (front_send D L d i l ds dy ls ly)
 
   pub hub_sync : IsSend D → IsSync D → IsSend L → IsSync L → IsSync (hub.the_row D L d i l)
-  hub_sync ds dy ls ly = search (locked_send, front_sync, sendable, crosses, declared_sync) depth 30 fits 5000
+  hub_sync ds dy ls ly = shared_of_parts (locked_send D L d i l ds dy ls ly) (front_sync D L d i l ds dy ls ly)
