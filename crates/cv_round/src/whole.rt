@@ -1,4 +1,4 @@
-ghost use Rattle.std.specs.Prelude.{◌≡◌, ℕ, ◌+◌, ◌≤◌, ◌^◌, ◌++◌, List, length, map, IfOk, OnOk};
+ghost use Rattle.std.specs.Prelude.{ℕ, ◌+◌, ◌≤◌, ◌^◌, List, length, IfOk, OnOk};
 ghost use Rattle.std.specs.List.{AllByRecursion, AllZip};
 ghost use Rattle.cv_machine.specs.Scans.{IsKnown, trees_of};
 ghost use Rattle.cv_base.specs.Lines.{Line};
@@ -7,18 +7,17 @@ ghost use Rattle.cv_legal.specs.Taken.{IsTaken};
 ghost use Rattle.cv_legal.specs.code.Served.{LinesRise};
 ghost use Rattle.cv_pool.specs.Hands.{IsNewFill};
 ghost use Rattle.cv_dealing.specs.Sound.{IsSoundRequest, IsSoundTaken};
-ghost use Rattle.cv_dealing.specs.declared.lane.Lane.{Lane};
 ghost use Rattle.cv_round.specs.Round.{AreRoundSeats, DesksTold, moment_of};
 ghost use Rattle.cv_round.specs.code.Ran.{RoundRan};
 
 use crate::round::run_all;
 use cv_base::Digest;
-use cv_dealing::{Lane, lanes_of, part};
+use cv_dealing::{Lane, joined, lanes_of, part, reads_of};
 use cv_desk::Desk;
 use cv_legal::{Requested, Taken};
 use cv_merge::merge;
 use cv_pool::{Hand, fill, gather, hand_laws};
-use cv_records::{EventEntry, ReadEntry};
+use cv_records::EventEntry;
 use cv_seq::{NoMemory, Seq};
 use cv_transcript::Entry;
 use cv_workers::{Hub, Identity, Seat, refresh};
@@ -101,31 +100,4 @@ fn hands_of(alloc: Global, jobs: usize, workers: usize) -> Result<Vec<Hand>, NoM
         return Err(NoMemory);
     };
     fill(alloc, jobs, workers as u32)
-}
-
-/// The reads of each lane.
-fn reads_of(alloc: Global, lanes: Vec<Lane>) -> Result<Seq<Seq<ReadEntry>>, NoMemory>
-    ensures { IfOk result (λ reads. reads ≡ map (λ (lane : Lane). lane.reads.items) lanes.items) }
-{
-    let mut all = Vec::new(alloc);
-    for lane in lanes {
-        let Lane {
-            number: _,
-            asked: _,
-            reads,
-        } = lane;
-        all.push(Seq::of(reads))?;
-    }
-    Ok(Seq::of(all))
-}
-
-/// Entries and then others.
-fn joined(entries: Vec<Entry>, others: Vec<Entry>) -> Result<Vec<Entry>, NoMemory>
-    ensures { IfOk result (λ all. all.items ≡ entries.items ++ others.items) }
-{
-    let mut all = entries;
-    for entry in others {
-        all.push(entry)?;
-    }
-    Ok(all)
 }
