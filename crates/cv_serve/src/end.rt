@@ -33,6 +33,30 @@ pub enum Stop {
     NoMemory,
 }
 
+/// The end of a service that stopped so.
+pub fn end_of(stopped: Result<(), Stop>) -> ServeEnd
+    ensures { result ≡ end_of stopped }
+{
+    match stopped {
+        Ok(()) => ServeEnd::Done,
+        Err(Stop::Input(error)) => input_end(error),
+        Err(Stop::Output(WriteError::WriteFault)) => ServeEnd::WriteFault,
+        Err(Stop::Output(WriteError::NoMemory) | Stop::NoMemory) => ServeEnd::NoMemory,
+    }
+}
+
+/// The end of a service whose input was not read to its end.
+fn input_end(error: LineError) -> ServeEnd
+    ensures { result ≡ input_end error }
+{
+    match error {
+        LineError::ReadFault => ServeEnd::ReadFault,
+        LineError::LineTooLong => ServeEnd::LineTooLong,
+        LineError::InputTooLong => ServeEnd::InputTooLong,
+        LineError::NoMemory => ServeEnd::NoMemory,
+    }
+}
+
 impl From<LineError> for Stop {
     ghost use Rattle.std.specs.Prelude.{◌≡◌};
     ghost use Rattle.cv_serve.specs.declared.end.Stop.TheVariants as stop;
@@ -63,29 +87,5 @@ impl From<NoMemory> for Stop {
 
     fn from(_error: NoMemory) -> Stop {
         Stop::NoMemory
-    }
-}
-
-/// The end of a service that stopped so.
-pub fn end_of(stopped: Result<(), Stop>) -> ServeEnd
-    ensures { result ≡ end_of stopped }
-{
-    match stopped {
-        Ok(()) => ServeEnd::Done,
-        Err(Stop::Input(error)) => input_end(error),
-        Err(Stop::Output(WriteError::WriteFault)) => ServeEnd::WriteFault,
-        Err(Stop::Output(WriteError::NoMemory) | Stop::NoMemory) => ServeEnd::NoMemory,
-    }
-}
-
-/// The end of a service whose input was not read to its end.
-fn input_end(error: LineError) -> ServeEnd
-    ensures { result ≡ input_end error }
-{
-    match error {
-        LineError::ReadFault => ServeEnd::ReadFault,
-        LineError::LineTooLong => ServeEnd::LineTooLong,
-        LineError::InputTooLong => ServeEnd::InputTooLong,
-        LineError::NoMemory => ServeEnd::NoMemory,
     }
 }
