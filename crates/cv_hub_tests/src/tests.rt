@@ -1,27 +1,17 @@
-ghost use Rattle.std.specs.Prelude.{◌≡◌, ◌<◌, true, length};
-ghost use Rattle.cv_core.specs.Core.{opened};
+ghost use Rattle.std.specs.Prelude.{◌≡◌, true};
 ghost use Rattle.cv_hub.specs.Seats.{AreNumbered};
+ghost use Rattle.sample_events.specs.Core.{opened};
 
-mod draws;
-mod replay;
-
-use cv_core::{Core, Limits};
-use cv_hub::{Blank, Hub, Identity, Seat};
-use cv_records::{By, EventEntry, Reply};
+use cv_hub::{Blank, Held, Hub, Identity, Seat};
 use cv_seq::NoMemory;
-use draws::{IMAGES, event, hash};
-use replay::{add_line, replayed};
-use sample_data::SampleDesk;
+use sample_events::{
+    By, Core, EventEntry, IMAGES, Reply, SampleDesk, add_line, event, hash, new_core, replayed,
+};
 use std::alloc::Global;
 use std::marker::Brand;
+use std::process::Abort;
 use std::sync::{Wait, ledger};
-use std::test::*;
 use std::thread::{self, Threads};
-
-const LIMITS: Limits = Limits {
-    images: 10,
-    feeds: 2,
-};
 
 /// How many seats submit events, each in a thread of its own.
 const LANES: usize = 8;
@@ -47,24 +37,28 @@ struct Together {
 }
 
 #[test]
-fn seats_in_threads_submit_one_list_of_events(rt: HostRuntime) -> Result<(), Fail> {
-    let core = Core::new(rt.alloc(), LIMITS)?;
+fn seats_in_threads_submit_one_list_of_events(rt: HostRuntime) -> Result<(), NoMemory> {
+    let core = new_core(rt.alloc())?;
     let all = submit_together::<Brand, _>(&rt, rt.alloc(), Blank::new(8), core)?;
-    let entries = all.entries.as_slice();
-    assert_eq!(rt; entries.len() as u64, LANES as u64 * LINES);
-    assert_eq!(rt; all.seen, LANES as u64 * LINES);
-    assert_eq!(rt; all.receipts.len(), LANES);
-    for (lane, receipts) in all.receipts.iter().enumerate() {
-        assert!(rt;
-            are_entries((lane % LANES) as u8, receipts, entries),
-            "lane {lane}"
-        );
-    }
-    let Some(shown) = replayed::<Brand>(rt.alloc(), ledger::Blank::new(1), entries)? else {
-        return Err(Fail::from("the entries do not replay"));
-    };
-    assert!(rt; shown.as_str() == all.shown.as_str());
+    let again = replayed::<Brand>(rt.alloc(), ledger::Blank::new(1), all.entries.as_slice())?;
+    compare(&rt, &all, &again);
     Ok(())
+}
+
+/// Each event was taken and seen, each lane has its receipts, and the hub shows what the replay of its entries shows.
+fn compare<R: Abort>(rt: &R, all: &Together, again: &Option<String>) {
+    assert_eq!(rt; all.entries.len() as u64, LANES as u64 * LINES);
+    assert_eq!(rt; all.seen, LANES as u64 * LINES);
+    assert_eq!(rt; lanes_with_entries(&all.receipts, &all.entries), LANES);
+    assert!(rt; again.is_some(), "the entries do not replay");
+    assert!(rt; is_text(again, all.shown.as_str()));
+}
+
+fn is_text(found: &Option<String>, text: &str) -> bool {
+    match found {
+        Some(found) => found.as_str() == text,
+        None => false,
+    }
 }
 
 /// All seats submit their events together, and take them.
@@ -79,16 +73,36 @@ fn submit_together<L: Identity + Send + Sync, W: Threads + Wait + Sync>(
     requires book { blank.book ≡ L.book }
     requires core { core ≡ opened L.limits }
 {
-    let (mut hub, seats) = Hub::<SampleDesk, L>::start(alloc, blank, core, 8)?;
+    let (hub, seats) = Hub::<SampleDesk, L>::start(alloc, blank, core, 8)?;
+    let (seats, receipts) = submitted(rt, alloc, &hub, seats)?;
+    taken_together(rt, alloc, hub, seats, receipts)
+}
+
+/// The seats after each submitted its events in a thread of its own, and the receipts of each.
+fn submitted<L: Identity + Send + Sync, W: Threads + Wait + Sync>(
+    rt: &W,
+    alloc: Global,
+    hub: &Hub<SampleDesk, L>,
+    seats: Vec<Seat<SampleDesk, L>>,
+) -> Result<(Vec<Seat<SampleDesk, L>>, Vec<Vec<(u64, Reply)>>), NoMemory> {
     let mut lanes = lanes_of(alloc, seats)?;
-    submit_all(rt, alloc, &hub, lanes.as_mut_slice());
-    let (mut seats, receipts) = taken_apart(alloc, lanes)?;
-    if seats.len() != LANES {
-        return Err(NoMemory);
-    }
-    let seen = learned(rt, &hub, &mut seats[0]);
+    submit_all(rt, alloc, hub, lanes.as_mut_slice());
+    taken_apart(alloc, lanes)
+}
+
+/// All that seats took and saw of the events that they submitted.
+fn taken_together<L: Identity, W: Wait>(
+    rt: &W,
+    alloc: Global,
+    mut hub: Hub<SampleDesk, L>,
+    mut seats: Vec<Seat<SampleDesk, L>>,
+    receipts: Vec<Vec<(u64, Reply)>>,
+) -> Result<Together, NoMemory>
+    requires parts { L.parts ≡ 8 }
+{
+    let seen = learned(rt, &hub, seats.as_mut_slice());
     let entries = taken(rt, &mut hub, seats.as_mut_slice())?;
-    let shown = shown(rt, alloc, &hub, &mut seats[0])?;
+    let shown = shown(rt, alloc, &hub, seats.as_mut_slice())?;
     hub.end(seats);
     Ok(Together {
         receipts,
@@ -161,12 +175,15 @@ fn taken_apart<L: Identity>(
     Ok((seats, all))
 }
 
-/// A seat learns a note of all events. How many its next view shows.
+/// The first seat learns a note of all events. How many its next view shows.
 fn learned<L: Identity, W: Wait>(
     rt: &W,
     hub: &Hub<SampleDesk, L>,
-    seat: &mut Seat<SampleDesk, L>,
+    seats: &mut [Seat<SampleDesk, L>],
 ) -> u64 {
+    let Some(seat) = seats.first_mut() else {
+        return 0;
+    };
     seat.learn(hub.note(rt));
     hub.view(rt, seat).front()
 }
@@ -177,11 +194,9 @@ fn taken<L: Identity, W: Wait>(
     hub: &mut Hub<SampleDesk, L>,
     seats: &mut [Seat<SampleDesk, L>],
 ) -> Result<Vec<EventEntry>, NoMemory>
-    requires all { length seats.old ≡ L.parts }
-    requires some { 0 < length seats.old }
-    ensures same { length seats.new ≡ length seats.old }
+    requires parts { L.parts ≡ 8 }
 {
-    if !are_numbered(0, seats) {
+    if seats.len() != LANES || !are_numbered(0, seats) {
         return Err(NoMemory);
     }
     Ok(hub.take_events(rt, seats))
@@ -199,22 +214,51 @@ fn are_numbered<L: Identity>(index: u64, seats: &[Seat<SampleDesk, L>]) -> bool
     }
 }
 
-/// What a hub whose events were all taken shows of the reports, the queued layers and the notifications, a line each.
+/// What a hub whose events were all taken shows the first seat.
 fn shown<L: Identity, W: Wait>(
     rt: &W,
     alloc: Global,
     hub: &Hub<SampleDesk, L>,
-    seat: &mut Seat<SampleDesk, L>,
+    seats: &mut [Seat<SampleDesk, L>],
 ) -> Result<String, NoMemory> {
-    let queued = hub.queued(rt, alloc)?;
-    let view = hub.view(rt, seat);
     let mut out = String::new(alloc);
-    for image in 0..IMAGES {
-        add_line(alloc, &mut out, &view.report(&hash(image)))?;
+    if let Some(seat) = seats.first_mut() {
+        add_shown(rt, alloc, &mut out, hub, seat)?;
     }
-    add_line(alloc, &mut out, &queued)?;
-    add_line(alloc, &mut out, &view.list(alloc)?)?;
     Ok(out)
+}
+
+/// Adds the queued layers, the reports and the notifications, a line each.
+fn add_shown<L: Identity, W: Wait>(
+    rt: &W,
+    alloc: Global,
+    out: &mut String,
+    hub: &Hub<SampleDesk, L>,
+    seat: &mut Seat<SampleDesk, L>,
+) -> Result<(), NoMemory> {
+    add_line(alloc, out, &hub.queued(rt, alloc)?)?;
+    add_view(alloc, out, &hub.view(rt, seat))
+}
+
+fn add_view<L: Identity>(
+    alloc: Global,
+    out: &mut String,
+    view: &Held<'_, SampleDesk, L>,
+) -> Result<(), NoMemory> {
+    for image in 0..IMAGES {
+        add_line(alloc, out, &view.report(&hash(image)))?;
+    }
+    add_line(alloc, out, &view.list(alloc)?)
+}
+
+/// How many lanes have the entries of their receipts, up to the first that has not.
+fn lanes_with_entries(receipts: &[Vec<(u64, Reply)>], entries: &[EventEntry]) -> usize {
+    for (lane, receipts) in receipts.iter().enumerate() {
+        if !are_entries((lane % LANES) as u8, receipts, entries) {
+            return lane;
+        }
+    }
+    receipts.len()
 }
 
 /// Whether a lane has a receipt for each of its lines, whose numbers rise, and the entry of each number is that line with that reply.

@@ -1,29 +1,21 @@
-use cv_base::Seq;
-use cv_desk::TableDesk;
-use cv_io::MemSink;
-use sample_runs::{Layers, Status, run_over};
-use std::alloc::Global;
+use sample_runs::{CALM, MemSink, NoMemory, Status, run_once};
 use std::process::Abort;
-use std::sync::Wait;
-use std::test::Fail;
-use std::thread::Threads;
-
-/// Runs a drill, and returns what it prints.
-fn drill<R: Abort + Threads + Wait + Sync>(rt: &R, alloc: Global) -> Result<MemSink, Fail> {
-    let mut sink = MemSink::new(alloc, 4096, Seq::of(Vec::new(alloc)));
-    let mut desks = vec![in alloc; TableDesk::<Layers>::new()]?;
-    let status = run_over(rt, alloc, &["drill", "7"], "", &[], &mut sink, &mut desks)?;
-    assert_eq!(rt; status, Status::Done);
-    Ok(sink)
-}
 
 #[test]
-fn a_drill_prints_the_same_at_each_run(rt: HostRuntime) -> Result<(), Fail> {
-    let first = drill(&rt, rt.alloc())?;
-    let second = drill(&rt, rt.alloc())?;
-    let front = b"images 64, layers 175, generation 2, notifications 2, rows ";
-    assert!(rt; first.bytes().starts_with(front.as_slice()));
-    assert!(rt; first.bytes().ends_with(b"\n".as_slice()));
-    assert_eq!(rt; first.bytes(), second.bytes());
+fn a_drill_prints_the_same_at_each_run(rt: HostRuntime) -> Result<(), NoMemory> {
+    let first = run_once(&rt, rt.alloc(), &["drill", "7"], "", &CALM)?;
+    let second = run_once(&rt, rt.alloc(), &["drill", "7"], "", &CALM)?;
+    compare(&rt, &first, &second);
     Ok(())
+}
+
+/// Both drills were done, and printed the same summary.
+fn compare<R: Abort>(rt: &R, first: &(Status, MemSink), second: &(Status, MemSink)) {
+    assert_eq!(rt; first.0, Status::Done);
+    assert_eq!(rt; second.0, Status::Done);
+    let summary = first.1.bytes();
+    let front = b"images 64, layers 175, generation 2, notifications 2, rows ";
+    assert!(rt; summary.starts_with(front.as_slice()));
+    assert!(rt; summary.ends_with(b"\n".as_slice()));
+    assert_eq!(rt; summary, second.1.bytes());
 }

@@ -1,43 +1,32 @@
-ghost use Rattle.std.specs.Prelude.{◌≡◌, ◌≤◌, length};
-
-use cv_base::Seq;
-use cv_desk::TableDesk;
-use cv_desk_wrappers::GateDesk;
-use cv_io::MemSink;
-use sample_runs::{Layers, Status, USAGE, expand, run_over};
+use sample_runs::{NoMemory, Status, USAGE, after_one_of, is_ended, run_by_two};
 use std::alloc::Global;
 use std::process::Abort;
 use std::sync::Wait;
-use std::test::Fail;
 use std::thread::Threads;
 
-/// Runs a service over two desks, and compares how it ends. It returns what it prints.
-fn serve_by_two<R: Abort + Threads + Wait + Sync>(
-    rt: &R,
-    alloc: Global,
-    arguments: &[&str],
-    input: &str,
-    want: Status,
-) -> Result<MemSink, Fail> {
-    let mut sink = MemSink::new(alloc, 4096, Seq::of(Vec::new(alloc)));
-    let mut desks = vec![in alloc; TableDesk::<Layers>::new(), TableDesk::<Layers>::new()]?;
-    let status = run_over(rt, alloc, arguments, input, &[], &mut sink, &mut desks)?;
-    assert_eq!(rt; status, want, "{arguments:?}");
-    Ok(sink)
-}
-
 #[test]
-fn as_many_workers_as_desks(rt: HostRuntime) -> Result<(), Fail> {
-    let sink = serve_by_two(&rt, rt.alloc(), &["serve", "--workers=2"], "", Status::Done)?;
-    assert!(rt; sink.bytes().is_empty());
-    let sink = serve_by_two(
+fn as_many_workers_as_desks(rt: HostRuntime) -> Result<(), NoMemory> {
+    try_serve(&rt, rt.alloc(), &["serve", "--workers=2"], Status::Done, "")?;
+    try_serve(
         &rt,
         rt.alloc(),
         &["serve", "--workers", "3"],
-        "",
         Status::Usage,
-    )?;
-    assert_eq!(rt; sink.bytes(), USAGE.as_bytes());
+        USAGE,
+    )
+}
+
+/// Serves no input over two desks, and compares how it ends and what it prints.
+fn try_serve<R: Abort + Threads + Wait + Sync>(
+    rt: &R,
+    alloc: Global,
+    arguments: &[&str],
+    status: Status,
+    output: &str,
+) -> Result<(), NoMemory> {
+    let (ended, _) = run_by_two(rt, alloc, arguments, "", 0)?;
+    let is_same = is_ended(alloc, &ended, status, output)?;
+    assert!(rt; is_same, "{arguments:?}");
     Ok(())
 }
 
@@ -74,7 +63,7 @@ static READ: [&str; 3] = [
 ];
 
 #[test]
-fn a_lane_sees_its_own_update(rt: HostRuntime) -> Result<(), Fail> {
+fn a_lane_sees_its_own_update(rt: HostRuntime) -> Result<(), NoMemory> {
     let input = r#"{"do":"register","manifest":{"hash":"<1>","layers":[{"hash":"<a>"}]}}
 
 
@@ -82,48 +71,27 @@ fn a_lane_sees_its_own_update(rt: HostRuntime) -> Result<(), Fail> {
 {"do":"update","lane":1,"feed":"deb","advisories":[{"id":"X-1",<openssl>}]}
 {"do":"report","lane":1,"image":"<1>"}
 {"do":"report","image":"<1>"}"#;
-    let sink = serve_by_two(&rt, rt.alloc(), &["serve"], input, Status::Done)?;
-    let rest = after_one_of(rt.alloc(), sink.bytes(), &INDEXED)?;
-    let end = after_one_of(rt.alloc(), rest, &READ)?;
-    assert!(rt; end.is_empty());
+    let (ended, _) = run_by_two(&rt, rt.alloc(), &["serve"], input, 0)?;
+    assert_eq!(rt; ended.0, Status::Done);
+    assert!(rt; is_transcript(rt.alloc(), ended.1.bytes())?);
     Ok(())
 }
 
-/// The bytes after that text which they begin with. If there is none, all bytes.
-fn after_one_of<'a>(alloc: Global, bytes: &'a [u8], texts: &[&str]) -> Result<&'a [u8], Fail> {
-    for text in texts {
-        let text = expand(alloc, *text)?;
-        if let Some(rest) = bytes.strip_prefix(text.as_bytes()) {
-            return Ok(rest);
-        }
-    }
-    Ok(bytes)
+/// Whether an image is indexed by either worker, and then the lanes read one of the things that they may.
+fn is_transcript(alloc: Global, bytes: &[u8]) -> Result<bool, NoMemory> {
+    let Some(rest) = after_one_of(alloc, bytes, &INDEXED)? else {
+        return Ok(false);
+    };
+    let end = after_one_of(alloc, rest, &READ)?;
+    Ok(matches!(end, Some([])))
 }
 
 #[test]
-fn two_workers_list_layers_at_once(rt: HostRuntime) -> Result<(), Fail> {
-    let alloc = rt.alloc();
+fn two_workers_list_layers_at_once(rt: HostRuntime) -> Result<(), NoMemory> {
     let input =
         r#"{"do":"register","manifest":{"hash":"<1>","layers":[{"hash":"<a>"},{"hash":"<b>"}]}}"#;
-    let (first, second) = GateDesk::pair(
-        alloc,
-        TableDesk::<Layers>::new(),
-        TableDesk::<Layers>::new(),
-        2,
-        2,
-    )?;
-    let mut sink = MemSink::new(alloc, 4096, Seq::of(Vec::new(alloc)));
-    let mut desks = vec![in alloc; first, second]?;
-    let status = run_over(
-        &rt,
-        alloc,
-        &["serve", "--workers", "2"],
-        input,
-        &[],
-        &mut sink,
-        &mut desks,
-    )?;
-    assert_eq!(rt; status, Status::Done);
-    assert!(rt; desks.iter().all(GateDesk::passed));
+    let (ended, is_beside) = run_by_two(&rt, rt.alloc(), &["serve", "--workers", "2"], input, 2)?;
+    assert_eq!(rt; ended.0, Status::Done);
+    assert!(rt; is_beside);
     Ok(())
 }

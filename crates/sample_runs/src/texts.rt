@@ -56,14 +56,27 @@ static TEXTS: [(&str, &str); 10] = [
 /// The text with what stands for its names in brackets. A bracket that is not closed is kept.
 pub fn expand(alloc: Global, text: &str) -> Result<String, NoMemory> {
     let mut whole = String::new(alloc);
-    for (index, piece) in text.split('<').enumerate() {
-        match piece.split_once('>') {
-            _ if index == 0 => whole.push_str(piece)?,
-            Some((name, rest)) => push_named(&mut whole, name, rest)?,
-            None => push_kept(&mut whole, piece)?,
-        }
-    }
+    push_expanded(&mut whole, text)?;
     Ok(whole)
+}
+
+fn push_expanded(whole: &mut String, text: &str) -> Result<(), NoMemory> {
+    for (index, piece) in text.split('<').enumerate() {
+        push_piece(whole, piece, index > 0)?;
+    }
+    Ok(())
+}
+
+/// Pushes a piece of a text, which may stand after a bracket.
+fn push_piece(whole: &mut String, piece: &str, is_after_bracket: bool) -> Result<(), NoMemory> {
+    if !is_after_bracket {
+        whole.push_str(piece)?;
+        return Ok(());
+    }
+    match piece.split_once('>') {
+        Some((name, rest)) => push_named(whole, name, rest),
+        None => push_kept(whole, piece),
+    }
 }
 
 fn push_kept(whole: &mut String, piece: &str) -> Result<(), NoMemory> {

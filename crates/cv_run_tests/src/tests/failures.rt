@@ -1,11 +1,10 @@
-use sample_runs::Status;
+use sample_runs::{Outside, Status};
 
-/// A run in which a call of a stream or of the desk fails: the arguments, the input, how many bytes are written at once, which reads, writes
-/// and calls of the desk fail, how the run ends, and what it prints.
+/// A run in which a call of a stream or of the desk fails: the arguments, the input, what fails, how the run ends, and what it prints.
 pub struct Failure {
     pub arguments: &'static [&'static str],
     pub input: &'static str,
-    pub outside: (usize, &'static [u64], &'static [u64], &'static [u64]),
+    pub outside: Outside,
     pub status: Status,
     pub output: &'static str,
 }
@@ -17,7 +16,12 @@ pub static CASES: [Failure; 9] = [
         arguments: &["scan"],
         input: r#"{"hash":"<1>","layers":[{"hash":"<a>"}]}
 {"id":"X-1",<openssl>}"#,
-        outside: (100, &[], &[], &[1]),
+        outside: Outside {
+            piece: 100,
+            reads: &[],
+            writes: &[],
+            desk: &[1],
+        },
         status: Status::DeskFault,
         output: r#"{"layer":"<a>","refused":"desk_fault"}
 "#,
@@ -27,7 +31,12 @@ pub static CASES: [Failure; 9] = [
         arguments: &["scan"],
         input: r#"{"hash":"<1>","layers":[{"hash":"<a>"},{"hash":"<b>"}]}
 {"id":"X-1",<openssl>}"#,
-        outside: (100, &[], &[], &[3]),
+        outside: Outside {
+            piece: 100,
+            reads: &[],
+            writes: &[],
+            desk: &[3],
+        },
         status: Status::DeskFault,
         output: r#"{"layer":"<a>","refused":"desk_fault"}
 "#,
@@ -37,7 +46,12 @@ pub static CASES: [Failure; 9] = [
         arguments: &["scan"],
         input: r#"{"hash":"<1>","layers":[{"hash":"<a>"},{"hash":"<a>"},{"hash":"<b>"}]}
 {"id":"X-1",<openssl>}"#,
-        outside: (100, &[], &[], &[4]),
+        outside: Outside {
+            piece: 100,
+            reads: &[],
+            writes: &[],
+            desk: &[4],
+        },
         status: Status::DeskFault,
         output: r#"{"layer":"<b>","refused":"desk_fault"}
 "#,
@@ -46,7 +60,12 @@ pub static CASES: [Failure; 9] = [
     Failure {
         arguments: &["scan"],
         input: "",
-        outside: (5, &[1], &[], &[]),
+        outside: Outside {
+            piece: 5,
+            reads: &[1],
+            writes: &[],
+            desk: &[],
+        },
         status: Status::ReadFault,
         output: "",
     },
@@ -54,7 +73,12 @@ pub static CASES: [Failure; 9] = [
     Failure {
         arguments: &["scan"],
         input: "",
-        outside: (5, &[], &[2], &[]),
+        outside: Outside {
+            piece: 5,
+            reads: &[],
+            writes: &[2],
+            desk: &[],
+        },
         status: Status::WriteFault,
         output: r#"{"lin"#,
     },
@@ -62,7 +86,12 @@ pub static CASES: [Failure; 9] = [
     Failure {
         arguments: &["scan"],
         input: "",
-        outside: (5, &[9], &[9], &[]),
+        outside: Outside {
+            piece: 5,
+            reads: &[9],
+            writes: &[9],
+            desk: &[],
+        },
         status: Status::Refused,
         output: r#"{"line":1,"refused":"no_manifest"}
 "#,
@@ -74,7 +103,12 @@ pub static CASES: [Failure; 9] = [
 
 
 "#,
-        outside: (100, &[], &[], &[1]),
+        outside: Outside {
+            piece: 100,
+            reads: &[],
+            writes: &[],
+            desk: &[1],
+        },
         status: Status::Done,
         output: r#"{"at":1,"event":"register","image":"<1>","lane":0,"line":1,"reply":"registered"}
 {"at":2,"event":"claim","layer":"<a>","reply":"claimed","worker":0}
@@ -91,7 +125,12 @@ pub static CASES: [Failure; 9] = [
 
 
 {"do":"report","image":"<1>"}"#,
-        outside: (4096, &[], &[2], &[]),
+        outside: Outside {
+            piece: 4096,
+            reads: &[],
+            writes: &[2],
+            desk: &[],
+        },
         status: Status::WriteFault,
         output: r#"{"at":1,"event":"register","image":"<1>","lane":0,"line":1,"reply":"registered"}
 "#,
@@ -109,7 +148,12 @@ pub static CASES: [Failure; 9] = [
 {"do":"report","image":"<1>"}
 {"do":"report","image":"<1>"}
 {"do":"report","image":"<1>"}"#,
-        outside: (4096, &[5], &[], &[]),
+        outside: Outside {
+            piece: 4096,
+            reads: &[5],
+            writes: &[],
+            desk: &[],
+        },
         status: Status::ReadFault,
         output: r#"{"at":1,"event":"register","image":"<1>","lane":0,"line":1,"reply":"registered"}
 "#,

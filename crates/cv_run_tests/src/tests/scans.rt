@@ -1,48 +1,72 @@
-/// Images that are scanned: their layers, the lines of records, and the findings. `<X-1>` is a record of openssl.
+/// The line of a scan that finds this.
+macro_rules! good {
+    ($findings:literal) => {
+        concat!(
+            "{\"findings\":[",
+            $findings,
+            "],\"image\":\"<1>\",\"reply\":\"good\"}\n"
+        )
+    };
+}
+
+/// The line that says why a scan is refused.
+macro_rules! refused {
+    ($line:literal) => {
+        concat!($line, "\n")
+    };
+}
+
+/// Images that are scanned: their layers, the lines of records, and the line with the findings. `<X-1>` is a record of openssl.
 pub static GOOD: [(&str, &str, &str); 15] = [
-    ("a", "", ""),
-    ("a", "<X-1>", "<openssl-found>"),
+    ("a", "", good!("")),
+    ("a", "<X-1>", good!("<openssl-found>")),
     // empty lines, and a record of another package
-    ("a", "\n<module-x>\n\n\n<X-1>\n", "<openssl-found>"),
+    ("a", "\n<module-x>\n\n\n<X-1>\n", good!("<openssl-found>")),
     // a record that was withdrawn
     (
         "a",
         r#"{"withdrawn":"2024-02-01T00:00:00Z","id":"X-1",<openssl>}"#,
-        "",
+        good!(""),
     ),
     // the fixed version
-    ("3", "<X-1>", ""),
+    ("3", "<X-1>", good!("")),
     (
         "7",
         r#"{"id":"X-1","modified":"2024-01-01T00:00:00Z","affected":[{"package":{"ecosystem":"Debian:12","name":"openssl"},"ranges":[{"type":"ECOSYSTEM","events":[{"introduced":"0"},{"fixed":"11"}]}]}]}"#,
-        r#"{"advisory":"X-1","arch":"amd64","ecosystem":"Debian:12","feed":"scan","fixed":"11","kind":"deb","name":"libssl3","path":"var/lib/dpkg/status","source":"openssl","source_version":"9","version":"9"}"#,
+        good!(
+            r#"{"advisory":"X-1","arch":"amd64","ecosystem":"Debian:12","feed":"scan","fixed":"11","kind":"deb","name":"libssl3","path":"var/lib/dpkg/status","source":"openssl","source_version":"9","version":"9"}"#
+        ),
     ),
     // Alpine
     (
         "2",
         "<X-1>\n<alpine-openssl>",
-        r#"{"advisory":"A-1","arch":"x86_64","ecosystem":"Alpine:v3.18","feed":"scan","fixed":"3.1.2-r0","kind":"apk","name":"libcrypto3","path":"lib/apk/db/installed","source":"openssl","source_version":"3.1.1-r1","version":"3.1.1-r1"}"#,
+        good!(
+            r#"{"advisory":"A-1","arch":"x86_64","ecosystem":"Alpine:v3.18","feed":"scan","fixed":"3.1.2-r0","kind":"apk","name":"libcrypto3","path":"lib/apk/db/installed","source":"openssl","source_version":"3.1.1-r1","version":"3.1.1-r1"}"#
+        ),
     ),
     // a whiteout
-    ("ab", "<X-1>", ""),
+    ("ab", "<X-1>", good!("")),
     // another status file
     (
         "ac",
         "<X-1>\n<debian-zlib>",
-        r#"{"advisory":"Z-1","arch":"amd64","ecosystem":"Debian:12","feed":"scan","fixed":"1:1.3","kind":"deb","name":"zlib1g","path":"var/lib/dpkg/status","source":"zlib","source_version":"1:1.2.13.dfsg-1","version":"1:1.2.13.dfsg-1"}"#,
+        good!(
+            r#"{"advisory":"Z-1","arch":"amd64","ecosystem":"Debian:12","feed":"scan","fixed":"1:1.3","kind":"deb","name":"zlib1g","path":"var/lib/dpkg/status","source":"zlib","source_version":"1:1.2.13.dfsg-1","version":"1:1.2.13.dfsg-1"}"#
+        ),
     ),
     // an opaque mark
-    ("de", "<module-x>\n<module-y>", "<module-y-found>"),
+    ("de", "<module-x>\n<module-y>", good!("<module-y-found>")),
     // a file in the place of a folder
-    ("d0", "<module-x>\n<module-y>", "<module-y-found>"),
+    ("d0", "<module-x>\n<module-y>", good!("<module-y-found>")),
     // a folder in the place of a file
-    ("a4", "<X-1>", ""),
+    ("a4", "<X-1>", good!("")),
     // an opaque mark at the top
-    ("d6", "<module-x>\n<module-y>", ""),
+    ("d6", "<module-x>\n<module-y>", good!("")),
     // a layer that stands twice
-    ("aba", "<X-1>", "<openssl-found>"),
+    ("aba", "<X-1>", good!("<openssl-found>")),
     // a malformed file that is hidden
-    ("fb", "<X-1>", ""),
+    ("fb", "<X-1>", good!("")),
 ];
 
 /// Images and inputs that are refused: the layers, the records, and the line that says why.
@@ -51,37 +75,45 @@ pub static REFUSED: [(&str, &str, &str); 7] = [
     (
         "f",
         "<X-1>",
-        r#"{"bad":{"cause":"bad_file","line":3,"path":"var/lib/dpkg/status","what":"no_colon"},"image":"<1>","reply":"bad_image"}"#,
+        refused!(
+            r#"{"bad":{"cause":"bad_file","line":3,"path":"var/lib/dpkg/status","what":"no_colon"},"image":"<1>","reply":"bad_image"}"#
+        ),
     ),
     // a tree that is not good comes before it
     (
         "f5",
         "<X-1>",
-        r#"{"bad":{"cause":"bad_tree","entry":0,"layer":1,"what":"bad_mark"},"image":"<1>","reply":"bad_image"}"#,
+        refused!(
+            r#"{"bad":{"cause":"bad_tree","entry":0,"layer":1,"what":"bad_mark"},"image":"<1>","reply":"bad_image"}"#
+        ),
     ),
     // and a layer that is missing before that
     (
         "f59",
         "<X-1>",
-        r#"{"bad":{"cause":"no_layer","layer":2},"image":"<1>","reply":"bad_image"}"#,
+        refused!(r#"{"bad":{"cause":"no_layer","layer":2},"image":"<1>","reply":"bad_image"}"#),
     ),
     (
         "9",
         "",
-        r#"{"bad":{"cause":"no_layer","layer":0},"image":"<1>","reply":"bad_image"}"#,
+        refused!(r#"{"bad":{"cause":"no_layer","layer":0},"image":"<1>","reply":"bad_image"}"#),
     ),
     // no layers
     (
         "",
         "<X-1>",
-        r#"{"line":1,"refused":"bad_request","what":"no_layers"}"#,
+        refused!(r#"{"line":1,"refused":"bad_request","what":"no_layers"}"#),
     ),
     // a record twice
     (
         "a",
         "\n<X-1>\n\n<X-1>",
-        r#"{"first":0,"line":5,"refused":"duplicate_id","second":1}"#,
+        refused!(r#"{"first":0,"line":5,"refused":"duplicate_id","second":1}"#),
     ),
     // a line that is not JSON
-    ("9", "<X-1>\n{", r#"{"line":3,"refused":"bad_json"}"#),
+    (
+        "9",
+        "<X-1>\n{",
+        refused!(r#"{"line":3,"refused":"bad_json"}"#),
+    ),
 ];

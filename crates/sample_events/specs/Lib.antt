@@ -1,0 +1,1 @@
+pub use Rattle.cv_core.specs.Core

@@ -1,0 +1,44 @@
+use crate::texts::expand;
+use cv_base::NoMemory;
+use cv_io::MemSink;
+use cv_run::Status;
+use std::alloc::Global;
+
+/// Whether a run ended so and printed this text, in which names in brackets stand for texts.
+pub fn is_ended(
+    alloc: Global,
+    ended: &(Status, MemSink),
+    status: Status,
+    text: &str,
+) -> Result<bool, NoMemory> {
+    let (found, sink) = ended;
+    if *found != status {
+        return Ok(false);
+    }
+    let rest = after(alloc, sink.bytes(), text)?;
+    Ok(matches!(rest, Some([])))
+}
+
+/// The bytes after that text which they begin with, if they begin with one.
+pub fn after_one_of<'a>(
+    alloc: Global,
+    bytes: &'a [u8],
+    texts: &[&str],
+) -> Result<Option<&'a [u8]>, NoMemory> {
+    for text in texts {
+        if let Some(rest) = after(alloc, bytes, text)? {
+            return Ok(Some(rest));
+        }
+    }
+    Ok(None)
+}
+
+/// The bytes after a text in which names in brackets stand for texts, if they begin with it.
+fn after<'a>(alloc: Global, bytes: &'a [u8], text: &str) -> Result<Option<&'a [u8]>, NoMemory> {
+    let whole = expand(alloc, text)?;
+    Ok(after_front(bytes, whole.as_str()))
+}
+
+fn after_front<'a>(bytes: &'a [u8], front: &str) -> Option<&'a [u8]> {
+    bytes.strip_prefix(front.as_bytes())
+}
