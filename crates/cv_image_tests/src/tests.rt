@@ -1,4 +1,4 @@
-use cv_base::{Digest, NoMemory, RangeKind, Seq, Text};
+use cv_base::{Digest, Finding, NoMemory, RangeKind, Seq, Text};
 use cv_desk_wrappers::Faulty;
 use cv_image::{ImageError, scan_layers};
 use sample_data::{Flaw, SampleDesk, SampleLayer, advisory, finding_lines};
@@ -55,15 +55,24 @@ fn scanned(alloc: Global, image: [u8; 3], failing: u64) -> Result<String, NoMemo
     let feed = Text::of(alloc, "scan")?;
     let records = vec![in alloc; advisory(alloc, &OPENSSL)?]?;
     let [base, middle, upper] = image;
-    let image = [layer(base), layer(middle), layer(upper)];
-    match scan_layers(alloc, &mut desk, &image, &feed, &records) {
+    let layers = [layer(base), layer(middle), layer(upper)];
+    let found = scan_layers(alloc, &mut desk, &layers, &feed, &records);
+    answer_text(alloc, &found)
+}
+
+/// The findings, a line each, or why there are none.
+fn answer_text(
+    alloc: Global,
+    answer: &Result<Seq<Finding>, ImageError>,
+) -> Result<String, NoMemory> {
+    match answer {
         Ok(findings) => finding_lines(alloc, findings.as_slice()),
         Err(ImageError::Desk(layer)) => desk_failed(alloc, layer),
         Err(error) => Ok(format!(in alloc; "{error}")?),
     }
 }
 
-fn desk_failed(alloc: Global, layer: Digest) -> Result<String, NoMemory> {
+fn desk_failed(alloc: Global, layer: &Digest) -> Result<String, NoMemory> {
     let [letter, ..] = layer.bytes();
     Ok(format!(in alloc; "the desk failed at {}", char::from(letter))?)
 }

@@ -1,3 +1,4 @@
+pub use Rattle.cv_core.specs.Core
 pub use Rattle.cv_round.specs.Round
 pub mod Begun
 pub mod Further

@@ -2,7 +2,8 @@
 //! round's lines. It owns the hub of `cv_hub` and the seats of a service.
 //!
 //! ```text
-//! let mut service = started::<D, L>(alloc, blank, desks.len())?;
+//! let core = new_core(alloc)?;
+//! let mut service = started::<D, L>(alloc, blank, core, desks.len())?;
 //! take_line(rt, alloc, &mut service, desks, output, &mut round, number, text)?;
 //! ```
 #![tactic(auto)]
@@ -13,8 +14,9 @@ mod round;
 mod run;
 mod start;
 
+pub use cv_core::Core;
 pub use cv_hub::{Blank, Identity};
 pub use lines::take_line;
 pub use round::{Round, has_lines};
 pub use run::{end_if, end_queued};
-pub use start::{Service, started};
+pub use start::{Service, new_core, started};

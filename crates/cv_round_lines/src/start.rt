@@ -21,24 +21,24 @@ pub struct Service<D: Desk, L: Identity> {
 pub fn started<D: Desk + Drop, L: Identity>(
     alloc: Global,
     blank: Blank,
+    core: Core<D>,
     workers: usize,
 ) -> Result<Service<D, L>, NoMemory>
     requires name { blank.name ≡ L.name }
     requires parts { (blank.parts ≡ L.parts) × (L.parts ≡ 8 + workers) }
     requires book { blank.book ≡ L.book }
-    requires limits { L.limits ≡ record { images = MAX_IMAGES; feeds = MAX_FEEDS } }
+    requires core { core ≡ opened L.limits }
     requires workers { workers ≤ 8 }
     ensures hub { IfOk result (λ service. service.hub ≡ []) }
     ensures seats { IfOk result (λ service. AreRoundSeats L.parts workers [] service.seats.items) }
 {
-    let core = new_core(alloc)?;
     let count = u32::from(MAX_LANES) + workers as u32;
     let (hub, seats) = Hub::<D, L>::start(alloc, blank, core, count)?;
     Ok(Service { hub, seats })
 }
 
 /// A core that has applied no event, with the limits of a service.
-fn new_core<D: Desk + Drop>(alloc: Global) -> Result<Core<D>, NoMemory>
+pub fn new_core<D: Desk + Drop>(alloc: Global) -> Result<Core<D>, NoMemory>
     ensures { IfOk result (λ core. core ≡ opened (record { images = MAX_IMAGES; feeds = MAX_FEEDS })) }
 {
     let limits = Limits {

@@ -8,6 +8,7 @@ ghost use Rattle.cv_io.specs.Reader.{reading, room_of};
 ghost use Rattle.cv_io.specs.declared.line.LineError.TheVariants as line;
 ghost use Rattle.cv_scan_input.specs.Taken.{IsTaken, IsTakenWithin};
 ghost use Rattle.cv_scan_input.specs.code.TakenParts.{IsTakenFrom, IsTakenTo};
+ghost use Rattle.cv_round_lines.specs.Core.{opened};
 ghost use Rattle.cv_round_lines.specs.Round.{moment_of};
 ghost use Rattle.cv_serve.specs.Ends.{end_of, is_read_stop, is_write_stop};
 ghost use Rattle.cv_serve.specs.Served.{FitsInput, IsServed, TakesUpTo};
@@ -21,7 +22,8 @@ use cv_desk::Desk;
 use cv_io::{Line, LineReader, Sink, Source};
 use cv_request::MAX_LANES;
 use cv_round_lines::{
-    Blank, Identity, Round, Service, end_if, end_queued, has_lines, started, take_line,
+    Blank, Core, Identity, Round, Service, end_if, end_queued, has_lines, new_core, started,
+    take_line,
 };
 use cv_scan_input::{MAX_INPUT, MAX_LINE};
 use std::alloc::Global;
@@ -79,8 +81,9 @@ fn serve_over<S: Source, K: Sink, D: Desk + Drop + Send + Sync, W: Threads + Wai
     ensures read_cause { CausedBy (S.faults input.old) (S.faults input.new) (is_read_stop result) }
     ensures write_cause { CausedBy (K.faults output.old) (K.faults output.new) (is_write_stop result) }
 {
+    let core = new_core(alloc)?;
     let blank = Blank::new(u64::from(MAX_LANES) + desks.len() as u64);
-    serve_with::<S, K, D, Brand, W>(rt, alloc, blank, input, output, desks)
+    serve_with::<S, K, D, Brand, W>(rt, alloc, blank, core, input, output, desks)
 }
 
 /// Serves with a hub of its own.
@@ -94,6 +97,7 @@ fn serve_with<
     rt: &W,
     alloc: Global,
     blank: Blank,
+    core: Core<D>,
     input: &mut S,
     output: &mut K,
     desks: &mut [D],
@@ -102,6 +106,7 @@ fn serve_with<
     requires parts { (blank.parts ≡ L.parts) × (L.parts ≡ 8 + length desks.old) }
     requires book { blank.book ≡ L.book }
     requires limits { L.limits ≡ record { images = MAX_IMAGES; feeds = MAX_FEEDS } }
+    requires core { core ≡ opened L.limits }
     requires workers { (1 ≤ length desks.old) × (length desks.old ≤ 8) }
     requires room { AllByRecursion (λ desk. D.listings desk ≤ 2 ^ 62) desks.old }
     ensures done { IsKnown D.tree → OnOk result (IfSome (S.remaining input.old) (λ bytes.
@@ -114,7 +119,7 @@ fn serve_with<
     ensures read_cause { CausedBy (S.faults input.old) (S.faults input.new) (is_read_stop result) }
     ensures write_cause { CausedBy (K.faults output.old) (K.faults output.new) (is_write_stop result) }
 {
-    let mut service = started::<D, L>(alloc, blank, desks.len())?;
+    let mut service = started::<D, L>(alloc, blank, core, desks.len())?;
     serve_by(rt, alloc, &mut service, desks, input, output)
 }
 
