@@ -1,109 +1,37 @@
-use cv_base::{Digest, Finding, NoMemory, Package, PackageKind, Reason, RelPath, Row, Seq, Text};
+use cv_base::{Digest, Finding, Package, PackageKind, Reason, RelPath, Row, Seq, Text};
 use cv_overlay::ImageFault;
 use cv_records::{Answer, NoticeHead, PageOutcome, ReadEntry, ReportOutcome};
 use cv_transcript::{Entry, entry_line};
 use std::alloc::Global;
 use std::test::Fail;
 
-const ONES: [u8; 32] = [0x11; 32];
+/// How many events come before a read, its line of lane 0, and the reply.
+type ReadRow = (u64, u64, &'static str);
 
-const LAYER: [u8; 32] = [0xaa; 32];
+/// A read that runs out of memory has neither `read` nor `event`.
+const READS: &[ReadRow] = &[
+    (1, 2, "pending"),
+    (3, 5, "good"),
+    (3, 5, "bad_image"),
+    (0, 1, "not_registered"),
+    (4, 9, "no_page"),
+    (5, 12, "no_notification"),
+    (6, 11, "page"),
+    (6, 10, "list"),
+    (2, 6, "no_memory"),
+];
 
-fn line_is(alloc: Global, entry: &Entry, want: &str) -> Result<bool, NoMemory> {
-    Ok(entry_line(alloc, entry)?.as_str() == want)
-}
-
-fn read(front: u64, line: u64, answer: Answer) -> Entry {
-    Entry::Read(ReadEntry {
-        front,
-        lane: 0,
-        line,
-        answer,
-    })
-}
-
-fn report(front: u64, line: u64, outcome: ReportOutcome) -> Entry {
-    let image = Digest::of(ONES);
-    read(front, line, Answer::Report { image, outcome })
-}
-
-fn page(front: u64, line: u64, page: u64, outcome: PageOutcome) -> Entry {
-    read(
-        front,
-        line,
-        Answer::Page {
-            number: 1,
-            size: 2,
-            page,
-            outcome,
-        },
-    )
-}
-
-#[test]
-fn a_report_without_findings_has_its_line(rt: HostRuntime) -> Result<(), Fail> {
-    for (front, line, outcome, want) in [
-        (
-            1,
-            2,
-            ReportOutcome::Pending(Digest::of(LAYER)),
-            "{\"at\":1,\"image\":\"sha256:1111111111111111111111111111111111111111111111111111111111111111\",\"lane\":0,\"layer\":\"sha256:aaaaaaaaaaaaaaaaaaaaaaaaaaaaaaaaaaaaaaaaaaaaaaaaaaaaaaaaaaaaaaaa\",\"line\":2,\"read\":\"report\",\"reply\":\"pending\"}\n",
-        ),
-        (
-            3,
-            5,
-            ReportOutcome::Good {
-                generation: 0,
-                findings: Seq::of(Vec::new(rt.alloc())),
-            },
-            "{\"at\":3,\"findings\":[],\"generation\":0,\"image\":\"sha256:1111111111111111111111111111111111111111111111111111111111111111\",\"lane\":0,\"line\":5,\"read\":\"report\",\"reply\":\"good\"}\n",
-        ),
-        (
-            3,
-            5,
-            ReportOutcome::BadImage(ImageFault::NoLayer(0)),
-            "{\"at\":3,\"bad\":{\"cause\":\"no_layer\",\"layer\":0},\"image\":\"sha256:1111111111111111111111111111111111111111111111111111111111111111\",\"lane\":0,\"line\":5,\"read\":\"report\",\"reply\":\"bad_image\"}\n",
-        ),
-        (
-            0,
-            1,
-            ReportOutcome::NotRegistered,
-            "{\"at\":0,\"image\":\"sha256:1111111111111111111111111111111111111111111111111111111111111111\",\"lane\":0,\"line\":1,\"read\":\"report\",\"reply\":\"not_registered\"}\n",
-        ),
-    ] {
-        assert!(rt;
-            line_is(rt.alloc(), &report(front, line, outcome), want)?,
-            "{want}"
-        );
-    }
-    Ok(())
-}
-
-#[test]
-fn a_page_without_rows_has_its_line(rt: HostRuntime) -> Result<(), Fail> {
-    for (front, line, number, outcome, want) in [
-        (
-            4,
-            9,
-            4,
-            PageOutcome::NoPage { pages: 3 },
-            "{\"at\":4,\"lane\":0,\"line\":9,\"number\":1,\"page\":4,\"pages\":3,\"read\":\"page\",\"reply\":\"no_page\",\"size\":2}\n",
-        ),
-        (
-            5,
-            12,
-            1,
-            PageOutcome::NoNotification,
-            "{\"at\":5,\"lane\":0,\"line\":12,\"number\":1,\"page\":1,\"read\":\"page\",\"reply\":\"no_notification\",\"size\":2}\n",
-        ),
-    ] {
-        assert!(rt;
-            line_is(rt.alloc(), &page(front, line, number, outcome), want)?,
-            "{want}"
-        );
-    }
-    Ok(())
-}
+const LINES: &str =
+    r#"{"at":1,"image":"sha256:1111111111111111111111111111111111111111111111111111111111111111","lane":0,"layer":"sha256:aaaaaaaaaaaaaaaaaaaaaaaaaaaaaaaaaaaaaaaaaaaaaaaaaaaaaaaaaaaaaaaa","line":2,"read":"report","reply":"pending"}
+{"at":3,"findings":[],"generation":0,"image":"sha256:1111111111111111111111111111111111111111111111111111111111111111","lane":0,"line":5,"read":"report","reply":"good"}
+{"at":3,"bad":{"cause":"no_layer","layer":0},"image":"sha256:1111111111111111111111111111111111111111111111111111111111111111","lane":0,"line":5,"read":"report","reply":"bad_image"}
+{"at":0,"image":"sha256:1111111111111111111111111111111111111111111111111111111111111111","lane":0,"line":1,"read":"report","reply":"not_registered"}
+{"at":4,"lane":0,"line":9,"number":1,"page":4,"pages":3,"read":"page","reply":"no_page","size":2}
+{"at":5,"lane":0,"line":12,"number":1,"page":1,"read":"page","reply":"no_notification","size":2}
+{"at":6,"lane":0,"line":11,"number":3,"page":1,"pages":1,"read":"page","reply":"page","rows":[{"finding":{"advisory":"X-1","arch":"amd64","ecosystem":"Debian:12","feed":"deb","fixed":"3.0.12-1","kind":"deb","name":"libssl3","path":"var/lib/dpkg/status","source":"openssl","source_version":"3.0.9-1","version":"3.0.9-1+b1"},"image":"sha256:1111111111111111111111111111111111111111111111111111111111111111","reason":"changed"}],"size":10}
+{"at":6,"lane":0,"line":10,"notifications":[{"number":1,"rows":1},{"number":3,"rows":1}],"read":"list","reply":"list"}
+{"at":2,"lane":0,"line":6,"reply":"no_memory"}
+"#;
 
 fn package(alloc: Global) -> Result<Package, Fail> {
     Ok(Package {
@@ -129,61 +57,79 @@ fn finding(alloc: Global) -> Result<Finding, Fail> {
 
 fn changed_row(alloc: Global) -> Result<Row, Fail> {
     Ok(Row {
-        image: Digest::of(ONES),
+        image: Digest::of([0x11; 32]),
         reason: Reason::Changed,
         finding: finding(alloc)?,
     })
 }
 
-#[test]
-fn a_page_has_its_rows(rt: HostRuntime) -> Result<(), Fail> {
-    let rows = Seq::of(vec![in rt.alloc(); changed_row(rt.alloc())?]?);
-    let entry = read(
-        6,
-        11,
-        Answer::Page {
-            number: 3,
-            size: 10,
-            page: 1,
-            outcome: PageOutcome::Rows { pages: 1, rows },
-        },
-    );
-    assert!(rt;
-        line_is(
-            rt.alloc(),
-            &entry,
-            "{\"at\":6,\"lane\":0,\"line\":11,\"number\":3,\"page\":1,\"pages\":1,\"read\":\"page\",\"reply\":\"page\",\"rows\":[{\"finding\":{\"advisory\":\"X-1\",\"arch\":\"amd64\",\"ecosystem\":\"Debian:12\",\"feed\":\"deb\",\"fixed\":\"3.0.12-1\",\"kind\":\"deb\",\"name\":\"libssl3\",\"path\":\"var/lib/dpkg/status\",\"source\":\"openssl\",\"source_version\":\"3.0.9-1\",\"version\":\"3.0.9-1+b1\"},\"image\":\"sha256:1111111111111111111111111111111111111111111111111111111111111111\",\"reason\":\"changed\"}],\"size\":10}\n"
-        )?
-    );
-    Ok(())
+fn page(number: u64, size: u32, page: u64, outcome: PageOutcome) -> Answer {
+    Answer::Page {
+        number,
+        size,
+        page,
+        outcome,
+    }
 }
 
-#[test]
-fn a_list_has_the_notifications(rt: HostRuntime) -> Result<(), Fail> {
-    let heads = vec![in rt.alloc();
+/// A page with one row.
+fn page_of_rows(alloc: Global) -> Result<Answer, Fail> {
+    let rows = Seq::of(vec![in alloc; changed_row(alloc)?]?);
+    Ok(page(3, 10, 1, PageOutcome::Rows { pages: 1, rows }))
+}
+
+/// A list of two notifications.
+fn list(alloc: Global) -> Result<Answer, Fail> {
+    let heads = vec![in alloc;
         NoticeHead { number: 1, rows: 1 },
         NoticeHead { number: 3, rows: 1 },
     ]?;
-    let entry = read(6, 10, Answer::List(Seq::of(heads)));
-    assert!(rt;
-        line_is(
-            rt.alloc(),
-            &entry,
-            "{\"at\":6,\"lane\":0,\"line\":10,\"notifications\":[{\"number\":1,\"rows\":1},{\"number\":3,\"rows\":1}],\"read\":\"list\",\"reply\":\"list\"}\n"
-        )?
-    );
-    Ok(())
+    Ok(Answer::List(Seq::of(heads)))
+}
+
+fn report(alloc: Global, reply: &str) -> Answer {
+    let outcome = match reply {
+        "pending" => ReportOutcome::Pending(Digest::of([0xaa; 32])),
+        "good" => ReportOutcome::Good {
+            generation: 0,
+            findings: Seq::of(Vec::new(alloc)),
+        },
+        "bad_image" => ReportOutcome::BadImage(ImageFault::NoLayer(0)),
+        _ => ReportOutcome::NotRegistered,
+    };
+    let image = Digest::of([0x11; 32]);
+    Answer::Report { image, outcome }
+}
+
+fn answer(alloc: Global, reply: &str) -> Result<Answer, Fail> {
+    match reply {
+        "no_page" => Ok(page(1, 2, 4, PageOutcome::NoPage { pages: 3 })),
+        "no_notification" => Ok(page(1, 2, 1, PageOutcome::NoNotification)),
+        "page" => page_of_rows(alloc),
+        "list" => list(alloc),
+        "no_memory" => Ok(Answer::NoMemory),
+        reply => Ok(report(alloc, reply)),
+    }
+}
+
+/// The line of a read.
+fn line(alloc: Global, row: &ReadRow) -> Result<String, Fail> {
+    let (front, line, reply) = *row;
+    let entry = Entry::Read(ReadEntry {
+        front,
+        lane: 0,
+        line,
+        answer: answer(alloc, reply)?,
+    });
+    Ok(entry_line(alloc, &entry)?)
 }
 
 #[test]
-fn a_read_out_of_memory_has_neither_read_nor_event(rt: HostRuntime) -> Result<(), Fail> {
-    let entry = read(2, 6, Answer::NoMemory);
-    assert!(rt;
-        line_is(
-            rt.alloc(),
-            &entry,
-            "{\"at\":2,\"lane\":0,\"line\":6,\"reply\":\"no_memory\"}\n"
-        )?
-    );
+fn reads_have_their_lines(rt: HostRuntime) -> Result<(), Fail> {
+    let mut lines = String::new(rt.alloc());
+    for row in READS {
+        lines.push_str(line(rt.alloc(), row)?.as_str())?;
+    }
+    assert_eq!(rt; lines.as_str(), LINES);
     Ok(())
 }

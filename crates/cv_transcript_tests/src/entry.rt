@@ -1,13 +1,51 @@
 use cv_base::{Digest, NoMemory, Seq, Text};
 use cv_records::{Act, By, EventEntry, Reply};
-use cv_request::RequestError;
+use cv_request::{RequestError, RequestWhat};
 use cv_transcript::{Entry, entry_line};
 use std::alloc::Global;
 use std::test::Fail;
 
-const ONES: [u8; 32] = [0x11; 32];
+/// The number of an event, the line of lane 0 that submits it, or none for worker 0, what it is about, and the reply.
+type EventRow = (u64, Option<u64>, &'static str, &'static str);
 
-const LAYER: [u8; 32] = [0xaa; 32];
+const EVENTS: &[EventRow] = &[
+    (1, Some(1), "register", "registered"),
+    (3, Some(3), "register", "conflict"),
+    (2, Some(7), "drop", "dropped"),
+    (4, Some(4), "update", "updated"),
+    (5, Some(11), "ack", "acked"),
+    (6, Some(13), "ack", "no_notification"),
+    (2, None, "claim", "claimed"),
+    (3, None, "indexed", "entered"),
+    (3, None, "fault", "requeued"),
+    (4, None, "memory", "not_claimed"),
+];
+
+const LINES: &str =
+    r#"{"at":1,"event":"register","image":"sha256:1111111111111111111111111111111111111111111111111111111111111111","lane":0,"line":1,"reply":"registered"}
+{"at":3,"event":"register","image":"sha256:1111111111111111111111111111111111111111111111111111111111111111","kept":["sha256:aaaaaaaaaaaaaaaaaaaaaaaaaaaaaaaaaaaaaaaaaaaaaaaaaaaaaaaaaaaaaaaa"],"lane":0,"line":3,"reply":"conflict"}
+{"at":2,"event":"drop","image":"sha256:1111111111111111111111111111111111111111111111111111111111111111","lane":0,"line":7,"reply":"dropped"}
+{"at":4,"event":"update","feed":"deb","generation":1,"lane":0,"line":4,"reply":"updated","rows":1}
+{"at":5,"event":"ack","lane":0,"line":11,"number":1,"reply":"acked"}
+{"at":6,"event":"ack","lane":0,"line":13,"number":1,"reply":"no_notification"}
+{"at":2,"event":"claim","layer":"sha256:aaaaaaaaaaaaaaaaaaaaaaaaaaaaaaaaaaaaaaaaaaaaaaaaaaaaaaaaaaaaaaaa","reply":"claimed","worker":0}
+{"at":3,"event":"indexed","layer":"sha256:aaaaaaaaaaaaaaaaaaaaaaaaaaaaaaaaaaaaaaaaaaaaaaaaaaaaaaaaaaaaaaaa","reply":"entered","worker":0}
+{"at":3,"event":"fault","layer":"sha256:aaaaaaaaaaaaaaaaaaaaaaaaaaaaaaaaaaaaaaaaaaaaaaaaaaaaaaaaaaaaaaaa","reply":"requeued","worker":0}
+{"at":4,"event":"memory","layer":"sha256:aaaaaaaaaaaaaaaaaaaaaaaaaaaaaaaaaaaaaaaaaaaaaaaaaaaaaaaaaaaaaaaa","reply":"not_claimed","worker":0}
+"#;
+
+/// Replies that are only names.
+const NAMES: &[&str] = &[
+    "already",
+    "too_many_images",
+    "not_registered",
+    "taken",
+    "unwanted",
+    "discarded",
+    "too_many_feeds",
+];
+
+const REFUSED: &str = "{\"line\":10,\"refused\":\"bad_request\",\"what\":\"bad_size\"}\n";
 
 fn is_shared<T: Send + Sync>() {}
 
@@ -16,180 +54,97 @@ fn entries_are_shared() {
     is_shared::<Entry>();
 }
 
-fn line_is(alloc: Global, entry: &Entry, want: &str) -> Result<bool, NoMemory> {
-    Ok(entry_line(alloc, entry)?.as_str() == want)
-}
-
-fn lane_event(number: u64, line: u64, act: Act, reply: Reply) -> Entry {
-    let by = By::Lane { lane: 0, line };
-    Entry::Event(EventEntry {
-        number,
-        by,
-        act,
-        reply,
+fn act(alloc: Global, event: &str) -> Result<Act, NoMemory> {
+    let image = Digest::of([0x11; 32]);
+    let layer = Digest::of([0xaa; 32]);
+    Ok(match event {
+        "register" => Act::Register(image),
+        "drop" => Act::DropImage(image),
+        "claim" => Act::Claim(layer),
+        "indexed" => Act::Indexed(layer),
+        "fault" => Act::Fault(layer),
+        "memory" => Act::Memory(layer),
+        "update" => Act::Update(Text::of(alloc, "deb")?),
+        _ => Act::Ack(1),
     })
 }
 
-fn worker_event(number: u64, act: Act, reply: Reply) -> Entry {
-    let by = By::Worker(0);
-    Entry::Event(EventEntry {
-        number,
-        by,
-        act,
-        reply,
+fn reply(alloc: Global, name: &str) -> Result<Reply, NoMemory> {
+    Ok(match name {
+        "conflict" => Reply::Conflict {
+            kept: Seq::of(vec![in alloc; Digest::of([0xaa; 32])]?),
+        },
+        "updated" => Reply::Updated {
+            generation: 1,
+            rows: 1,
+        },
+        name => plain_reply(name),
     })
 }
 
-#[test]
-fn an_event_of_a_lane_has_its_line(rt: HostRuntime) -> Result<(), Fail> {
-    let entry = lane_event(1, 1, Act::Register(Digest::of(ONES)), Reply::Registered);
-    assert!(rt;
-        line_is(
-            rt.alloc(),
-            &entry,
-            "{\"at\":1,\"event\":\"register\",\"image\":\"sha256:1111111111111111111111111111111111111111111111111111111111111111\",\"lane\":0,\"line\":1,\"reply\":\"registered\"}\n"
-        )?
-    );
-    Ok(())
+/// A reply that is only a name.
+fn plain_reply(name: &str) -> Reply {
+    match name {
+        "registered" => Reply::Registered,
+        "already" => Reply::Already,
+        "too_many_images" => Reply::TooManyImages,
+        "dropped" => Reply::Dropped,
+        "not_registered" => Reply::NotRegistered,
+        "claimed" => Reply::Claimed,
+        "taken" => Reply::Taken,
+        "unwanted" => Reply::Unwanted,
+        "entered" => Reply::Entered,
+        "discarded" => Reply::Discarded,
+        "requeued" => Reply::Requeued,
+        "not_claimed" => Reply::NotClaimed,
+        "too_many_feeds" => Reply::TooManyFeeds,
+        "acked" => Reply::Acked,
+        _ => Reply::NoNotification,
+    }
 }
 
-#[test]
-fn a_conflict_has_the_layers_that_it_keeps(rt: HostRuntime) -> Result<(), Fail> {
-    let kept = Seq::of(vec![in rt.alloc(); Digest::of(LAYER)]?);
-    let entry = lane_event(
-        3,
-        3,
-        Act::Register(Digest::of(ONES)),
-        Reply::Conflict { kept },
-    );
-    assert!(rt;
-        line_is(
-            rt.alloc(),
-            &entry,
-            "{\"at\":3,\"event\":\"register\",\"image\":\"sha256:1111111111111111111111111111111111111111111111111111111111111111\",\"kept\":[\"sha256:aaaaaaaaaaaaaaaaaaaaaaaaaaaaaaaaaaaaaaaaaaaaaaaaaaaaaaaaaaaaaaaa\"],\"lane\":0,\"line\":3,\"reply\":\"conflict\"}\n"
-        )?
-    );
-    Ok(())
-}
-
-#[test]
-fn a_dropped_image_has_its_line(rt: HostRuntime) -> Result<(), Fail> {
-    let entry = lane_event(2, 7, Act::DropImage(Digest::of(ONES)), Reply::Dropped);
-    assert!(rt;
-        line_is(
-            rt.alloc(),
-            &entry,
-            "{\"at\":2,\"event\":\"drop\",\"image\":\"sha256:1111111111111111111111111111111111111111111111111111111111111111\",\"lane\":0,\"line\":7,\"reply\":\"dropped\"}\n"
-        )?
-    );
-    Ok(())
-}
-
-#[test]
-fn an_update_has_its_generation_and_its_number_of_rows(rt: HostRuntime) -> Result<(), Fail> {
-    let feed = Text::of(rt.alloc(), "deb")?;
-    let reply = Reply::Updated {
-        generation: 1,
-        rows: 1,
+fn event(alloc: Global, row: &EventRow) -> Result<EventEntry, NoMemory> {
+    let (number, line, event, name) = *row;
+    let by = match line {
+        Some(line) => By::Lane { lane: 0, line },
+        None => By::Worker(0),
     };
-    let entry = lane_event(4, 4, Act::Update(feed), reply);
-    assert!(rt;
-        line_is(
-            rt.alloc(),
-            &entry,
-            "{\"at\":4,\"event\":\"update\",\"feed\":\"deb\",\"generation\":1,\"lane\":0,\"line\":4,\"reply\":\"updated\",\"rows\":1}\n"
-        )?
-    );
-    Ok(())
+    Ok(EventEntry {
+        number,
+        by,
+        act: act(alloc, event)?,
+        reply: reply(alloc, name)?,
+    })
+}
+
+/// The line of an event.
+fn line(alloc: Global, row: &EventRow) -> Result<String, NoMemory> {
+    entry_line(alloc, &Entry::Event(event(alloc, row)?))
 }
 
 #[test]
-fn an_acknowledgement_has_its_number(rt: HostRuntime) -> Result<(), Fail> {
-    for (number, line, reply, want) in [
-        (
-            5,
-            11,
-            Reply::Acked,
-            "{\"at\":5,\"event\":\"ack\",\"lane\":0,\"line\":11,\"number\":1,\"reply\":\"acked\"}\n",
-        ),
-        (
-            6,
-            13,
-            Reply::NoNotification,
-            "{\"at\":6,\"event\":\"ack\",\"lane\":0,\"line\":13,\"number\":1,\"reply\":\"no_notification\"}\n",
-        ),
-    ] {
-        let entry = lane_event(number, line, Act::Ack(1), reply);
-        assert!(rt; line_is(rt.alloc(), &entry, want)?, "{want}");
+fn events_have_their_lines(rt: HostRuntime) -> Result<(), Fail> {
+    let mut lines = String::new(rt.alloc());
+    for row in EVENTS {
+        lines.push_str(line(rt.alloc(), row)?.as_str())?;
     }
-    Ok(())
-}
-
-#[test]
-fn an_event_of_a_worker_has_its_worker(rt: HostRuntime) -> Result<(), Fail> {
-    let layer = Digest::of(LAYER);
-    for (number, act, reply, want) in [
-        (
-            2,
-            Act::Claim(layer),
-            Reply::Claimed,
-            "{\"at\":2,\"event\":\"claim\",\"layer\":\"sha256:aaaaaaaaaaaaaaaaaaaaaaaaaaaaaaaaaaaaaaaaaaaaaaaaaaaaaaaaaaaaaaaa\",\"reply\":\"claimed\",\"worker\":0}\n",
-        ),
-        (
-            3,
-            Act::Indexed(layer),
-            Reply::Entered,
-            "{\"at\":3,\"event\":\"indexed\",\"layer\":\"sha256:aaaaaaaaaaaaaaaaaaaaaaaaaaaaaaaaaaaaaaaaaaaaaaaaaaaaaaaaaaaaaaaa\",\"reply\":\"entered\",\"worker\":0}\n",
-        ),
-        (
-            3,
-            Act::Fault(layer),
-            Reply::Requeued,
-            "{\"at\":3,\"event\":\"fault\",\"layer\":\"sha256:aaaaaaaaaaaaaaaaaaaaaaaaaaaaaaaaaaaaaaaaaaaaaaaaaaaaaaaaaaaaaaaa\",\"reply\":\"requeued\",\"worker\":0}\n",
-        ),
-        (
-            4,
-            Act::Memory(layer),
-            Reply::NotClaimed,
-            "{\"at\":4,\"event\":\"memory\",\"layer\":\"sha256:aaaaaaaaaaaaaaaaaaaaaaaaaaaaaaaaaaaaaaaaaaaaaaaaaaaaaaaaaaaaaaaa\",\"reply\":\"not_claimed\",\"worker\":0}\n",
-        ),
-    ] {
-        let entry = worker_event(number, act, reply);
-        assert!(rt; line_is(rt.alloc(), &entry, want)?, "{want}");
-    }
+    assert_eq!(rt; lines.as_str(), LINES);
     Ok(())
 }
 
 #[test]
 fn each_reply_has_its_name(rt: HostRuntime) -> Result<(), Fail> {
-    for (reply, want) in [
-        (Reply::Already, "already"),
-        (Reply::TooManyImages, "too_many_images"),
-        (Reply::NotRegistered, "not_registered"),
-        (Reply::Taken, "taken"),
-        (Reply::Unwanted, "unwanted"),
-        (Reply::Discarded, "discarded"),
-        (Reply::TooManyFeeds, "too_many_feeds"),
-    ] {
-        let line = entry_line(rt.alloc(), &worker_event(1, Act::Ack(1), reply))?;
-        assert!(rt; line.contains(want), "{want}");
+    for name in NAMES {
+        let line = line(rt.alloc(), &(1, None, "ack", *name))?;
+        assert!(rt; line.contains(*name), "{name}");
     }
     Ok(())
 }
 
 #[test]
 fn a_refused_line_has_its_reason(rt: HostRuntime) -> Result<(), Fail> {
-    let what = cv_request::RequestWhat::BadSize;
-    let entry = Entry::Refused {
-        line: 10,
-        error: RequestError::BadRequest(what),
-    };
-    assert!(rt;
-        line_is(
-            rt.alloc(),
-            &entry,
-            "{\"line\":10,\"refused\":\"bad_request\",\"what\":\"bad_size\"}\n"
-        )?
-    );
+    let error = RequestError::BadRequest(RequestWhat::BadSize);
+    let line = entry_line(rt.alloc(), &Entry::Refused { line: 10, error })?;
+    assert_eq!(rt; line.as_str(), REFUSED);
     Ok(())
 }
