@@ -3,29 +3,17 @@ use denote.RattleType.{RattleType}
 use denote.Param.Send.{IsSend, IsSync, sendable}
 use denote.Param.SendFields.{declared_send, declared_sync}
 use Rattle.std.proofs.Crossing.{crosses}
-use Rattle.std.proofs.MapsCrossing as maps
 use Rattle.std.specs.declared.cmp.Ord as order
 use Rattle.std.specs.declared.cmp.PartialEq as equality
 use Rattle.std.specs.declared.cmp.PartialOrd as partial_order
 use Rattle.cv_seq.proofs.seq.Seq.TheSendSync as seq
 use Rattle.cv_seq.proofs.text.Text.TheSendSync as text
-use Rattle.cv_base.proofs.advisory.Advisory.TheSendSync as advisory
 use Rattle.cv_base.proofs.digest.Digest.TheSendSync as digest
-use Rattle.cv_base.proofs.«package».PackageName.TheSendSync as package_name
 use Rattle.cv_avl.proofs.branch.Branch.TheLaws.TheKnot as nodes
 use Rattle.cv_avl.proofs.share.Shared.TheSendSync as shared
 use Rattle.cv_avl.specs.contracts.branch.Branch as branch
 use Rattle.cv_tree.specs.contracts.tree.Tree as tree
-use Rattle.cv_match.proofs.entry.PreparedEntries.TheSendSync as entries
-use Rattle.cv_match.specs.contracts.kinds.PreparedForKinds as kinds
-use Rattle.cv_match.specs.contracts.prepared.PreparedRecord as prepared
-use Rattle.cv_match.specs.contracts.prepared.ReadyAdvisory as ready
-use Rattle.cv_advdb.specs.contracts.feeds.Feeds as feeds
-use Rattle.cv_advdb.specs.contracts.index.RecordList as list
-use Rattle.cv_advdb.specs.contracts.record.PreparedRecord as record_of
-use Rattle.cv_advdb.specs.contracts.record.StoredRecord as stored
-use Rattle.cv_advdb.specs.contracts.stock.IndexedRecords as indexed
-use Rattle.cv_advdb.specs.contracts.stock.Stock as stock
+use Rattle.cv_advdb.proofs.Crossing.{feeds_send, feeds_sync}
 use Rattle.cv_desk.specs.declared.desk.Desk as desk
 use Rattle.cv_facts.proofs.facts.LayerFacts.TheSendSync as facts
 use Rattle.cv_outcome.proofs.outcome.Outcome.TheSendSync as outcome
@@ -68,61 +56,6 @@ ruleset small = (
   digest.the_send,
   digest.the_sync,
 )
-
--- the feeds
-prepared_send : IsSend prepared.the_row
-prepared_send = search (entries.the_send, sendable, crosses, declared_send) depth 30 fits 5000
-
-prepared_sync : IsSync prepared.the_row
-prepared_sync = search (entries.the_sync, sendable, crosses, declared_sync) depth 30 fits 5000
-
-ready_send : IsSend ready.the_row
-ready_send = search (prepared_send, prepared_sync, sendable, crosses, declared_send) depth 30 fits 5000
-
-ready_sync : IsSync ready.the_row
-ready_sync = search (prepared_send, prepared_sync, sendable, crosses, declared_sync) depth 30 fits 5000
-
-kinds_send : IsSend kinds.the_row
-kinds_send = search (ready_send, sendable, declared_send) depth 30 fits 5000
-
-kinds_sync : IsSync kinds.the_row
-kinds_sync = search (ready_sync, sendable, declared_sync) depth 30 fits 5000
-
-record_send : IsSend record_of.the_row
-record_send = search (kinds_send, advisory.the_send, sendable, declared_send) depth 30 fits 5000
-
-record_sync : IsSync record_of.the_row
-record_sync = search (kinds_sync, advisory.the_sync, sendable, declared_sync) depth 30 fits 5000
-
-stored_send : IsSend stored.the_row
-stored_send = search (record_send, record_sync, sendable, crosses, declared_send) depth 30 fits 5000
-
-stored_sync : IsSync stored.the_row
-stored_sync = search (record_send, record_sync, sendable, crosses, declared_sync) depth 30 fits 5000
-
-list_send : IsSend list.the_row
-list_send = search (stored_send, sendable, crosses, declared_send) depth 30 fits 5000
-
-list_sync : IsSync list.the_row
-list_sync = search (stored_sync, sendable, crosses, declared_sync) depth 30 fits 5000
-
-indexed_send : IsSend indexed.the_row
-indexed_send = search (stored_send, list_send, package_name.the_send, sendable, crosses, maps.crosses, declared_send) depth 30 fits 5000
-
-indexed_sync : IsSync indexed.the_row
-indexed_sync = search (stored_sync, list_sync, package_name.the_sync, sendable, crosses, maps.crosses, declared_sync) depth 30 fits 5000
-
-stock_send : IsSend stock.the_row
-stock_send = search (indexed_send, indexed_sync, sendable, crosses, declared_send) depth 30 fits 5000
-
-stock_sync : IsSync stock.the_row
-stock_sync = search (indexed_send, indexed_sync, sendable, crosses, declared_sync) depth 30 fits 5000
-
-feeds_send : IsSend feeds.the_row
-feeds_send = search (stock_send, text.the_send, sendable, crosses, maps.crosses, declared_send) depth 30 fits 5000
-
-feeds_sync : IsSync feeds.the_row
-feeds_sync = search (stock_sync, text.the_sync, sendable, crosses, maps.crosses, declared_sync) depth 30 fits 5000
 
 -- the images and their layers
 registry_send : IsSend registry.the_row

@@ -35,12 +35,12 @@ const OPENSSL: Flaw<'static> = Flaw {
     ranges: &[("0", Some("3.0.11-1"))],
 };
 
-/// A desk with the layers `b`, `w` and `m`: the base, the whiteout and the mark.
-fn desk(alloc: Global) -> Result<SampleDesk, NoMemory> {
+/// The layers `b`, `w` and `m`: the base, the whiteout and the mark.
+fn layers(alloc: Global) -> Result<Vec<SampleLayer>, NoMemory> {
     let base = SampleLayer::of_rows(alloc, layer(b'b'), &BASE)?;
     let without = SampleLayer::of_rows(alloc, layer(b'w'), &WITHOUT)?;
     let marked = SampleLayer::of_rows(alloc, layer(b'm'), &MARKED)?;
-    Ok(SampleDesk::of(vec![in alloc; base, without, marked]?))
+    Ok(vec![in alloc; base, without, marked]?)
 }
 
 fn layer(letter: u8) -> Digest {
@@ -50,7 +50,8 @@ fn layer(letter: u8) -> Digest {
 /// Scans an image of three layers on a desk whose call of this number fails: its findings, a line each, or why it has none. Calls are
 /// numbered from 1, and a scan makes one for each layer that is listed and one for each package file that is read.
 fn scanned(alloc: Global, image: [u8; 3], failing: u64) -> Result<String, NoMemory> {
-    let mut desk = Faulty::new(desk(alloc)?, Seq::of(vec![in alloc; failing]?));
+    let desk = SampleDesk::of(layers(alloc)?);
+    let mut desk = Faulty::new(desk, Seq::of(vec![in alloc; failing]?));
     let feed = Text::of(alloc, "scan")?;
     let records = vec![in alloc; advisory(alloc, &OPENSSL)?]?;
     let [base, middle, upper] = image;

@@ -12,10 +12,19 @@ use std::marker::Model;
 
 /// Images, layers and feeds. Contracts see what it holds as the machine has it. Beside that it knows the facts of the layers that
 /// are indexed, and the outcome of each image, which is that of its layers' facts and the feeds as they are.
-#[derive(Drop)]
 pub struct Inventory<D: Desk> {
     pub(crate) registry: Registry,
     pub(crate) knowledge: Knowledge<D>,
+}
+
+/// Written out, so that the crates above call it, and do not prove anew how each part is dropped.
+impl<D: Desk + Drop> Drop for Inventory<D> {
+    fn drop(self) {
+        let Inventory {
+            registry: _,
+            knowledge: _,
+        } = self;
+    }
 }
 
 impl<D: Desk> Model for Inventory<D> {

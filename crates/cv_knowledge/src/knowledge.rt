@@ -23,11 +23,21 @@ pub(crate) type Facts<D> = Tree<Digest, Shared<LayerFacts<D>>>;
 pub type Outcomes = Tree<Digest, Outcome>;
 
 /// The facts of layers, the outcomes of images, and the feeds.
-#[derive(Drop)]
 pub struct Knowledge<D: Desk> {
     pub(crate) facts: Facts<D>,
     pub(crate) outcomes: Outcomes,
     pub(crate) feeds: Shared<Feeds>,
+}
+
+/// Written out, so that the crates above call it, and do not prove anew how each part is dropped.
+impl<D: Desk + Drop> Drop for Knowledge<D> {
+    fn drop(self) {
+        let Knowledge {
+            facts: _,
+            outcomes: _,
+            feeds: _,
+        } = self;
+    }
 }
 
 impl<D: Desk> Model for Knowledge<D> {

@@ -18,9 +18,15 @@ use std::marker::Model;
 
 /// The notifications that are not acknowledged. Contracts see them as pairs of a number and the rows, in ascending order
 /// of the numbers, which is the order in which they were added.
-#[derive(Drop)]
 pub struct Notices {
     inner: Vec<(u64, Shared<Seq<Row>>)>,
+}
+
+/// Written out, so that the crates above call it, and do not prove anew how each part is dropped.
+impl Drop for Notices {
+    fn drop(self) {
+        let Notices { inner: _ } = self;
+    }
 }
 
 impl Model for Notices {

@@ -1,15 +1,19 @@
-ghost use Rattle.std.specs.Prelude.{◌≡◌, IfOk};
+ghost use Rattle.std.specs.Prelude.{◌≡◌, ◌+◌, ◌^◌, ◌<◌, false, IfOk};
 ghost use Rattle.cv_machine.specs.History.{act_name};
-ghost use Rattle.cv_steps.specs.Core.{act_of};
+ghost use Rattle.cv_machine.specs.Scans.{IsKnown, Trees, trees_of};
+ghost use Rattle.cv_machine.specs.Step.{step};
+ghost use Rattle.cv_steps.specs.Core.{IsSound, act_of, counted, is_update};
 
-use cv_base::{Advisory, Digest, Manifest, Seq, Text};
+use crate::machine::Machine;
+use cv_base::{Advisory, Digest, Manifest, Seq, Steps, Text};
 use cv_desk::Desk;
 use cv_facts::LayerFacts;
-use cv_records::Act;
+use cv_records::{Act, Reply};
 use cv_seq::NoMemory;
+use std::alloc::Global;
+use std::sync::ledger::Ledger;
 
 /// An event of the machine. Workers are numbered from 0.
-#[derive(Drop)]
 pub enum Event<D: Desk> {
     /// Registers an image of 1 to 128 layers.
     Register(Manifest),
@@ -29,6 +33,22 @@ pub enum Event<D: Desk> {
     Ack(u64),
 }
 
+/// Written out, so that the crates above call it, and do not prove anew how each part is dropped.
+impl<D: Desk + Drop> Drop for Event<D> {
+    fn drop(self) {
+        match self {
+            Event::Register(_) => {}
+            Event::DropImage(_) => {}
+            Event::Claim(_, _) => {}
+            Event::Indexed(_, _) => {}
+            Event::Fault(_, _) => {}
+            Event::Memory(_, _) => {}
+            Event::Update(_, _) => {}
+            Event::Ack(_) => {}
+        }
+    }
+}
+
 impl<D: Desk> Event<D> {
     /// The event as the transcript names it.
     pub fn name(&self) -> Result<Act, NoMemory>
@@ -43,6 +63,33 @@ impl<D: Desk> Event<D> {
             Event::Memory(layer, _) => Ok(Act::Memory(*layer)),
             Event::Update(feed, _) => Ok(Act::Update(feed.clone()?)),
             Event::Ack(number) => Ok(Act::Ack(*number)),
+        }
+    }
+}
+
+impl<D: Desk + Drop> Event<D> {
+    /// The machine after this event, with its reply.
+    pub(crate) fn after<L: Ledger>(
+        self,
+        alloc: Global,
+        machine: &Machine<D>,
+        steps: &mut Steps<L>,
+    ) -> Result<(Machine<D>, Reply), NoMemory>
+        requires room { machine.now.count < 2 ^ 63 }
+        requires sound { IsSound (act_of self) }
+        ensures stepped { IsKnown D.tree → IfOk result (λ after. after ≡ counted machine.now (step (trees_of D.tree) machine.now.state (act_of self))) }
+        ensures others { (trees : Trees) → is_update (act_of self) ≡ false → IfOk result (λ after. after ≡ counted machine.now (step trees machine.now.state (act_of self))) }
+        ensures count { IfOk result (λ after. after.0.count ≡ machine.now.count + 1) }
+    {
+        match self {
+            Event::Register(manifest) => machine.register(alloc, &manifest, steps),
+            Event::DropImage(image) => machine.drop_image(alloc, &image),
+            Event::Claim(layer, worker) => machine.claim(alloc, &layer, worker),
+            Event::Indexed(facts, worker) => machine.index(alloc, facts, worker, steps),
+            Event::Fault(layer, worker) => machine.requeue(alloc, &layer, worker),
+            Event::Memory(layer, worker) => machine.requeue(alloc, &layer, worker),
+            Event::Update(feed, records) => machine.update(alloc, feed, records, steps),
+            Event::Ack(number) => machine.ack(alloc, number),
         }
     }
 }

@@ -16,12 +16,23 @@ use std::marker::Model;
 
 /// The machine of the service. Contracts see its state, and how many events it replied to. The outcome of each image is kept, so
 /// that reports are read without matching.
-#[derive(Drop)]
 pub struct Machine<D: Desk> {
     pub(crate) inventory: Inventory<D>,
     pub(crate) notices: Shared<Notices>,
     pub(crate) generation: u64,
     pub(crate) count: u64,
+}
+
+/// Written out, so that the crates above call it, and do not prove anew how each part is dropped.
+impl<D: Desk + Drop> Drop for Machine<D> {
+    fn drop(self) {
+        let Machine {
+            inventory: _,
+            notices: _,
+            generation: _,
+            count: _,
+        } = self;
+    }
 }
 
 impl<D: Desk> Model for Machine<D> {

@@ -27,15 +27,6 @@ impl<D: Desk + Drop> Machine<D> {
         ensures others { (trees : Trees) → is_update (act_of event) ≡ false → IfOk result (λ after. after ≡ counted self.now (step trees self.now.state (act_of event))) }
         ensures count { IfOk result (λ after. after.0.count ≡ self.now.count + 1) }
     {
-        match event {
-            Event::Register(manifest) => self.register(alloc, &manifest, steps),
-            Event::DropImage(image) => self.drop_image(alloc, &image),
-            Event::Claim(layer, worker) => self.claim(alloc, &layer, worker),
-            Event::Indexed(facts, worker) => self.index(alloc, facts, worker, steps),
-            Event::Fault(layer, worker) => self.requeue(alloc, &layer, worker),
-            Event::Memory(layer, worker) => self.requeue(alloc, &layer, worker),
-            Event::Update(feed, records) => self.update(alloc, feed, records, steps),
-            Event::Ack(number) => self.ack(alloc, number),
-        }
+        event.after(alloc, self, steps)
     }
 }

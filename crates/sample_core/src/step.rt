@@ -81,8 +81,9 @@ fn indexed(alloc: Global, work: Work) -> Result<Event<SampleDesk>, NoMemory> {
 }
 
 fn update(alloc: Global, feed: &str, code: u32) -> Result<Event<SampleDesk>, NoMemory> {
+    let name = Text::of(alloc, feed)?;
     let records = advisories(alloc, code)?;
-    Ok(Event::Update(Text::of(alloc, feed)?, Seq::of(records)))
+    Ok(Event::Update(name, Seq::of(records)))
 }
 
 fn manifest(alloc: Global, image: u8, letters: &[u8]) -> Result<Manifest, NoMemory> {
