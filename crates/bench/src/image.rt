@@ -1,7 +1,8 @@
-ghost use Rattle.std.specs.Prelude.{◌≤◌, length};
+ghost use Rattle.std.specs.Prelude.{◌<◌, ◌≤◌, ◌^◌, length};
 ghost use Rattle.cv_base.specs.declared.limits.TheConstants.{MAX_LAYERS};
 
-use cv_base::{Advisory, Digest, MAX_LAYERS, NoMemory, Text};
+use cv_base::{Digest, Finding, MAX_LAYERS, NoMemory, Seq, Text};
+use cv_desk::Desk;
 use cv_folder_desk::FolderDesk;
 use cv_image::scan_layers;
 use cv_scan::{ImageError, scan_image};
@@ -27,15 +28,30 @@ pub fn scanned(rt: &HostRuntime, arguments: &[String]) -> Result<u64, NoMemory> 
 fn scan(rt: &HostRuntime, by_root: bool, layers: &[Digest]) -> Result<u64, NoMemory>
     requires at_most_128_layers { length layers.now ≤ MAX_LAYERS }
 {
-    let alloc = rt.alloc();
+    match rt.clone() {
+        Ok(host) => scan_at(rt.alloc(), &mut FolderDesk::new(host), by_root, layers),
+        Err(_) => Err(NoMemory),
+    }
+}
+
+fn scan_at<D: Desk>(
+    alloc: Global,
+    desk: &mut D,
+    by_root: bool,
+    layers: &[Digest],
+) -> Result<u64, NoMemory>
+    requires room { D.listings desk.old < 2 ^ 62 }
+    requires at_most_128_layers { length layers.now ≤ MAX_LAYERS }
+{
     let feed = Text::of(alloc, "scan")?;
-    let advisories: [Advisory; 0] = [];
-    let mut desk = FolderDesk::new(rt.clone().map_err(|_| NoMemory)?);
-    let found = if by_root {
-        scan_image(alloc, &mut desk, layers, &feed, &advisories)
+    if by_root {
+        count_of(scan_image(alloc, desk, layers, &feed, &[]))
     } else {
-        scan_layers(alloc, &mut desk, layers, &feed, &advisories)
-    };
+        count_of(scan_layers(alloc, desk, layers, &feed, &[]))
+    }
+}
+
+fn count_of(found: Result<Seq<Finding>, ImageError>) -> Result<u64, NoMemory> {
     match found {
         Ok(_) => Ok(1),
         Err(ImageError::NoMemory) => Err(NoMemory),

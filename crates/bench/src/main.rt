@@ -17,21 +17,17 @@
 //! It prints the piece of work and a count of what came of it. Without arguments it does a little of each.
 #![tactic(auto)]
 
-mod documents;
-mod feeds;
 mod image;
-mod lines;
-mod matching;
-mod orders;
-mod overlay;
-mod parsing;
-mod sample;
 
-use crate::orders::Order;
-use crate::sample::Sample;
 use cv_base::NoMemory;
 use sample_data::number;
+use std::alloc::Global;
 use std::{env, io};
+use timed_formats::{lines_in, packages_in, records_in, values_in};
+use timed_scan::{
+    Order, Sample, compare_pairs, lay_layers, make_records, match_packages, match_record,
+    replace_records,
+};
 
 const WORKS: [&str; 11] = [
     "feeds", "findings", "image", "lines", "match", "orders", "osv", "overlay", "parse", "records",
@@ -66,31 +62,47 @@ fn report(rt: &HostRuntime, work: &str, arguments: &[String]) -> io::Result<()> 
 /// What the work counts, and 0 for an input that is refused or for a work that there is not.
 fn run(rt: &HostRuntime, work: &str, arguments: &[String]) -> Result<u64, NoMemory> {
     let alloc = rt.alloc();
-    let kind = arguments.first().map_or("deb", String::as_str);
     match work {
-        "feeds" => {
-            let (every, times) = (number(arguments, 1, 10), number(arguments, 2, 1));
-            feeds::touched(alloc, number(arguments, 0, 100), every, times)
-        }
-        "findings" => {
-            let (packages, times) = (number(arguments, 1, 10), number(arguments, 2, 1));
-            feeds::found(alloc, number(arguments, 0, 100), packages, times)
-        }
         "image" => image::scanned(rt, arguments),
-        "lines" => lines::count(alloc, rt.reader()),
-        "match" => {
-            let (pairs, times) = (number(arguments, 1, 100), number(arguments, 2, 1));
-            matching::hits(alloc, Sample::of(kind), pairs, times)
-        }
-        "orders" => {
-            let (pairs, length) = (number(arguments, 1, 1000), number(arguments, 2, 0));
-            orders::less(alloc, Order::of(kind), pairs, length)
-        }
-        "osv" => documents::records(alloc, rt.reader()),
-        "overlay" => overlay::entries(alloc, number(arguments, 0, 200), number(arguments, 1, 0)),
-        "parse" => parsing::count(alloc, rt.reader()),
-        "records" => feeds::made(alloc, number(arguments, 0, 100), number(arguments, 1, 1)),
-        "status" => documents::packages(alloc, rt.reader()),
+        "lines" => lines_in(alloc, rt.reader()),
+        "osv" => records_in(alloc, rt.reader()),
+        "parse" => values_in(alloc, rt.reader()),
+        "status" => packages_in(alloc, rt.reader()),
+        _ => repeat(alloc, work, arguments),
+    }
+}
+
+/// The same, for work over made data.
+fn repeat(alloc: Global, work: &str, arguments: &[String]) -> Result<u64, NoMemory> {
+    let kind = arguments.first().map_or("deb", String::as_str);
+    let first = number(arguments, 0, 100);
+    match work {
+        "feeds" => replace_records(
+            alloc,
+            first,
+            number(arguments, 1, 10),
+            number(arguments, 2, 1),
+        ),
+        "findings" => match_packages(
+            alloc,
+            first,
+            number(arguments, 1, 10),
+            number(arguments, 2, 1),
+        ),
+        "match" => match_record(
+            alloc,
+            Sample::of(kind),
+            number(arguments, 1, 100),
+            number(arguments, 2, 1),
+        ),
+        "orders" => compare_pairs(
+            alloc,
+            Order::of(kind),
+            number(arguments, 1, 1000),
+            number(arguments, 2, 0),
+        ),
+        "overlay" => lay_layers(alloc, number(arguments, 0, 200), number(arguments, 1, 0)),
+        "records" => make_records(alloc, first, number(arguments, 1, 1)),
         _ => Ok(0),
     }
 }

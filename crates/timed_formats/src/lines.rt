@@ -2,21 +2,26 @@ ghost use Rattle.std.specs.Prelude.{◌^◌, IfSome};
 ghost use Rattle.cv_seq.specs.Cause.{CausedBy};
 ghost use Rattle.cv_io.specs.Fault.{is_read_fault};
 ghost use Rattle.cv_io.specs.Lines.{reading_of};
-ghost use Rattle.bench.specs.Lines.{IsCountOf};
+ghost use Rattle.timed_formats.specs.Lines.{IsCountOf};
 
 use cv_base::NoMemory;
 use cv_io::{Line, LineError, LineReader, Source, StdSource};
 use std::alloc::Global;
 use std::io::Read;
 
-const MAX_LINE: usize = 67_108_864;
+pub const MAX_LINE: usize = 67_108_864;
 
-const MAX_INPUT: u64 = 68_719_476_736;
+pub const MAX_INPUT: u64 = 68_719_476_736;
 
 /// The lines of a stream. One that cannot be read has none.
-pub fn count<R: Read + Drop>(alloc: Global, stream: R) -> Result<u64, NoMemory> {
-    match count_lines(alloc, &mut StdSource::new(stream)) {
-        Ok(lines) => Ok(lines),
+pub fn lines_in<R: Read + Drop>(alloc: Global, stream: R) -> Result<u64, NoMemory> {
+    count_of(count_lines(alloc, &mut StdSource::new(stream)))
+}
+
+/// The count of a stream, of which nothing counts if it cannot be read.
+pub fn count_of(counted: Result<u64, LineError>) -> Result<u64, NoMemory> {
+    match counted {
+        Ok(count) => Ok(count),
         Err(LineError::NoMemory) => Err(NoMemory),
         Err(LineError::ReadFault | LineError::LineTooLong | LineError::InputTooLong) => Ok(0),
     }

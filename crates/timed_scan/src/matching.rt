@@ -1,4 +1,4 @@
-ghost use Rattle.std.specs.Prelude.{◌≡◌, ◌<◌, ◌≤◌};
+ghost use Rattle.std.specs.Prelude.{◌≡◌, ◌<◌, ◌≤◌, IfOk};
 
 use crate::sample::Sample;
 use cv_base::{Advisory, NoMemory, Package, RelPath, Steps};
@@ -10,7 +10,9 @@ use std::sync::ledger::{Blank, Ledger};
 
 /// Prepares the record of a sample so many times, and then asks so many times whether it affects the package. Counts how often it
 /// does.
-pub fn hits(alloc: Global, sample: &Sample, pairs: u64, times: u64) -> Result<u64, NoMemory> {
+pub fn match_record(alloc: Global, sample: &Sample, pairs: u64, times: u64) -> Result<u64, NoMemory>
+    ensures { IfOk result (λ hits. hits ≤ pairs) }
+{
     let record = record(alloc, sample)?;
     for _ in 1..times {
         let _prepared = prepare(alloc, &record, sample.kind)?;
@@ -23,7 +25,9 @@ fn hits_of(
     record: &Advisory,
     installed: &Package,
     pairs: u64,
-) -> Result<u64, NoMemory> {
+) -> Result<u64, NoMemory>
+    ensures { IfOk result (λ hits. hits ≤ pairs) }
+{
     let prepared = prepare(alloc, record, installed.kind)?;
     let installed = prepare_package(alloc, installed)?;
     Ok(count_hits::<Brand>(Blank::new(1), &prepared, &installed, pairs))

@@ -1,11 +1,11 @@
-ghost use Rattle.std.specs.Prelude.{◌≤◌};
+ghost use Rattle.std.specs.Prelude.{◌≤◌, IfOk};
 
 use cv_base::NoMemory;
 use std::alloc::Global;
 use std::cmp::Ordering;
 
 /// An order of versions.
-#[derive(Clone, Copy, Debug, PartialEq, Eq)]
+#[derive(Clone, Copy)]
 pub enum Order {
     Debian,
     Alpine,
@@ -45,7 +45,9 @@ const ALPINE: [&str; 8] = [
 
 /// Compares so many pairs, and counts those whose first version is less. They are of usual versions, or of two versions that have
 /// so many bytes and differ in the last one, where a length is given.
-pub fn less(alloc: Global, order: Order, pairs: u64, length: u64) -> Result<u64, NoMemory> {
+pub fn compare_pairs(alloc: Global, order: Order, pairs: u64, length: u64) -> Result<u64, NoMemory>
+    ensures { IfOk result (λ less. less ≤ pairs) }
+{
     if length > 0 {
         let lower = long_version(alloc, order, length, '1')?;
         let upper = long_version(alloc, order, length, '2')?;

@@ -1,7 +1,7 @@
 use Rattle.std.proofs.Common.{◌≡◌, ◌+◌, ◌^◌, ◌≤◌, false}
 use Rattle.cv_io.specs.Reader.{reading, room_of}
-use Rattle.bench.proofs.Remaining.{Remaining}
-use Rattle.bench.proofs.lines.count_lines.Given as goal
+use Rattle.timed_formats.proofs.Remaining.{Remaining}
+use Rattle.timed_formats.proofs.lines.count_lines.Given as goal
 
 abbrev pub invariant-loop-reader : goal.invariant-loop-reader
 invariant-loop-reader g l = record {

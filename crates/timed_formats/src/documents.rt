@@ -6,11 +6,15 @@ use std::alloc::Global;
 use std::io::Read;
 
 /// The records of a JSON list of OSV records. A text that is refused has none.
-pub fn records<R: Read + Drop>(alloc: Global, stream: R) -> Result<u64, NoMemory> {
+pub fn records_in<R: Read + Drop>(alloc: Global, stream: R) -> Result<u64, NoMemory> {
     let bytes = read_whole(alloc, stream)?;
-    let Ok(text) = str::from_utf8(bytes.as_slice()) else {
-        return Ok(0);
-    };
+    match str::from_utf8(bytes.as_slice()) {
+        Ok(text) => records_of(alloc, text),
+        Err(_) => Ok(0),
+    }
+}
+
+fn records_of(alloc: Global, text: &str) -> Result<u64, NoMemory> {
     match Value::from_str(alloc, text) {
         Ok(value) => listed(alloc, &value),
         Err(_) => Ok(0),
@@ -26,9 +30,13 @@ fn listed(alloc: Global, value: &Value) -> Result<u64, NoMemory> {
 }
 
 /// The packages of a dpkg status file. One that is refused has none.
-pub fn packages<R: Read + Drop>(alloc: Global, stream: R) -> Result<u64, NoMemory> {
+pub fn packages_in<R: Read + Drop>(alloc: Global, stream: R) -> Result<u64, NoMemory> {
     let bytes = read_whole(alloc, stream)?;
-    match read_status(alloc, bytes.as_slice(), StatusRule::Needed) {
+    packages_of(alloc, bytes.as_slice())
+}
+
+fn packages_of(alloc: Global, bytes: &[u8]) -> Result<u64, NoMemory> {
+    match read_status(alloc, bytes, StatusRule::Needed) {
         Ok(packages) => Ok(packages.as_slice().len() as u64),
         Err(ReadBad::Bad(_)) => Ok(0),
         Err(ReadBad::NoMemory) => Err(NoMemory),

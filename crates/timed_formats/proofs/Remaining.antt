@@ -6,7 +6,7 @@ use Rattle.cv_io.specs.declared.line.LineError.{LineError}
 use Rattle.cv_io.specs.declared.line.LineError.TheVariants.{ReadFault, LineTooLong, InputTooLong, NoMemory}
 use Rattle.cv_io.specs.Lines.{Reading}
 use Rattle.cv_io.specs.Reader.{Reads}
-use Rattle.bench.specs.Lines.{IsCountOf}
+use Rattle.timed_formats.specs.Lines.{IsCountOf}
 
 -- the lines counted, with those that remain, are the whole
 pub record IsRest (whole rest : Reading) (count : ℕ) : Type 0 where

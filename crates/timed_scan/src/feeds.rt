@@ -1,7 +1,7 @@
 ghost use Rattle.std.specs.Prelude.{◌≡◌, ◌<◌};
 
 use cv_advdb::Feeds;
-use cv_base::{Advisory, NoMemory, Package, PackageKind, RelPath, Seq, Steps, Text};
+use cv_base::{NoMemory, Package, PackageKind, RelPath, Steps, Text};
 use cv_findings::match_all;
 use sample_data::{FeedRecords, Installed, numbered, package};
 use std::alloc::Global;
@@ -9,35 +9,40 @@ use std::marker::Brand;
 use std::sync::ledger::{Blank, Ledger};
 
 /// Makes so many records so many times, and counts the last ones.
-pub fn made(alloc: Global, count: u64, times: u64) -> Result<u64, NoMemory> {
+pub fn make_records(alloc: Global, count: u64, times: u64) -> Result<u64, NoMemory> {
+    let sample = records(count, 0);
     let mut made = 0;
     for time in 0..times {
-        made = records(count, 0).at_revision(alloc, time)?.as_slice().len() as u64;
+        made = sample.at_revision(alloc, time)?.as_slice().len() as u64;
     }
     Ok(made)
 }
 
 /// Makes a feed of so many records, and then makes and replaces its records so many times. One of `every` new records differs from
 /// the one before, and none if that is 0. Counts the keys that the last replacement touched.
-pub fn touched(alloc: Global, count: u64, every: u64, times: u64) -> Result<u64, NoMemory> {
+pub fn replace_records(alloc: Global, count: u64, every: u64, times: u64) -> Result<u64, NoMemory> {
     let sample = records(count, every);
     let mut feeds = feeds_of(alloc, sample)?;
     let mut keys = 0;
     for time in 0..times {
-        let records = sample.at_revision(alloc, time.saturating_add(1))?;
-        keys = replace(alloc, &mut feeds, records)?;
+        keys = replace(alloc, &mut feeds, sample, time.saturating_add(1))?;
     }
     Ok(keys)
 }
 
 /// Matches so many packages so many times with a feed of so many records, and counts the findings of the last time.
-pub fn found(alloc: Global, count: u64, packages: u64, times: u64) -> Result<u64, NoMemory> {
+pub fn match_packages(
+    alloc: Global,
+    count: u64,
+    packages: u64,
+    times: u64,
+) -> Result<u64, NoMemory> {
     let feeds = feeds_of(alloc, records(count, 0))?;
     let packages = packages_of(alloc, packages)?;
-    found_in::<Brand>(alloc, Blank::new(1), &feeds, &packages, times)
+    count_findings::<Brand>(alloc, Blank::new(1), &feeds, &packages, times)
 }
 
-fn found_in<L: Ledger>(
+fn count_findings<L: Ledger>(
     alloc: Global,
     blank: Blank,
     feeds: &Feeds,
@@ -58,15 +63,22 @@ fn found_in<L: Ledger>(
     Ok(found)
 }
 
-fn feeds_of(alloc: Global, records: FeedRecords) -> Result<Feeds, NoMemory> {
+fn feeds_of(alloc: Global, sample: FeedRecords) -> Result<Feeds, NoMemory> {
     let mut feeds = Feeds::new(alloc, 1)?;
-    let records = records.at_revision(alloc, 0)?;
-    replace(alloc, &mut feeds, records)?;
+    replace(alloc, &mut feeds, sample, 0)?;
     Ok(feeds)
 }
 
-fn replace(alloc: Global, feeds: &mut Feeds, records: Seq<Advisory>) -> Result<u64, NoMemory> {
-    match feeds.replace(alloc, Text::of(alloc, "feed")?, records) {
+/// Replaces the records of the feed by those of a revision, and counts the keys that this touches.
+fn replace(
+    alloc: Global,
+    feeds: &mut Feeds,
+    sample: FeedRecords,
+    revision: u64,
+) -> Result<u64, NoMemory> {
+    let feed = Text::of(alloc, "feed")?;
+    let records = sample.at_revision(alloc, revision)?;
+    match feeds.replace(alloc, feed, records) {
         Ok(touched) => Ok(touched.keys.as_slice().len() as u64),
         Err(_) => Err(NoMemory),
     }

@@ -12,7 +12,7 @@ const STEP: u64 = 13;
 
 /// Lays ten layers of so many entries on each other, and counts the entries of the root. Of each layer's entries so many are
 /// whiteouts of files of the layer below.
-pub fn entries(alloc: Global, entries: u64, whiteouts: u64) -> Result<u64, NoMemory> {
+pub fn lay_layers(alloc: Global, entries: u64, whiteouts: u64) -> Result<u64, NoMemory> {
     let entries = u32::try_from(entries).unwrap_or(u32::MAX);
     let whiteouts = u32::try_from(whiteouts).unwrap_or(u32::MAX);
     let mut root = Root::empty(alloc);
