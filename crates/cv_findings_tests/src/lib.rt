@@ -1,4 +1,4 @@
-//! Tests of `cv_findings`, in a crate of their own, since a crate with tests is proved twice.
+//! Tests of `cv_findings`: the findings of packages. Those of the rows between two lists are in `cv_findings_rows_tests`.
 #![tactic(auto)]
 
 #[cfg(test)]
