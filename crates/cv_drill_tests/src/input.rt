@@ -25,6 +25,38 @@ const LAST_REPORT: &str =
 
 const LIST: &str = r#"{"do":"list","lane":0}"#;
 
+/// Lines of the script of 7, each with its index, from 0. A round ends at an empty line; the report is the last one.
+const LINES: &[(usize, &str)] = &[
+    (0, FIRST_LINE),
+    (1, SECOND_LINE),
+    (64, ""),
+    (65, ""),
+    (67, ""),
+    (69, ""),
+    (133, LAST_REPORT),
+    (134, LIST),
+    (135, ""),
+];
+
+/// Lines with these beginnings: the feed comes twice.
+const BEGINNINGS: &[(usize, &str)] = &[(66, FIRST_UPDATE), (68, SECOND_UPDATE)];
+
+/// The SHA-256 of scripts, in hexadecimal, as another program has them, which makes the same lines.
+const SUMS: &[(u32, &str)] = &[
+    (
+        7,
+        "bb7b29c9a4f74ba939dfa5394eb75c2d5998b5b9a14fb3aa8ea11736308eaf18",
+    ),
+    (
+        1999,
+        "c4518e901be6b16a6283b3aac0d273db646df1d936002c7195e9956b80ce1de7",
+    ),
+    (
+        u32::MAX,
+        "6ba9c7aa7a88b8d49d1b8241bd75b27078912022a23f0ea4de12636b91f47655",
+    ),
+];
+
 fn lines(alloc: Global, input: &Seq<u8>) -> Result<Vec<&[u8]>, Fail> {
     Ok(
         input
@@ -34,72 +66,36 @@ fn lines(alloc: Global, input: &Seq<u8>) -> Result<Vec<&[u8]>, Fail> {
     )
 }
 
-/// The SHA-256 of a script, in hexadecimal.
-fn hash(alloc: Global, seed: u32) -> Result<String, Fail> {
-    let input = script(alloc, seed)?;
-    Ok(hex::encode(alloc, Sha256::digest(input.as_slice()))?)
+fn is_line(lines: &[&[u8]], index: usize, line: &str) -> bool {
+    lines.get(index).copied() == Some(line.as_bytes())
+}
+
+fn begins_line(lines: &[&[u8]], index: usize, beginning: &str) -> bool {
+    let line = lines.get(index).copied().unwrap_or(b"");
+    line.starts_with(beginning.as_bytes())
 }
 
 #[test]
-fn images_are_registered_with_their_layers(rt: HostRuntime) -> Result<(), Fail> {
+fn a_script_has_these_lines(rt: HostRuntime) -> Result<(), Fail> {
     let input = script(rt.alloc(), 7)?;
     let lines = lines(rt.alloc(), &input)?;
-    assert_eq!(rt; lines.get(0).copied(), Some(FIRST_LINE.as_bytes()));
-    assert_eq!(rt; lines.get(1).copied(), Some(SECOND_LINE.as_bytes()));
-    Ok(())
-}
-
-#[test]
-fn rounds_end_at_empty_lines(rt: HostRuntime) -> Result<(), Fail> {
-    let input = script(rt.alloc(), 7)?;
-    let lines = lines(rt.alloc(), &input)?;
-    let mut empty = Vec::new(rt.alloc());
-    for (index, line) in lines.iter().enumerate() {
-        if line.is_empty() {
-            empty.push(index)?;
-        }
+    for (index, line) in LINES {
+        assert!(rt; is_line(&lines, *index, line), "line {index}");
     }
-    assert_eq!(rt; empty.as_slice(), [64, 65, 67, 69, 135].as_slice());
-    assert_eq!(rt; lines.len(), 136);
-    Ok(())
-}
-
-#[test]
-fn the_feed_comes_twice(rt: HostRuntime) -> Result<(), Fail> {
-    let input = script(rt.alloc(), 7)?;
-    let lines = lines(rt.alloc(), &input)?;
-    let updates = [(66, FIRST_UPDATE), (68, SECOND_UPDATE)];
-    for (index, beginning) in updates {
-        let line = lines.get(index).copied().unwrap_or(b"");
-        assert!(rt; line.starts_with(beginning.as_bytes()));
+    for (index, beginning) in BEGINNINGS {
+        assert!(rt; begins_line(&lines, *index, beginning), "line {index}");
     }
+    let empty = lines.iter().filter(|line| line.is_empty()).count();
+    assert_eq!(rt; (empty, lines.len()), (5, 136));
     Ok(())
 }
 
-#[test]
-fn reports_and_the_list_come_last(rt: HostRuntime) -> Result<(), Fail> {
-    let input = script(rt.alloc(), 7)?;
-    let lines = lines(rt.alloc(), &input)?;
-    assert_eq!(rt; lines.get(133).copied(), Some(LAST_REPORT.as_bytes()));
-    assert_eq!(rt; lines.get(134).copied(), Some(LIST.as_bytes()));
-    Ok(())
-}
-
-/// The values are those of another program, which makes the same lines.
 #[test]
 fn whole_scripts_are_those_of_another_program(rt: HostRuntime) -> Result<(), Fail> {
-    let alloc = rt.alloc();
-    assert_eq!(rt;
-        hash(alloc, 7)?.as_str(),
-        "bb7b29c9a4f74ba939dfa5394eb75c2d5998b5b9a14fb3aa8ea11736308eaf18"
-    );
-    assert_eq!(rt;
-        hash(alloc, 1999)?.as_str(),
-        "c4518e901be6b16a6283b3aac0d273db646df1d936002c7195e9956b80ce1de7"
-    );
-    assert_eq!(rt;
-        hash(alloc, u32::MAX)?.as_str(),
-        "6ba9c7aa7a88b8d49d1b8241bd75b27078912022a23f0ea4de12636b91f47655"
-    );
+    for (seed, sum) in SUMS {
+        let input = script(rt.alloc(), *seed)?;
+        let hash = hex::encode(rt.alloc(), Sha256::digest(input.as_slice()))?;
+        assert_eq!(rt; hash.as_str(), *sum, "of {seed}");
+    }
     Ok(())
 }
