@@ -12,6 +12,52 @@ use std::marker::Brand;
 use std::sync::ledger::{Blank, Ledger};
 use std::test::Fail;
 
+/// The kind of a package, the ecosystem of a record, the type of its range, the events of the range, the version of the
+/// package and the answer: up to the fix and the last affected version; an introduction that outweighs a fix, and has its last
+/// version; the least fix above; each kind with its own order and ranges; the ecosystem before the colon; versions of each
+/// ecosystem.
+const ANSWERS: &str = "\
+deb Debian:12 ecosystem introduced=0,fixed=1.5,introduced=2.0,last_affected=2.3 1.4 1.5
+deb Debian:12 ecosystem introduced=0,fixed=1.5,introduced=2.0,last_affected=2.3 1.5 no
+deb Debian:12 ecosystem introduced=0,fixed=1.5,introduced=2.0,last_affected=2.3 2.3 yes
+deb Debian:12 ecosystem introduced=0,fixed=1.5,introduced=2.0,last_affected=2.3 2.3.1 no
+deb Debian:12 ecosystem introduced=3.0,fixed=3.0 3.0 yes
+deb Debian:12 ecosystem introduced=3.0,last_affected=3.0 3.0 yes
+deb Debian:12 ecosystem introduced=3.0,last_affected=3.0 3.1 no
+deb Debian:12 ecosystem fixed=4,introduced=1.2,fixed=2.0,fixed=2.00,fixed=1 1.5 2.0
+deb Debian:12 ecosystem introduced=0,fixed=1.2.0 1.2.0~rc1 1.2.0
+deb Debian:12 semver introduced=0,fixed=1.2.0 1.1.0 no
+apk Alpine:v3.18 ecosystem introduced=0,fixed=1.2.0 1.2.0_rc1 1.2.0
+apk Alpine:v3.18 ecosystem introduced=0,fixed=1.2.0 1.2.0_p1 no
+apk Alpine:v3.18 semver introduced=0,fixed=1.2.0 1.1.0 no
+npm npm semver introduced=0,fixed=1.2.0 1.2.0-rc.1 1.2.0
+npm npm ecosystem introduced=0,fixed=1.2.0 1.1.9 1.2.0
+npm npm semver introduced=0,fixed=1.2.0 1.1 no
+npm npm other introduced=0,fixed=1.2.0 1.1.0 no
+deb Debian ecosystem introduced=0,fixed=1:1.3 1:1.2.13.dfsg-1 1:1.3
+deb Debian:12 ecosystem introduced=0,fixed=1:1.3 1:1.2.13.dfsg-1 1:1.3
+deb Debian:11 ecosystem introduced=0,fixed=1:1.3 1:1.2.13.dfsg-1 no
+deb Debian:12 ecosystem introduced=0,fixed=3.0.11-1 3.0.9-1 3.0.11-1
+apk Alpine:v3.18 ecosystem introduced=0,fixed=3.1.2-r0 3.1.1-r1 3.1.2-r0
+npm npm semver introduced=0,fixed=1.0.1 1.0.0 1.0.1
+";
+
+fn package_kind(word: &str) -> PackageKind {
+    match word {
+        "deb" => PackageKind::Deb,
+        "apk" => PackageKind::Apk,
+        _ => PackageKind::Npm,
+    }
+}
+
+fn range_kind(word: &str) -> RangeKind {
+    match word {
+        "ecosystem" => RangeKind::Ecosystem,
+        "semver" => RangeKind::Semver,
+        _ => RangeKind::Other,
+    }
+}
+
 fn turn(alloc: Global, word: &str, version: &str) -> Result<Turn, NoMemory> {
     let text = Text::of(alloc, version)?;
     match word {
@@ -22,10 +68,10 @@ fn turn(alloc: Global, word: &str, version: &str) -> Result<Turn, NoMemory> {
     }
 }
 
-/// The events stand with spaces between, each as `introduced=1.5`.
+/// The events stand with commas between, each as `introduced=1.5`.
 fn range(alloc: Global, kind: RangeKind, events: &str) -> Result<Range, Fail> {
     let mut turns = Vec::new(alloc);
-    for event in events.split(' ') {
+    for event in events.split(',') {
         let (word, version) = event.split_once('=').ok_or("no version")?;
         turns.push(turn(alloc, word, version)?)?;
     }
@@ -35,45 +81,80 @@ fn range(alloc: Global, kind: RangeKind, events: &str) -> Result<Range, Fail> {
     })
 }
 
-/// A record with one range about the source package `a`.
-fn record(alloc: Global, ecosystem: &str, kind: RangeKind, events: &str) -> Result<Advisory, Fail> {
-    let entry = Affected {
-        package: Some(PackageName {
-            ecosystem: Text::of(alloc, ecosystem)?,
-            name: Text::of(alloc, "a")?,
-        }),
-        ranges: Seq::of(vec![in alloc; range(alloc, kind, events)?]?),
+/// The source package `a`.
+fn package_name(alloc: Global, ecosystem: &str) -> Result<PackageName, NoMemory> {
+    Ok(PackageName {
+        ecosystem: Text::of(alloc, ecosystem)?,
+        name: Text::of(alloc, "a")?,
+    })
+}
+
+fn entry(alloc: Global, ecosystem: &str, range: Range) -> Result<Affected, NoMemory> {
+    Ok(Affected {
+        ranges: Seq::of(vec![in alloc; range]?),
+        package: Some(package_name(alloc, ecosystem)?),
         versions: Seq::of(Vec::new(alloc)),
-    };
+    })
+}
+
+/// A record with one range about the source package `a`.
+fn record(alloc: Global, ecosystem: &str, range: Range) -> Result<Advisory, NoMemory> {
+    let affected = vec![in alloc; entry(alloc, ecosystem, range)?]?;
     Ok(Advisory {
         id: Text::of(alloc, "X-1")?,
         modified: Text::of(alloc, "2024-01-01T00:00:00Z")?,
         withdrawn: false,
-        affected: Seq::of(vec![in alloc; entry]?),
+        affected: Seq::of(affected),
     })
 }
 
-/// A package of the source `a`, itself named `b` for deb and apk.
-fn installed(
+fn pair(alloc: Global, (first, second): (&str, &str)) -> Result<(Text, Text), NoMemory> {
+    Ok((Text::of(alloc, first)?, Text::of(alloc, second)?))
+}
+
+/// A package of a kind and an ecosystem, with its own name and version, and those of its source.
+fn package(
     alloc: Global,
-    kind: PackageKind,
-    ecosystem: &str,
-    version: &str,
+    (kind, ecosystem): (PackageKind, &str),
+    own: (&str, &str),
+    source: (&str, &str),
 ) -> Result<Package, Fail> {
-    let npm = kind == PackageKind::Npm;
+    let path = RelPath::read(alloc, "lib")?;
+    let (name, version) = pair(alloc, own)?;
+    let (source, source_version) = pair(alloc, source)?;
+    let (arch, ecosystem) = pair(alloc, ("amd64", ecosystem))?;
     Ok(Package {
         kind,
-        path: RelPath::read(alloc, "lib")?,
-        name: Text::of(alloc, if npm { "a" } else { "b" })?,
-        version: Text::of(alloc, if npm { version } else { "9" })?,
-        source: Text::of(alloc, if npm { "b" } else { "a" })?,
-        source_version: Text::of(alloc, if npm { "9" } else { version })?,
-        arch: Text::of(alloc, "amd64")?,
-        ecosystem: Text::of(alloc, ecosystem)?,
+        path,
+        name,
+        version,
+        source,
+        source_version,
+        arch,
+        ecosystem,
     })
+}
+
+/// A package of the source `a`, itself named `b`, for deb and apk, whose source has this version; for npm the package itself is `a`
+/// and has it.
+fn installed(alloc: Global, kind: PackageKind, version: &str) -> Result<Package, Fail> {
+    match kind {
+        PackageKind::Deb => package(alloc, (kind, "Debian:12"), ("b", "9"), ("a", version)),
+        PackageKind::Apk => package(alloc, (kind, "Alpine:v3.18"), ("b", "9"), ("a", version)),
+        PackageKind::Npm => package(alloc, (kind, "npm"), ("a", version), ("b", "9")),
+    }
 }
 
 /// `no`, `yes`, or the fixed version.
+fn hit_text(advisory: &Advisory, hit: Hit) -> &str {
+    match hit {
+        Hit::No => "no",
+        Hit::Yes { fixed: None } => "yes",
+        Hit::Yes { fixed: Some(at) } => fixed_text(advisory, at).unwrap_or("lost"),
+    }
+}
+
+/// What a record answers about a package.
 fn answer<L: Ledger>(
     alloc: Global,
     blank: Blank,
@@ -87,108 +168,59 @@ fn answer<L: Ledger>(
     let mut steps = Steps::<L>::open(blank);
     let prepared = prepare(alloc, advisory, package.kind)?;
     let package = prepare_package(alloc, package)?;
-    match affects(&prepared, &package, &mut steps) {
-        Hit::No => Text::of(alloc, "no"),
-        Hit::Yes { fixed: None } => Text::of(alloc, "yes"),
-        Hit::Yes { fixed: Some(at) } => match fixed_text(advisory, at) {
-            Some(text) => Text::of(alloc, text),
-            None => Text::of(alloc, "lost"),
-        },
-    }
+    let hit = affects(&prepared, &package, &mut steps);
+    Text::of(alloc, hit_text(advisory, hit))
 }
 
 fn answered(alloc: Global, advisory: &Advisory, package: &Package) -> Result<Text, NoMemory> {
     answer::<Brand>(alloc, Blank::new(1), advisory, package)
 }
 
-/// What a record with these events answers about a package. The kind of package has an ecosystem; the record has its own one.
+/// What the record of a row answers about the package. The kind of package has an ecosystem; the record has its own one.
 fn row(
     alloc: Global,
-    kind: &str,
-    (ecosystem, range): (&str, &str),
-    events: &str,
-    version: &str,
+    [kind, ecosystem, range_type, events, version]: [&str; 5],
 ) -> Result<Text, Fail> {
-    let (kind, of_package) = match kind {
-        "deb" => (PackageKind::Deb, "Debian:12"),
-        "apk" => (PackageKind::Apk, "Alpine:v3.18"),
-        _ => (PackageKind::Npm, "npm"),
-    };
-    let range = match range {
-        "ecosystem" => RangeKind::Ecosystem,
-        "semver" => RangeKind::Semver,
-        _ => RangeKind::Other,
-    };
-    let record = record(alloc, ecosystem, range, events)?;
-    let package = installed(alloc, kind, of_package, version)?;
+    let package = installed(alloc, package_kind(kind), version)?;
+    let range = range(alloc, range_kind(range_type), events)?;
+    let record = record(alloc, ecosystem, range)?;
     Ok(answered(alloc, &record, &package)?)
 }
 
-/// The kind of a package, the ecosystem of a record, the type of its range, the version of the package and the answer, then the
-/// events of the range: up to the fix and the last affected version; an introduction that outweighs a fix, and has its last
-/// version; the least fix above; each kind with its own order and ranges; the ecosystem before the colon; versions of each
-/// ecosystem.
-const ANSWERS: &str = "\
-deb Debian:12 ecosystem 1.4 1.5|introduced=0 fixed=1.5 introduced=2.0 last_affected=2.3
-deb Debian:12 ecosystem 1.5 no|introduced=0 fixed=1.5 introduced=2.0 last_affected=2.3
-deb Debian:12 ecosystem 2.3 yes|introduced=0 fixed=1.5 introduced=2.0 last_affected=2.3
-deb Debian:12 ecosystem 2.3.1 no|introduced=0 fixed=1.5 introduced=2.0 last_affected=2.3
-deb Debian:12 ecosystem 3.0 yes|introduced=3.0 fixed=3.0
-deb Debian:12 ecosystem 3.0 yes|introduced=3.0 last_affected=3.0
-deb Debian:12 ecosystem 3.1 no|introduced=3.0 last_affected=3.0
-deb Debian:12 ecosystem 1.5 2.0|fixed=4 introduced=1.2 fixed=2.0 fixed=2.00 fixed=1
-deb Debian:12 ecosystem 1.2.0~rc1 1.2.0|introduced=0 fixed=1.2.0
-deb Debian:12 semver 1.1.0 no|introduced=0 fixed=1.2.0
-apk Alpine:v3.18 ecosystem 1.2.0_rc1 1.2.0|introduced=0 fixed=1.2.0
-apk Alpine:v3.18 ecosystem 1.2.0_p1 no|introduced=0 fixed=1.2.0
-apk Alpine:v3.18 semver 1.1.0 no|introduced=0 fixed=1.2.0
-npm npm semver 1.2.0-rc.1 1.2.0|introduced=0 fixed=1.2.0
-npm npm ecosystem 1.1.9 1.2.0|introduced=0 fixed=1.2.0
-npm npm semver 1.1 no|introduced=0 fixed=1.2.0
-npm npm other 1.1.0 no|introduced=0 fixed=1.2.0
-deb Debian ecosystem 1:1.2.13.dfsg-1 1:1.3|introduced=0 fixed=1:1.3
-deb Debian:12 ecosystem 1:1.2.13.dfsg-1 1:1.3|introduced=0 fixed=1:1.3
-deb Debian:11 ecosystem 1:1.2.13.dfsg-1 no|introduced=0 fixed=1:1.3
-deb Debian:12 ecosystem 3.0.9-1 3.0.11-1|introduced=0 fixed=3.0.11-1
-apk Alpine:v3.18 ecosystem 3.1.1-r1 3.1.2-r0|introduced=0 fixed=3.1.2-r0
-npm npm semver 1.0.0 1.0.1|introduced=0 fixed=1.0.1
-";
+/// The words of a row, and its answer.
+fn words(line: &str) -> Option<([&str; 5], &str)> {
+    let mut words = line.split(' ');
+    let row = [
+        words.next()?,
+        words.next()?,
+        words.next()?,
+        words.next()?,
+        words.next()?,
+    ];
+    Some((row, words.next()?))
+}
 
 #[test]
 fn records_answer_for_packages(rt: HostRuntime) -> Result<(), Fail> {
-    let alloc = rt.alloc();
-    let mut answers = 0usize;
     for line in ANSWERS.lines() {
-        let (of, events) = line.split_once('|').ok_or("no events")?;
-        let mut words = of.split(' ');
-        let (Some(kind), Some(ecosystem), Some(range)) = (words.next(), words.next(), words.next())
-        else {
-            break;
-        };
-        let (Some(version), Some(want)) = (words.next(), words.next()) else {
-            break;
-        };
-        let answer = row(alloc, kind, (ecosystem, range), events, version)?;
-        assert_eq!(rt; answer.as_str(), want, "{line}");
-        answers = answers.saturating_add(1);
+        let (words, want) = words(line).ok_or("a row has six words")?;
+        assert_eq!(rt; row(rt.alloc(), words)?.as_str(), want, "{line}");
     }
-    assert_eq!(rt; answers, 23);
     Ok(())
+}
+
+fn key_count(alloc: Global, kind: PackageKind) -> Result<usize, Fail> {
+    let package = installed(alloc, kind, "1")?;
+    let keys = package_keys(alloc, &package)?;
+    Ok(keys.as_slice().len())
 }
 
 #[test]
 fn a_package_has_a_key_for_its_ecosystem_and_one_for_the_part_before_the_colon(
     rt: HostRuntime,
 ) -> Result<(), Fail> {
-    let alloc = rt.alloc();
-    for (kind, ecosystem, want) in [
-        (PackageKind::Deb, "Debian:12", 2),
-        (PackageKind::Npm, "npm", 1),
-    ] {
-        let package = installed(alloc, kind, ecosystem, "1")?;
-        let keys = package_keys(alloc, &package)?;
-        assert_eq!(rt; keys.as_slice().len(), want, "of {ecosystem}");
-    }
+    assert_eq!(rt; key_count(rt.alloc(), PackageKind::Deb)?, 2);
+    assert_eq!(rt; key_count(rt.alloc(), PackageKind::Npm)?, 1);
     Ok(())
 }
 
