@@ -6,7 +6,7 @@ top=$(cd "$(dirname "${BASH_SOURCE[0]}")/.." && pwd)
 build() {
     local program=$top/crates/$1/out/$1 log
     [ -e "$program" ] || prove "$1" || return
-    log=$(cd "$top/crates/$1" && rt run </dev/null 2>&1) || true
+    log=$(cd "$top/crates/$1" && "$top/tools/rt" run </dev/null 2>&1) || true
     if ! grep -q "running out/$1" <<<"$log"; then
         echo "$log" >&2
         return 1
@@ -22,7 +22,7 @@ prove() {
     lanes=$(lanes)
     log=$(mktemp)
     echo "proving $1 and the crates below it, $count in all, $lanes side by side; the first time this takes some minutes" >&2
-    (cd "$top/crates/$1" && rt all check --jobs "$lanes" 2>&1) | tee "$log" | progress "$count" >&2 || {
+    (cd "$top/crates/$1" && "$top/tools/rt" all check --jobs "$lanes" 2>&1) | tee "$log" | progress "$count" >&2 || {
         cat "$log" >&2
         rm "$log"
         return 1
