@@ -49,7 +49,7 @@ pub fn run_crew<H: Send, S: Send, K: Send, T: Crew<H, S, K> + Sync, W: Threads +
     crew_from(rt, crew, number, hand, hands, seat, seats, desk, desks)
 }
 
-/// Does the work of one number and of those after it.
+/// Does the work of one number, and beside it that of the numbers after it.
 #[cycle(crew)]
 fn crew_from<H: Send, S: Send, K: Send, T: Crew<H, S, K> + Sync, W: Threads + Sync>(
     rt: &W,
@@ -72,28 +72,6 @@ fn crew_from<H: Send, S: Send, K: Send, T: Crew<H, S, K> + Sync, W: Threads + Sy
         crew.run(number, hand, seat, desk)?;
         return run_crew(rt, crew, number + 1, hands, seats, desks);
     }
-    crew_beside(rt, crew, number, hand, hands, seat, seats, desk, desks)
-}
-
-/// Does the work of one number beside that of the numbers after it.
-#[cycle(crew)]
-fn crew_beside<H: Send, S: Send, K: Send, T: Crew<H, S, K> + Sync, W: Threads + Sync>(
-    rt: &W,
-    crew: &T,
-    number: u32,
-    hand: &mut H,
-    hands: &mut [H],
-    seat: &mut S,
-    seats: &mut [S],
-    desk: &mut K,
-    desks: &mut [K],
-) -> Result<(), NoMemory>
-    requires few { number + 1 + length desks.old < 2 ^ 32 }
-    requires first { T.ready crew.now number hand.old seat.old desk.old }
-    requires ready { AreReadyFrom (T.ready crew.now) (number + 1) hands.old seats.old desks.old }
-    ensures first { OnOk result (T.did crew.now number hand.old hand.new seat.old seat.new desk.old desk.new) }
-    ensures others { OnOk result (EachDidFrom (T.did crew.now) (number + 1) hands.old hands.new seats.old seats.new desks.old desks.new) }
-{
     let (first, others) = join_mut(
         rt,
         &mut || -> Result<(), NoMemory>

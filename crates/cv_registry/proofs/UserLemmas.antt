@@ -54,14 +54,11 @@ put_one users after layer image set made is l q =
           ∙ sym (ap (λ b. (b || false) && same image q || uses users l q) key)
 
 put_both : (a b s u : Bool) → (b && s || ((a || false) && s || u)) ≡ ((a || b) && s || u)
+put_both a false s u = refl
 put_both true true true u = refl
 put_both true true false u = refl
-put_both true false true u = refl
-put_both true false false u = refl
 put_both false true true u = refl
 put_both false true false u = refl
-put_both false false true u = refl
-put_both false false false u = refl
 
 pub put_none : (image : List ℕ) (users after : Users) → after ≡ users → ArePut [] image users after
 put_none image users after is l q = ap (λ us. uses us l q) is
@@ -148,14 +145,11 @@ take_some users after layer image set rest order found h made is = by_rest (is_n
       take_rest users after layer image set rest (sym found) h made (is ∙ ap (λ b. cond b (without_value users layer) (with_value users layer rest)) some)
 
 take_both : (a b s u : Bool) → cond (b && s) false (cond ((a || false) && s) false u) ≡ cond ((a || b) && s) false u
+take_both a false s u = refl
 take_both true true true u = refl
 take_both true true false u = refl
-take_both true false true u = refl
-take_both true false false u = refl
 take_both false true true u = refl
 take_both false true false u = refl
-take_both false false true u = refl
-take_both false false false u = refl
 
 pub take_none : (image : List ℕ) (users after : Users) → after ≡ users → AreTaken [] image users after
 take_none image users after is l q = ap (λ us. uses us l q) is

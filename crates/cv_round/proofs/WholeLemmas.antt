@@ -90,6 +90,25 @@ module _ {D : Type 0} (listings faults : D → ℕ) (tree : DeskTrees) (limits :
     pub workers_did : WorkersDid listings faults queue 0 hands (drop (length lanes) mids) (drop (length lanes) ends) ds es
     pub hands_many : length hands ≡ length ds
 
+  -- as the calls told it of the slice of the lanes
+  pub worked_by : (slice : List Lane) → slice ≡ lanes → length olds ≡ 8 + length ds → AreNumbered 0 olds → AreAllReceipts before olds → AreRefreshed before olds mids → length mids ≡ length olds
+      → length ends ≡ length mids → length lanes ≡ 8 → AreDealt 0 asked lanes → length lanes_after ≡ length slice → LanesDid tree limits (take (length slice) mids) (take (length slice) ends) slice lanes_after
+      → WorkersDid listings faults queue 0 hands (drop (length slice) mids) (drop (length slice) ends) ds es → length hands ≡ length ds → Worked
+  worked_by slice is seats numbered receipts fresh mids_many ends_many eight dealt lanes_many lanes_did workers_did hands_many = record {
+    seats = seats;
+    numbered = numbered;
+    receipts = receipts;
+    fresh = fresh;
+    mids_many = mids_many;
+    ends_many = ends_many;
+    eight = eight;
+    dealt = dealt;
+    lanes_many = lanes_many ∙ ap length is;
+    lanes_did = subst (λ (ls : List Lane). LanesDid tree limits (take (length ls) mids) (take (length ls) ends) ls lanes_after) is lanes_did;
+    workers_did = subst (λ (ls : List Lane). WorkersDid listings faults queue 0 hands (drop (length ls) mids) (drop (length ls) ends) ds es) is workers_did;
+    hands_many = hands_many;
+  }
+
   pub ends_numbered : Worked → AreNumbered 0 ends
   ends_numbered w =
       let start = begun before 0 olds mids w.numbered w.receipts w.fresh in

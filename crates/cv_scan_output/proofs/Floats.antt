@@ -1,6 +1,7 @@
 -- No number of a line has a point.
 use Rattle.std.proofs.Common.{◌≡◌, ℕ, false, List, [], ◌∷◌, refl}
 use Rattle.std.specs.Prelude.{Option, Some, None}
+use Rattle.serde_json.specs.Data.{Data}
 use Rattle.serde_json.specs.Written.{has_float}
 use Rattle.cv_base.specs.declared.finding.Finding.{Finding}
 use Rattle.cv_scan_output.specs.Finding.{findings_data, fixed_data}
@@ -12,9 +13,9 @@ use Rattle.cv_overlay.specs.declared.fault.TreeFault.TheVariants.{Unsorted, NoPa
 use Rattle.cv_request.specs.declared.error.RequestError.{RequestError}
 use Rattle.cv_request.specs.declared.error.RequestError.TheVariants.{BadJson, BadRequest, BadAdvisory, DuplicateId, TooManyAdvisories, NoMemory}
 use Rattle.cv_request.specs.declared.error.RequestWhat.{RequestWhat}
-use Rattle.cv_request.specs.declared.error.RequestWhat.TheVariants as request_what
 use Rattle.cv_scan_output.specs.Bad.{bad_data, bad_image_data, bad_tree_data}
 use Rattle.cv_scan_output.specs.Refusal.{bad_request_data, refusal_data}
+use Rattle.cv_scan_output.proofs.Requests.{each_request}
 
 fixed_has_none : (fixed : Option (List ℕ)) → has_float (fixed_data fixed) ≡ false
 fixed_has_none None = refl
@@ -43,21 +44,7 @@ pub bad_image_has_none : (image : List ℕ) (bad : ImageFault) → has_float (ba
 bad_image_has_none image bad = rw (bad_has_none bad) refl
 
 request_has_none : (line : ℕ) (what : RequestWhat) → has_float (bad_request_data line what) ≡ false
-request_has_none line request_what.NotObject = refl
-request_has_none line request_what.BadLane = refl
-request_has_none line request_what.BadDo = refl
-request_has_none line request_what.BadImage = refl
-request_has_none line request_what.BadManifest = refl
-request_has_none line request_what.BadHash = refl
-request_has_none line request_what.BadLayers = refl
-request_has_none line request_what.NoLayers = refl
-request_has_none line request_what.TooManyLayers = refl
-request_has_none line (request_what.BadLayer index) = refl
-request_has_none line request_what.BadFeed = refl
-request_has_none line request_what.BadAdvisories = refl
-request_has_none line request_what.BadNumber = refl
-request_has_none line request_what.BadSize = refl
-request_has_none line request_what.BadPage = refl
+request_has_none line what = each_request (λ (d : Data). has_float d ≡ false) line (λ index. refl) (λ name. refl) what
 
 pub refusal_has_none : (line : ℕ) (error : RequestError) → has_float (refusal_data line error) ≡ false
 refusal_has_none line BadJson = refl

@@ -29,7 +29,6 @@ use Rattle.cv_records.specs.declared.reply.Reply.TheVariants as reply
 use Rattle.cv_request.specs.declared.error.RequestError.{RequestError}
 use Rattle.cv_request.specs.declared.error.RequestError.TheVariants as error
 use Rattle.cv_request.specs.declared.error.RequestWhat.{RequestWhat}
-use Rattle.cv_request.specs.declared.error.RequestWhat.TheVariants as request_what
 use Rattle.cv_transcript.specs.declared.entry.Entry.{Entry}
 use Rattle.cv_transcript.specs.declared.entry.Entry.TheVariants.{Refused, Event, Read}
 use Rattle.cv_scan_output.specs.Bad.{bad_data, bad_tree_data}
@@ -41,6 +40,7 @@ use Rattle.cv_transcript.specs.Read.{answer_members, head_data, list_members, pa
 use Rattle.cv_scan_output.specs.Refusal.{bad_request_data, refusal_data}
 use Rattle.cv_transcript.specs.Rows.{row_data, rows_data}
 use Rattle.cv_scan_output.proofs.Floats.{refusal_has_none}
+use Rattle.cv_scan_output.proofs.Requests.{each_request}
 
 -- no number has a point, and at most n deep
 abbrev pub IsPlain : ℕ → Data → Type 0
@@ -201,21 +201,7 @@ answer_plain answer.NoMemory = reply_plain (codes "no_memory")
 -- ---- refused lines
 
 request_depth : (line : ℕ) (what : RequestWhat) → depth (bad_request_data line what) ≡ 1
-request_depth line request_what.NotObject = refl
-request_depth line request_what.BadLane = refl
-request_depth line request_what.BadDo = refl
-request_depth line request_what.BadImage = refl
-request_depth line request_what.BadManifest = refl
-request_depth line request_what.BadHash = refl
-request_depth line request_what.BadLayers = refl
-request_depth line request_what.NoLayers = refl
-request_depth line request_what.TooManyLayers = refl
-request_depth line (request_what.BadLayer index) = refl
-request_depth line request_what.BadFeed = refl
-request_depth line request_what.BadAdvisories = refl
-request_depth line request_what.BadNumber = refl
-request_depth line request_what.BadSize = refl
-request_depth line request_what.BadPage = refl
+request_depth line what = each_request (λ (d : Data). depth d ≡ 1) line (λ index. refl) (λ name. refl) what
 
 refusal_depth : (line : ℕ) (e : RequestError) → depth (refusal_data line e) ≡ 1
 refusal_depth line error.BadJson = refl

@@ -23,7 +23,6 @@ use Rattle.cv_records.specs.declared.reply.Reply.TheVariants as reply
 use Rattle.cv_request.specs.declared.error.RequestError.{RequestError}
 use Rattle.cv_request.specs.declared.error.RequestError.TheVariants as error
 use Rattle.cv_request.specs.declared.error.RequestWhat.{RequestWhat}
-use Rattle.cv_request.specs.declared.error.RequestWhat.TheVariants as request_what
 use Rattle.cv_transcript.specs.declared.entry.Entry.{Entry}
 use Rattle.cv_transcript.specs.declared.entry.Entry.TheVariants.{Refused, Event, Read}
 use Rattle.cv_transcript.specs.Entry.{entry_data, entry_json}
@@ -32,6 +31,7 @@ use Rattle.cv_transcript.specs.Members.{put_number, put_text}
 use Rattle.cv_transcript.specs.Read.{answer_members}
 use Rattle.cv_scan_output.specs.Refusal.{bad_request_data, refusal_data}
 use Rattle.cv_transcript.specs.Tag.{Tag, RefusedLine, LaneEvent, WorkerEvent, LaneRead, entry_tag, event_tag, is_no_memory_answer, is_no_memory_error, layer_of, tag_of, tag_of_json}
+use Rattle.cv_scan_output.proofs.Requests.{each_request}
 use Rattle.cv_transcript.proofs.Plain.{entry_plain}
 
 -- ---- looking up a member
@@ -184,21 +184,7 @@ read_is front lane line answer.NoMemory = refl
 -- ---- refused lines
 
 request_is : (line : ℕ) (what : RequestWhat) → tag_of (bad_request_data line what) ≡ Some (RefusedLine line false)
-request_is line request_what.NotObject = refl
-request_is line request_what.BadLane = refl
-request_is line request_what.BadDo = refl
-request_is line request_what.BadImage = refl
-request_is line request_what.BadManifest = refl
-request_is line request_what.BadHash = refl
-request_is line request_what.BadLayers = refl
-request_is line request_what.NoLayers = refl
-request_is line request_what.TooManyLayers = refl
-request_is line (request_what.BadLayer index) = refl
-request_is line request_what.BadFeed = refl
-request_is line request_what.BadAdvisories = refl
-request_is line request_what.BadNumber = refl
-request_is line request_what.BadSize = refl
-request_is line request_what.BadPage = refl
+request_is line what = each_request (λ (d : Data). tag_of d ≡ Some (RefusedLine line false)) line (λ index. refl) (λ name. refl) what
 
 refusal_is : (line : ℕ) (e : RequestError) → tag_of (refusal_data line e) ≡ Some (RefusedLine line (is_no_memory_error e))
 refusal_is line error.BadJson = refl

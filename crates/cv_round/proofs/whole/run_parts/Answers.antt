@@ -3,13 +3,11 @@ use Rattle.std.specs.List.{AllByRecursion}
 use Rattle.cv_pool.specs.Hands.{AreHandsOf, AreSameHands, HandState, any_done, lists_of}
 use Rattle.cv_pool.specs.Jobs.{weigh_below}
 use Rattle.cv_dealing.specs.code.Dealt.{IsLaneReady}
-use Rattle.cv_dealing.specs.declared.lane.Lane.{Lane}
 use Rattle.cv_dealing.proofs.DealLemmas.{dealt_ready}
-use Rattle.cv_workers.specs.code.Lane.{LanesDid}
-use Rattle.cv_workers.specs.code.Worker.{AreHandsReady, WorkersDid}
+use Rattle.cv_workers.specs.code.Worker.{AreHandsReady}
 use Rattle.cv_workers.proofs.CrewLemmas.{seats_past}
 use Rattle.cv_round.proofs.WalkLemmas.{begun, begun_drop, done_any, ended, ended_drop, new_many, new_ready, room_begun, room_ended}
-use Rattle.cv_round.proofs.WholeLemmas.{Worked, ends_numbered, front_is, ran_of}
+use Rattle.cv_round.proofs.WholeLemmas.{ends_numbered, front_is, ran_of, worked_by}
 use Rattle.cv_round.proofs.whole.run_parts.Goals as goal
 
 pub run_all-requires-clause-same : goal.run_all-requires-clause-same
@@ -49,42 +47,16 @@ gather-took-requires g c =
 
 pub take_events-events-requires-clause-numbered : goal.take_events-events-requires-clause-numbered
 take_events-events-requires-clause-numbered g c =
-    let worked : Worked g.D.Desk.listings g.D.Desk.faults g.D.Desk.tree g.L.Identity.limits c.args.hub.now c.args.asked.items c.args.queue.now c.args.seats.now c.refresh.new.seats c.run_all.new.seats c.in_ok-lanes.lanes.items c.run_all.new.lanes c.run_all.new.hands c.args.desks.now c.run_all.new.desks = record {
-      seats = c.requires.seats.count;
-      numbered = c.requires.seats.numbered;
-      receipts = c.requires.seats.receipts;
-      fresh = c.refresh.ensures;
-      mids_many = c.refresh.auto.seats;
-      ends_many = c.run_all.auto.seats;
-      eight = c.in_ok-lanes.ensures.count;
-      dealt = c.in_ok-lanes.ensures.dealt;
-      lanes_many = c.run_all.auto.lanes ∙ ap length c.as_mut_slice.ensures.value;
-      lanes_did = subst (λ (ls : List Lane). LanesDid g.D.Desk.tree g.L.Identity.limits (take (length ls) c.refresh.new.seats) (take (length ls) c.run_all.new.seats) ls c.run_all.new.lanes)
-          c.as_mut_slice.ensures.value c.in_ok-run_all.ensures.lanes;
-      workers_did = subst (λ (ls : List Lane). WorkersDid g.D.Desk.listings g.D.Desk.faults c.args.queue.now 0 c.run_all.new.hands (drop (length ls) c.refresh.new.seats) (drop (length ls) c.run_all.new.seats) c.args.desks.now c.run_all.new.desks)
-          c.as_mut_slice.ensures.value c.in_ok-run_all.ensures.workers;
-      hands_many = c.run_all.auto.hands ∙ (ap length c.as_mut_slice-2.ensures.value ∙ (ap length c.in_ok-hands.ensures.new ∙ new_many c.in_ok-hands.ensures.fill 0 (length c.args.desks.now)));
-    } in
+    let worked = worked_by g.D.Desk.listings g.D.Desk.faults g.D.Desk.tree g.L.Identity.limits c.args.hub.now c.args.asked.items c.args.queue.now c.args.seats.now c.refresh.new.seats c.run_all.new.seats c.in_ok-lanes.lanes.items c.run_all.new.lanes c.run_all.new.hands c.args.desks.now c.run_all.new.desks
+    _ c.as_mut_slice.ensures.value c.requires.seats.count c.requires.seats.numbered c.requires.seats.receipts c.refresh.ensures c.refresh.auto.seats c.run_all.auto.seats c.in_ok-lanes.ensures.count c.in_ok-lanes.ensures.dealt c.run_all.auto.lanes c.in_ok-run_all.ensures.lanes c.in_ok-run_all.ensures.workers
+    (c.run_all.auto.hands ∙ (ap length c.as_mut_slice-2.ensures.value ∙ (ap length c.in_ok-hands.ensures.new ∙ new_many c.in_ok-hands.ensures.fill 0 (length c.args.desks.now)))) in
     ends_numbered g.D.Desk.listings g.D.Desk.faults g.D.Desk.tree g.L.Identity.limits c.args.hub.now c.args.asked.items c.args.queue.now c.args.seats.now c.refresh.new.seats c.run_all.new.seats c.in_ok-lanes.lanes.items c.run_all.new.lanes c.run_all.new.hands c.args.desks.now c.run_all.new.desks worked
 
 pub returns-clause-ran : goal.returns-clause-ran
 returns-clause-ran g c =
-    let worked : Worked g.D.Desk.listings g.D.Desk.faults g.D.Desk.tree g.L.Identity.limits c.args.hub.now c.args.asked.items c.args.queue.now c.args.seats.now c.refresh.new.seats c.run_all.new.seats c.in_ok-lanes.lanes.items c.run_all.new.lanes c.run_all.new.hands c.args.desks.now c.run_all.new.desks = record {
-      seats = c.requires.seats.count;
-      numbered = c.requires.seats.numbered;
-      receipts = c.requires.seats.receipts;
-      fresh = c.refresh.ensures;
-      mids_many = c.refresh.auto.seats;
-      ends_many = c.run_all.auto.seats;
-      eight = c.in_ok-lanes.ensures.count;
-      dealt = c.in_ok-lanes.ensures.dealt;
-      lanes_many = c.run_all.auto.lanes ∙ ap length c.as_mut_slice.ensures.value;
-      lanes_did = subst (λ (ls : List Lane). LanesDid g.D.Desk.tree g.L.Identity.limits (take (length ls) c.refresh.new.seats) (take (length ls) c.run_all.new.seats) ls c.run_all.new.lanes)
-          c.as_mut_slice.ensures.value c.in_ok-run_all.ensures.lanes;
-      workers_did = subst (λ (ls : List Lane). WorkersDid g.D.Desk.listings g.D.Desk.faults c.args.queue.now 0 c.run_all.new.hands (drop (length ls) c.refresh.new.seats) (drop (length ls) c.run_all.new.seats) c.args.desks.now c.run_all.new.desks)
-          c.as_mut_slice.ensures.value c.in_ok-run_all.ensures.workers;
-      hands_many = c.run_all.auto.hands ∙ (ap length c.as_mut_slice-2.ensures.value ∙ (ap length c.in_ok-hands.ensures.new ∙ new_many c.in_ok-hands.ensures.fill 0 (length c.args.desks.now)));
-    } in
+    let worked = worked_by g.D.Desk.listings g.D.Desk.faults g.D.Desk.tree g.L.Identity.limits c.args.hub.now c.args.asked.items c.args.queue.now c.args.seats.now c.refresh.new.seats c.run_all.new.seats c.in_ok-lanes.lanes.items c.run_all.new.lanes c.run_all.new.hands c.args.desks.now c.run_all.new.desks
+    _ c.as_mut_slice.ensures.value c.requires.seats.count c.requires.seats.numbered c.requires.seats.receipts c.refresh.ensures c.refresh.auto.seats c.run_all.auto.seats c.in_ok-lanes.ensures.count c.in_ok-lanes.ensures.dealt c.run_all.auto.lanes c.in_ok-run_all.ensures.lanes c.in_ok-run_all.ensures.workers
+    (c.run_all.auto.hands ∙ (ap length c.as_mut_slice-2.ensures.value ∙ (ap length c.in_ok-hands.ensures.new ∙ new_many c.in_ok-hands.ensures.fill 0 (length c.args.desks.now)))) in
     let new = c.in_ok-hands.ensures in
     let value = c.as_mut_slice-2.ensures.value in
     let size = ap length value in
@@ -105,22 +77,9 @@ returns-clause-ran g c =
 
 pub returns-clause-seats : goal.returns-clause-seats
 returns-clause-seats g c =
-    let worked : Worked g.D.Desk.listings g.D.Desk.faults g.D.Desk.tree g.L.Identity.limits c.args.hub.now c.args.asked.items c.args.queue.now c.args.seats.now c.refresh.new.seats c.run_all.new.seats c.in_ok-lanes.lanes.items c.run_all.new.lanes c.run_all.new.hands c.args.desks.now c.run_all.new.desks = record {
-      seats = c.requires.seats.count;
-      numbered = c.requires.seats.numbered;
-      receipts = c.requires.seats.receipts;
-      fresh = c.refresh.ensures;
-      mids_many = c.refresh.auto.seats;
-      ends_many = c.run_all.auto.seats;
-      eight = c.in_ok-lanes.ensures.count;
-      dealt = c.in_ok-lanes.ensures.dealt;
-      lanes_many = c.run_all.auto.lanes ∙ ap length c.as_mut_slice.ensures.value;
-      lanes_did = subst (λ (ls : List Lane). LanesDid g.D.Desk.tree g.L.Identity.limits (take (length ls) c.refresh.new.seats) (take (length ls) c.run_all.new.seats) ls c.run_all.new.lanes)
-          c.as_mut_slice.ensures.value c.in_ok-run_all.ensures.lanes;
-      workers_did = subst (λ (ls : List Lane). WorkersDid g.D.Desk.listings g.D.Desk.faults c.args.queue.now 0 c.run_all.new.hands (drop (length ls) c.refresh.new.seats) (drop (length ls) c.run_all.new.seats) c.args.desks.now c.run_all.new.desks)
-          c.as_mut_slice.ensures.value c.in_ok-run_all.ensures.workers;
-      hands_many = c.run_all.auto.hands ∙ (ap length c.as_mut_slice-2.ensures.value ∙ (ap length c.in_ok-hands.ensures.new ∙ new_many c.in_ok-hands.ensures.fill 0 (length c.args.desks.now)));
-    } in
+    let worked = worked_by g.D.Desk.listings g.D.Desk.faults g.D.Desk.tree g.L.Identity.limits c.args.hub.now c.args.asked.items c.args.queue.now c.args.seats.now c.refresh.new.seats c.run_all.new.seats c.in_ok-lanes.lanes.items c.run_all.new.lanes c.run_all.new.hands c.args.desks.now c.run_all.new.desks
+    _ c.as_mut_slice.ensures.value c.requires.seats.count c.requires.seats.numbered c.requires.seats.receipts c.refresh.ensures c.refresh.auto.seats c.run_all.auto.seats c.in_ok-lanes.ensures.count c.in_ok-lanes.ensures.dealt c.run_all.auto.lanes c.in_ok-run_all.ensures.lanes c.in_ok-run_all.ensures.workers
+    (c.run_all.auto.hands ∙ (ap length c.as_mut_slice-2.ensures.value ∙ (ap length c.in_ok-hands.ensures.new ∙ new_many c.in_ok-hands.ensures.fill 0 (length c.args.desks.now)))) in
     let numbered = ends_numbered g.D.Desk.listings g.D.Desk.faults g.D.Desk.tree g.L.Identity.limits c.args.hub.now c.args.asked.items c.args.queue.now c.args.seats.now c.refresh.new.seats c.run_all.new.seats c.in_ok-lanes.lanes.items c.run_all.new.lanes c.run_all.new.hands c.args.desks.now c.run_all.new.desks worked in
     rw c.take_events-events.ensures.seats (record {
       count = c.run_all.auto.seats ∙ (c.refresh.auto.seats ∙ (c.requires.seats.count ∙ ap (λ n. 8 + n) (sym c.run_all.auto.desks)));
