@@ -79,50 +79,63 @@ fn shape_text(alloc: Global, shape: &Shape) -> Result<String, NoMemory> {
 }
 
 #[test]
-fn layers_are_reduced(rt: HostRuntime) -> Result<(), Fail> {
+fn marks_and_covers_are_reduced(rt: HostRuntime) -> Result<(), Fail> {
     let alloc = rt.alloc();
-    for (rows, want) in [
-        (
-            &[
-                (".wh.z", ""),
-                ("a/", ""),
-                ("a/.wh.x", ""),
-                ("etc/", ""),
-                ("etc/.wh..wh..opq", ""),
-                ("etc/os-release/", ""),
-                ("notes", "four"),
-            ][..],
-            r#"whiteouts ["a/x", "z"]
+    let rows = &[
+        (".wh.z", ""),
+        ("a/", ""),
+        ("a/.wh.x", ""),
+        ("etc/", ""),
+        ("etc/.wh..wh..opq", ""),
+        ("etc/os-release/", ""),
+        ("notes", "four"),
+    ];
+    assert_eq!(rt;
+        shape(alloc, 1, rows)?.as_str(),
+        r#"whiteouts ["a/x", "z"]
 opaques ["etc"]
 covers ["notes"]
 folders ["etc/os-release"]
-files []"#,
-        ),
-        (
-            &[
-                ("etc/", ""),
-                ("etc/os-release", TOO_LARGE),
-                ("usr/", ""),
-                ("usr/lib/", ""),
-                ("usr/lib/apk/", ""),
-                ("usr/lib/apk/db/", ""),
-                ("usr/lib/apk/db/installed", "bad"),
-                ("usr/lib/os-release", "ID=debian\n"),
-                ("var/", ""),
-                ("var/lib/", ""),
-                ("var/lib/dpkg/", ""),
-                ("var/lib/dpkg/status", GONE),
-            ],
-            r#"whiteouts []
+files []"#
+    );
+    Ok(())
+}
+
+#[test]
+fn package_files_are_reduced(rt: HostRuntime) -> Result<(), Fail> {
+    let alloc = rt.alloc();
+    let rows = &[
+        ("etc/", ""),
+        ("etc/os-release", TOO_LARGE),
+        ("usr/", ""),
+        ("usr/lib/", ""),
+        ("usr/lib/apk/", ""),
+        ("usr/lib/apk/db/", ""),
+        ("usr/lib/apk/db/installed", "bad"),
+        ("usr/lib/os-release", "ID=debian\n"),
+        ("var/", ""),
+        ("var/lib/", ""),
+        ("var/lib/dpkg/", ""),
+        ("var/lib/dpkg/status", GONE),
+    ];
+    assert_eq!(rt;
+        shape(alloc, 1, rows)?.as_str(),
+        r#"whiteouts []
 opaques []
 covers ["etc/os-release", "usr/lib/apk/db/installed", "usr/lib/os-release", "var/lib/dpkg/status"]
 folders []
-files [FileFound { path: "etc/os-release", found: TooLarge }, FileFound { path: "usr/lib/apk/db/installed", found: Bad(FileBad { line: 1, what: NoColon }) }, FileFound { path: "usr/lib/os-release", found: Os(OsName { id: Text { inner: "debian" }, version: None }) }]"#,
-        ),
-        (&[("a/b", "")], "BadTree(NoParent(0))"),
-    ] {
-        assert_eq!(rt; shape(alloc, 1, rows)?.as_str(), want);
-    }
+files [FileFound { path: "etc/os-release", found: TooLarge }, FileFound { path: "usr/lib/apk/db/installed", found: Bad(FileBad { line: 1, what: NoColon }) }, FileFound { path: "usr/lib/os-release", found: Os(OsName { id: Text { inner: "debian" }, version: None }) }]"#
+    );
+    Ok(())
+}
+
+#[test]
+fn bad_trees_and_absent_layers_are_told(rt: HostRuntime) -> Result<(), Fail> {
+    let alloc = rt.alloc();
+    assert_eq!(rt;
+        shape(alloc, 1, &[("a/b", "")])?.as_str(),
+        "BadTree(NoParent(0))"
+    );
     assert_eq!(rt; shape(alloc, 2, &[])?.as_str(), "NoLayer");
     Ok(())
 }
