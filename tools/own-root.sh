@@ -14,7 +14,7 @@ program=$(build cvwatch)
 ecosystem=$(own_root "$work")
 own_packages >"$work/packages"
 
-# a source package and its version, and the version in which it is called fixed (that of the source from behind), each line
+# a source package and its version, and the version in which it is called fixed (that of another source: their versions in reverse order), each line
 awk -F'\t' '!seen[$3]++ { print $3 "\t" $4 }' "$work/packages" | sort >"$work/sources"
 cut -f2 "$work/sources" | tac | paste <(cut -f1 "$work/sources") - >"$work/fixes"
 
@@ -49,7 +49,7 @@ cp "$work/packages" "$work/wanted"
 own_record false | scan | jq -r "[$package] | @tsv" >"$work/found"
 compare 'all versions' packages
 
-# each package with what stands behind its source in a file that is sorted by sources
+# each package with what stands after its source in a file that is sorted by sources
 joined() { join -t $'\t' -1 3 -2 1 -o 1.1,1.2,1.3,1.4,"$2" <(sort -t $'\t' -k 3,3 "$work/packages") "$1"; }
 
 joined "$work/fixes" 2.2 |
@@ -61,7 +61,7 @@ joined "$work/fixes" 2.2 |
 own_record true | scan | jq -r "[$package] | @tsv" >"$work/found"
 compare 'versions below the fix of another source' packages
 
-# source, id, introduced, last affected (or -) and fixed (or -). A version with ~ behind it stands just below it, and one with +
+# source, id, introduced, last affected (or -) and fixed (or -). A version with ~ after it stands just below it, and one with +
 # just above
 awk -F'\t' 'NR % 3 == 1 {
     print $1 "\tBELOW-" $1 "\t0\t-\t" $2 "~"

@@ -40,7 +40,7 @@ pub fn costs_of(rt: &HostRuntime, plan: Plan) -> Result<Vec<Cost>, NoMemory> {
 fn run<L: Ledger>(rt: &HostRuntime, blank: Blank, plan: Plan) -> Result<Vec<Cost>, NoMemory>
     requires name { blank.name ≡ L.name }
     requires parts { blank.parts ≡ L.parts }
-    requires some { 0 < L.parts }
+    requires has_parts { 0 < L.parts }
 {
     let mut steps = Steps::<L>::open(blank);
     let mut core = TimedCore::new(rt.alloc())?;

@@ -2,7 +2,7 @@ use crate::tally::{Named, count, show_counts};
 use cv_base::NoMemory;
 use cv_core::Limits;
 use plain_machine::{Draws, Lines, Machine, Step};
-use sample_core::{Service, restart, show_page, tell};
+use sample_core::{Service, report_step, restart, show_page};
 use std::alloc::Global;
 
 /// How many runs there are, and how many events each has. Each begins with a new core.
@@ -68,10 +68,10 @@ fn replay_step(
     out: &mut Lines,
 ) -> Result<(), NoMemory> {
     let mut wanted = Lines::new(alloc);
-    machine.tell(alloc, step, &mut wanted)?;
+    machine.report_step(alloc, step, &mut wanted)?;
     machine.show_page(&mut wanted, machine.last());
     let mut shown = Lines::new(alloc);
-    let reply = tell(alloc, core, step, &mut shown);
+    let reply = report_step(alloc, core, step, &mut shown);
     show_page(&mut shown, core.notices(), machine.last(), SIZE, 1);
     compare(counts, &wanted, &shown, out)?;
     count(counts, reply)?;

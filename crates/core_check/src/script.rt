@@ -1,6 +1,6 @@
 use cv_core::{Limits, MAX_FEEDS, MAX_IMAGES};
 use plain_machine::{Lines, Step, Work, code_of, feed_of};
-use sample_core::{Service, restart, show_heads, show_page, show_queued, show_report, tell};
+use sample_core::{Service, report_step, restart, show_heads, show_page, show_queued, show_report};
 use std::alloc::Global;
 
 /// Does what each line of a script says, and writes the line and what came of it.
@@ -53,7 +53,7 @@ fn run_page(core: &Service, words: &str, out: &mut Lines) {
 fn run_event(alloc: Global, core: &mut Service, step: Option<Step<'_>>, out: &mut Lines) {
     match step {
         Some(step) => {
-            let _ = tell(alloc, core, step, out);
+            let _ = report_step(alloc, core, step, out);
         }
         None => out.word(" | not an event"),
     }

@@ -1,4 +1,4 @@
--- Threads may share feeds and prepared records. Each part has a lemma: a search over a whole type gives up.
+-- Threads may share feeds. Each part has a lemma: a search over a whole type gives up.
 use Rattle.std.proofs.Crossing.{crosses}
 use Rattle.std.proofs.MapsCrossing as maps
 use denote.Param.Send.{IsSend, IsSync, sendable}
@@ -6,34 +6,13 @@ use denote.Param.SendFields.{declared_send, declared_sync}
 use Rattle.cv_seq.proofs.text.Text.TheSendSync as text
 use Rattle.cv_base.proofs.advisory.Advisory.TheSendSync as advisory
 use Rattle.cv_base.proofs.«package».PackageName.TheSendSync as package_name
-use Rattle.cv_match.proofs.entry.PreparedEntries.TheSendSync as entries
-use Rattle.cv_match.specs.contracts.kinds.PreparedForKinds as kinds
-use Rattle.cv_match.specs.contracts.prepared.PreparedRecord as prepared
-use Rattle.cv_match.specs.contracts.prepared.ReadyAdvisory as ready
+use Rattle.cv_match.proofs.Crossing.{kinds_send, kinds_sync}
 use Rattle.cv_advdb.specs.contracts.feeds.Feeds as feeds
 use Rattle.cv_advdb.specs.contracts.index.RecordList as list
 use Rattle.cv_advdb.specs.contracts.record.PreparedRecord as record_of
 use Rattle.cv_advdb.specs.contracts.record.StoredRecord as stored
 use Rattle.cv_advdb.specs.contracts.stock.IndexedRecords as indexed
 use Rattle.cv_advdb.specs.contracts.stock.Stock as stock
-
-prepared_send : IsSend prepared.the_row
-prepared_send = search (entries.the_send, sendable, crosses, declared_send) depth 30 fits 5000
-
-prepared_sync : IsSync prepared.the_row
-prepared_sync = search (entries.the_sync, sendable, crosses, declared_sync) depth 30 fits 5000
-
-ready_send : IsSend ready.the_row
-ready_send = search (prepared_send, prepared_sync, sendable, crosses, declared_send) depth 30 fits 5000
-
-ready_sync : IsSync ready.the_row
-ready_sync = search (prepared_send, prepared_sync, sendable, crosses, declared_sync) depth 30 fits 5000
-
-kinds_send : IsSend kinds.the_row
-kinds_send = search (ready_send, sendable, declared_send) depth 30 fits 5000
-
-kinds_sync : IsSync kinds.the_row
-kinds_sync = search (ready_sync, sendable, declared_sync) depth 30 fits 5000
 
 record_send : IsSend record_of.the_row
 record_send = search (kinds_send, advisory.the_send, sendable, declared_send) depth 30 fits 5000

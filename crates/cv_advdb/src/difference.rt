@@ -57,7 +57,7 @@ fn step<'a>(
 ) -> Result<(&'a [StoredRecord], &'a [StoredRecord]), NoMemory>
     requires left_sorted { IsStrictlySortedBy id_cmp left.now }
     requires right_sorted { IsStrictlySortedBy id_cmp right.now }
-    requires some { 0 < length left.now + length right.now }
+    requires has_records { 0 < length left.now + length right.now }
     ensures less { IfOk result (λ next. IsLess left.now right.now next.0.now next.1.now) }
     ensures differ { IfOk result (λ next. IsStep left.now right.now names.old.items next.0.now next.1.now names.new.items) }
 {
@@ -92,7 +92,7 @@ fn step_right<'a>(
 ) -> Result<(&'a [StoredRecord], &'a [StoredRecord]), NoMemory>
     requires left_empty { length left.now ≡ 0 }
     requires right_sorted { IsStrictlySortedBy id_cmp right.now }
-    requires some { 0 < length right.now }
+    requires has_records { 0 < length right.now }
     ensures less { IfOk result (λ next. IsLess left.now right.now next.0.now next.1.now) }
     ensures differ { IfOk result (λ next. IsStep left.now right.now names.old.items next.0.now next.1.now names.new.items) }
 {

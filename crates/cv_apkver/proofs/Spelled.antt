@@ -11,7 +11,7 @@ use Rattle.cv_apkver.specs.Order.{suffix_from, build_digits, digits_of, key_of, 
 use Rattle.cv_apkver.specs.Parts.{after_letters, before, after, build_part, front_letters, is_build, is_last_number, is_letter_or_nothing, is_release, is_suffix, is_version, pieces, pieces_after, release_part, rest_of, suffix_parts}
 use Rattle.cv_apkver.proofs.Pieces.{pieces_cut}
 
--- a front that passes is passed over
+-- a front that passes is skipped
 module _ (test : ℕ → Bool) where
   front-append : (xs ys : List ℕ) → list_all test xs ≡ true → front_while test (xs ++ ys) ≡ xs ++ front_while test ys
   front-append [] ys h = refl

@@ -30,7 +30,7 @@ by_fault : (app : App) (arguments : List Text) (b : Bool) → is_taken app argum
 unfolding rows_by
 by_fault app arguments b e = rw e refl
 
--- an error that is not want of memory says that the arguments are not taken
+-- an error other than out of memory says that the arguments are not taken
 pub not_taken : (app : App) (arguments : List Text) (e : Error) → is_simple_and_free app ≡ true → (is_simple_and_free app ≡ true → HasKind (fault_of app arguments) e)
     → kind_of e ≢ kind.OutOfMemory → None ≡ rows_by app arguments
 not_taken app arguments e simple h other = sym (by_fault app arguments false (not_quiet (fault_of app arguments) e (h simple) other))

@@ -1,4 +1,4 @@
--- Keys that are put in order rise strictly, are those that were given, and none is lost but for one that the order holds
+-- Keys that are put in order ascend strictly, are those that were given, and none is lost but for one that the order holds
 -- equal to it.
 use Rattle.std.specs.Prelude.{◌≡◌, Bool, true, false, ◌||◌, List, [], ◌∷◌, refl}
 use Rattle.std.specs.BTreeSet.{insert_key}
@@ -45,7 +45,7 @@ put_rises {K} {cmp} o (x ∷ xs) q h = by_order (cmp q x) refl (put_rises o xs q
   by_order Equal e rest = h
   by_order Greater e rest = (after_put cmp x q xs (turned o q x e) h.0, rest)
 
--- keys in order rise strictly
+-- keys in order ascend strictly
 pub order_rises : {K : Type 0} {cmp : K → K → Ordering} → IsTotalOrder cmp → (ks : List K) → IsStrictlySortedBy cmp (in_order cmp ks)
 unfolding IsStrictlySortedBy
 order_rises o [] = tt
@@ -65,7 +65,7 @@ any_put {K} {cmp} test ties (x ∷ xs) q = by_order (cmp q x) refl (any_put test
   by_order Equal e rest = or_twice (test q) (test x) (list_any test xs) (ties q x e)
   by_order Greater e rest = ap (λ (b : Bool). test x || b) rest ∙ or_swap_inner false (test x) (test q) (list_any test xs)
 
--- some key in order passes a test exactly where some key that was given does, if the test tells no two equal keys apart
+-- some key in order passes a test exactly where some key that was given does, if the test is the same for equal keys
 pub any_order : {K : Type 0} {cmp : K → K → Ordering} (test : K → Bool) → ((p q : K) → cmp p q ≡ Equal → test p ≡ test q) → (ks : List K)
     → list_any test (in_order cmp ks) ≡ list_any test ks
 any_order test ties [] = refl

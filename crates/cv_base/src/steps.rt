@@ -25,7 +25,7 @@ impl<L: Ledger> Steps<L> {
     pub fn open(blank: Blank) -> Steps<L>
         requires name { blank.name ≡ L.name }
         requires parts { blank.parts ≡ L.parts }
-        requires some { 0 < L.parts }
+        requires has_parts { 0 < L.parts }
         ensures { result ≡ 0 }
     {
         let (book, share) = blank.open::<L>();

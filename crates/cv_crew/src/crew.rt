@@ -1,6 +1,6 @@
 ghost use Rattle.std.specs.Prelude.{◌+◌, ◌<◌, ◌^◌, ℕ, length, OnOk};
 ghost use Rattle.std.specs.Thread.{IsSend, IsSync};
-ghost use Rattle.cv_crew.specs.code.Team.{AreReadyFrom, EachDidFrom};
+ghost use Rattle.cv_crew.specs.code.Team.{ArePreparedFrom, EachDidFrom};
 
 use cv_seq::NoMemory;
 use std::thread::{Threads, join_mut};
@@ -8,7 +8,7 @@ use std::thread::{Threads, join_mut};
 /// Work that is done with a hand, a seat and a desk, by many threads with some of their own, each of a number.
 pub trait Crew<H, S, K> {
     /// What has to hold before.
-    ghost ready: { Self → ℕ → H → S → K → Type 0 };
+    ghost prepared: { Self → ℕ → H → S → K → Type 0 };
 
     /// What was done.
     ghost did: { Self → ℕ → H → H → S → S → K → K → Type 0 };
@@ -18,7 +18,7 @@ pub trait Crew<H, S, K> {
 
     /// Does the work of one number.
     fn run(&self, number: u32, hand: &mut H, seat: &mut S, desk: &mut K) -> Result<(), NoMemory>
-        requires { ready self.now number hand.old seat.old desk.old }
+        requires { prepared self.now number hand.old seat.old desk.old }
         ensures { OnOk result (did self.now number hand.old hand.new seat.old seat.new desk.old desk.new) };
 }
 
@@ -33,8 +33,8 @@ pub fn run_crew<H: Send, S: Send, K: Send, T: Crew<H, S, K> + Sync, W: Threads +
     seats: &mut [S],
     desks: &mut [K],
 ) -> Result<(), NoMemory>
-    requires few { number + length desks.old < 2 ^ 32 }
-    requires ready { AreReadyFrom (T.ready crew.now) number hands.old seats.old desks.old }
+    requires in_range { number + length desks.old < 2 ^ 32 }
+    requires prepared { ArePreparedFrom (T.prepared crew.now) number hands.old seats.old desks.old }
     ensures { OnOk result (EachDidFrom (T.did crew.now) number hands.old hands.new seats.old seats.new desks.old desks.new) }
 {
     let Some((hand, hands)) = hands.split_first_mut() else {
@@ -62,9 +62,9 @@ fn crew_from<H: Send, S: Send, K: Send, T: Crew<H, S, K> + Sync, W: Threads + Sy
     desk: &mut K,
     desks: &mut [K],
 ) -> Result<(), NoMemory>
-    requires few { number + 1 + length desks.old < 2 ^ 32 }
-    requires first { T.ready crew.now number hand.old seat.old desk.old }
-    requires ready { AreReadyFrom (T.ready crew.now) (number + 1) hands.old seats.old desks.old }
+    requires in_range { number + 1 + length desks.old < 2 ^ 32 }
+    requires first { T.prepared crew.now number hand.old seat.old desk.old }
+    requires prepared { ArePreparedFrom (T.prepared crew.now) (number + 1) hands.old seats.old desks.old }
     ensures first { OnOk result (T.did crew.now number hand.old hand.new seat.old seat.new desk.old desk.new) }
     ensures others { OnOk result (EachDidFrom (T.did crew.now) (number + 1) hands.old hands.new seats.old seats.new desks.old desks.new) }
 {
@@ -75,11 +75,11 @@ fn crew_from<H: Send, S: Send, K: Send, T: Crew<H, S, K> + Sync, W: Threads + Sy
     let (first, others) = join_mut(
         rt,
         &mut || -> Result<(), NoMemory>
-            requires { T.ready crew.now number hand.now seat.now desk.now }
+            requires { T.prepared crew.now number hand.now seat.now desk.now }
             ensures { OnOk result (T.did crew.entry.now number hand.entry.now hand.exit.now seat.entry.now seat.exit.now desk.entry.now desk.exit.now) }
         { crew.run(number, hand, seat, desk) },
         &mut || -> Result<(), NoMemory>
-            requires { IsSync W.row × IsSync T.row × IsSend H.row × IsSend S.row × IsSend K.row × (number + 1 + length desks.now < 2 ^ 32) × AreReadyFrom (T.ready crew.now) (number + 1) hands.now seats.now desks.now }
+            requires { IsSync W.row × IsSync T.row × IsSend H.row × IsSend S.row × IsSend K.row × (number + 1 + length desks.now < 2 ^ 32) × ArePreparedFrom (T.prepared crew.now) (number + 1) hands.now seats.now desks.now }
             ensures { OnOk result (EachDidFrom (T.did crew.entry.now) (number + 1) hands.entry.now hands.exit.now seats.entry.now seats.exit.now desks.entry.now desks.exit.now) }
         { run_crew(rt, crew, number + 1, hands, seats, desks) },
     );

@@ -1,6 +1,6 @@
 ghost use Rattle.std.specs.Prelude.{OnOk};
 ghost use Rattle.std.specs.Thread.{IsSend, IsSync};
-ghost use Rattle.cv_crew.specs.code.Team.{AreReady, EachDid};
+ghost use Rattle.cv_crew.specs.code.Team.{ArePrepared, EachDid};
 
 use cv_seq::NoMemory;
 use std::thread::{Threads, join_mut};
@@ -8,7 +8,7 @@ use std::thread::{Threads, join_mut};
 /// Work that is done at a seat and a part, by many threads at seats and parts of their own.
 pub trait Team<S, P> {
     /// What has to hold before.
-    ghost ready: { Self → S → P → Type 0 };
+    ghost prepared: { Self → S → P → Type 0 };
 
     /// What was done.
     ghost did: { Self → S → S → P → P → Type 0 };
@@ -18,7 +18,7 @@ pub trait Team<S, P> {
 
     /// Does the work of one place.
     fn run(&self, seat: &mut S, part: &mut P) -> Result<(), NoMemory>
-        requires { ready self.now seat.old part.old }
+        requires { prepared self.now seat.old part.old }
         ensures { OnOk result (did self.now seat.old seat.new part.old part.new) };
 }
 
@@ -30,7 +30,7 @@ pub fn run_team<S: Send, P: Send, T: Team<S, P> + Sync, W: Threads + Sync>(
     seats: &mut [S],
     parts: &mut [P],
 ) -> Result<(), NoMemory>
-    requires { AreReady (T.ready team.now) seats.old parts.old }
+    requires { ArePrepared (T.prepared team.now) seats.old parts.old }
     ensures { OnOk result (EachDid (T.did team.now) seats.old seats.new parts.old parts.new) }
 {
     let Some((seat, seats)) = seats.split_first_mut() else {
@@ -46,11 +46,11 @@ pub fn run_team<S: Send, P: Send, T: Team<S, P> + Sync, W: Threads + Sync>(
     let (first, others) = join_mut(
         rt,
         &mut || -> Result<(), NoMemory>
-            requires { T.ready team.now seat.now part.now }
+            requires { T.prepared team.now seat.now part.now }
             ensures { OnOk result (T.did team.entry.now seat.entry.now seat.exit.now part.entry.now part.exit.now) }
         { team.run(seat, part) },
         &mut || -> Result<(), NoMemory>
-            requires { IsSync W.row × IsSync T.row × IsSend S.row × IsSend P.row × AreReady (T.ready team.now) seats.now parts.now }
+            requires { IsSync W.row × IsSync T.row × IsSend S.row × IsSend P.row × ArePrepared (T.prepared team.now) seats.now parts.now }
             ensures { OnOk result (EachDid (T.did team.entry.now) seats.entry.now seats.exit.now parts.entry.now parts.exit.now) }
         { run_team(rt, team, seats, parts) },
     );

@@ -15,7 +15,7 @@ use Rattle.cv_legal.specs.code.Segment.{lane_requests}
 use Rattle.cv_legal.specs.declared.taken.Requested.{Requested}
 use Rattle.cv_legal.specs.declared.taken.Taken.{Taken}
 use Rattle.cv_dealing.specs.Sound.{IsSoundAnswer, IsSoundRequest, IsSoundTaken}
-use Rattle.cv_dealing.specs.code.Dealt.{AreDealt, IsDealt, IsLaneReady, of_other_lane}
+use Rattle.cv_dealing.specs.code.Dealt.{AreDealt, IsDealt, IsLanePrepared, of_other_lane}
 use Rattle.cv_dealing.specs.declared.lane.Lane.{Lane}
 
 cons_both : {X : Type 0} (o : Option X) (xs ys : List X) → cons_option o (xs ++ ys) ≡ cons_option o xs ++ ys
@@ -118,13 +118,13 @@ within [] h = tt
 within (r ∷ rs) h = (h.0.1, within rs h.1)
 
 -- lanes that were dealt can be worked at
-pub dealt_ready : (n : ℕ) (asked : List Requested) (lanes : List Lane) → AllByRecursion IsSoundRequest asked → AreDealt n asked lanes → AllByRecursion IsLaneReady lanes
-dealt_ready n asked [] sound h = tt
-dealt_ready n asked (lane ∷ lanes) sound h = (
+pub dealt_prepared : (n : ℕ) (asked : List Requested) (lanes : List Lane) → AllByRecursion IsSoundRequest asked → AreDealt n asked lanes → AllByRecursion IsLanePrepared lanes
+dealt_prepared n asked [] sound h = tt
+dealt_prepared n asked (lane ∷ lanes) sound h = (
   record {
     within_limits = subst (AllByRecursion (λ (r : Requested). IsWithinLimits r.request.act)) (sym h.0.1)
         (within (lane_requests n asked) (all_kept IsSoundRequest (λ r. r.request.lane == n) asked sound));
     no_reads = h.0.2;
   },
-  dealt_ready (n + 1) asked lanes sound h.1,
+  dealt_prepared (n + 1) asked lanes sound h.1,
 )

@@ -15,5 +15,6 @@ abbrev pub IsSoundAnswer : Result Request RequestError → Type 0
 IsSoundAnswer (Ok request) = (request.lane < 8) × IsWithinLimits request.act
 IsSoundAnswer (Err error) = ⊤
 
+-- a line was refused, or its request is sound
 abbrev pub IsSoundTaken : Taken → Type 0
 IsSoundTaken taken = IsSoundAnswer taken.answer

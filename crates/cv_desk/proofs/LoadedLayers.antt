@@ -8,6 +8,7 @@ use Rattle.std.proofs.lemmas.List.{map-append}
 use Rattle.std.proofs.lemmas.List.Folds.{list_all-append}
 use Rattle.cv_base.specs.Path.{Path, same_path}
 use Rattle.cv_base.specs.Place.{place_of}
+use Rattle.cv_base.specs.declared.limits.TheConstants.{PACKAGE_FILE_LIMIT}
 use Rattle.cv_base.specs.declared.tree.Content.TheVariants.{Bytes, TooLarge, Unread}
 use Rattle.cv_base.specs.declared.tree.ListEntry.{ListEntry}
 use Rattle.cv_base.specs.declared.tree.Node.TheVariants as node
@@ -49,7 +50,7 @@ file_by path bytes false false = refl
 
 item_loaded : (path : Path) (item : Item) → loaded_kind path (kind_of item) (Some item) ≡ node_of path item
 item_loaded path Dir = refl
-item_loaded path (File bytes) = file_by path bytes (is_none (place_of path)) (nat_lt 33554432 (length bytes))
+item_loaded path (File bytes) = file_by path bytes (is_none (place_of path)) (nat_lt PACKAGE_FILE_LIMIT (length bytes))
 item_loaded path Other = refl
 
 entry_loaded : (all : List Stored) (e : Stored) → item_at all e.path ≡ Some e.item → loaded_by (Some all) (listed e) ≡ loaded e

@@ -29,7 +29,7 @@ static ROWS: [TableEntry; 5] = [
     entry!("notes", File, b"four"),
 ];
 
-/// One layer, for all digests. Its third row is no path, and the fourth has the path of the second.
+/// One layer, for all digests. Its third row is not a valid path, and the fourth has the path of the second.
 struct Sample;
 
 impl Table for Sample {

@@ -1,5 +1,5 @@
 -- A transcript as the objects that its lines are (RFC 8259, as serde_json reads it), and what is asked of them (defined by this
--- project). A line that is no JSON object is passed over.
+-- project). A line that is no JSON object is ignored.
 use Rattle.std.specs.Prelude.{ℕ, Bool, true, false, ◌||◌, if◌then◌else◌, List, [], ◌∷◌, Option, Some, None, option_and_then, is_some, unwrap_or}
 use Rattle.std.specs.List.{filter_map, slice_split}
 use Rattle.std.specs.Option.{option_map}

@@ -9,7 +9,7 @@ use serde_json::{Map, Value};
 use std::alloc::Global;
 use std::str;
 
-/// The objects that the lines of a transcript are. Other lines are passed over.
+/// The objects that the lines of a transcript are. Other lines are ignored.
 pub(crate) fn objects(alloc: Global, transcript: &[u8]) -> Result<Vec<Value>, NoMemory>
     ensures { IfOk result (λ found. map view found.items ≡ objects transcript.now) }
 {

@@ -56,13 +56,15 @@ abbrev pub packages : ℕ → List ℕ → List Stored
 packages s [] = []
 packages s (k ∷ ks) = npm_package (name_number s k) (version_number s k) ++ packages s ks
 
--- the numbers from 0 to 9, from 0 to 19 and from 0 to 29
+-- 0 to 9
 abbrev pub ten : List ℕ
 ten = 0 ∷ 1 ∷ 2 ∷ 3 ∷ 4 ∷ 5 ∷ 6 ∷ 7 ∷ 8 ∷ 9 ∷ []
 
+-- 0 to 19
 abbrev pub twenty : List ℕ
 twenty = ten ++ 10 ∷ 11 ∷ 12 ∷ 13 ∷ 14 ∷ 15 ∷ 16 ∷ 17 ∷ 18 ∷ 19 ∷ []
 
+-- 0 to 29
 abbrev pub thirty : List ℕ
 thirty = twenty ++ 20 ∷ 21 ∷ 22 ∷ 23 ∷ 24 ∷ 25 ∷ 26 ∷ 27 ∷ 28 ∷ 29 ∷ []
 

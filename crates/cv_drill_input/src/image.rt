@@ -25,7 +25,7 @@ pub(crate) fn push_registrations(
     offset: u32,
     images: u32,
 ) -> Result<(), NoMemory>
-    requires few { images ≤ 1000 }
+    requires at_most_1000_images { images ≤ 1000 }
     requires offset { offset < 1000 }
     ensures { OnOk result (string_bytes text.new ≡ string_bytes text.old ++ lines_text (register_lines offset images)) }
 {
@@ -49,7 +49,7 @@ pub(crate) fn push_reports(alloc: Global, text: &mut String, images: u32) -> Res
 
 /// The request that registers an image.
 fn register_value(alloc: Global, offset: u32, index: u32) -> Result<Value, NoMemory>
-    requires few { index < 1000 }
+    requires below_1000 { index < 1000 }
     requires offset { offset < 1000 }
     ensures { IfOk result (λ value. view value ≡ register_data offset index) }
 {
@@ -59,7 +59,7 @@ fn register_value(alloc: Global, offset: u32, index: u32) -> Result<Value, NoMem
 
 /// The manifest of an image.
 fn manifest_value(alloc: Global, offset: u32, index: u32) -> Result<Value, NoMemory>
-    requires few { index < 1000 }
+    requires below_1000 { index < 1000 }
     requires offset { offset < 1000 }
     ensures { IfOk result (λ value. view value ≡ manifest_data (image index) (layers offset index)) }
 {
@@ -78,7 +78,7 @@ fn report_value(alloc: Global, index: u32) -> Result<Value, NoMemory>
 
 /// The layers of an image, the lowest first.
 fn layers(alloc: Global, offset: u32, index: u32) -> Result<Vec<Digest>, NoMemory>
-    requires few { index < 1000 }
+    requires below_1000 { index < 1000 }
     requires offset { offset < 1000 }
     ensures { IfOk result (λ found. found.items ≡ layers offset index) }
 {

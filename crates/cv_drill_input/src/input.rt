@@ -23,7 +23,7 @@ pub fn script(alloc: Global, seed: u32) -> Result<Seq<u8>, NoMemory>
 /// The lines for so many images and records.
 #[tactic(auto, using(cv_drill_records::proofs::Lists::lines_joined), unfolding(crate::specs::Script::script_lines))]
 fn script_text(alloc: Global, offset: u32, images: u32, records: u32) -> Result<String, NoMemory>
-    requires few { images ≤ 1000 }
+    requires at_most_1000_images { images ≤ 1000 }
     requires offset { offset < 1000 }
     ensures { IfOk result (λ text. string_bytes text ≡ lines_text (script_lines offset images records)) }
 {

@@ -91,7 +91,7 @@ fn match_counted<L: Ledger>(
 ) -> Result<Seq<Finding>, NoMemory>
     requires name { blank.name ≡ L.name }
     requires parts { blank.parts ≡ L.parts }
-    requires some { 0 < L.parts }
+    requires has_parts { 0 < L.parts }
 {
     let mut steps = Steps::<L>::open(blank);
     match_all(alloc, packages, feeds, &mut steps)

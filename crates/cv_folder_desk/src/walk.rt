@@ -1,7 +1,7 @@
 ghost use Rattle.std.specs.Prelude.{◌≡◌, ◌≢◌, ◌≤◌, ◌<◌, ◌+◌, ◌++◌, ◌∷◌, [], true, false, length, string_bytes, IfOk, IfErr, IfSome, IsErr, OnOk, Ok, Some, None};
 ghost use Rattle.std.specs.Fs.{IsDir, IsFile, file_type, metadata_len};
 ghost use Rattle.std.specs.List.{join_with_byte};
-ghost use Rattle.std.specs.List.Sorted.{IsSortedByKey};
+ghost use Rattle.std.specs.List.Sorted.{IsPermutation, IsSortedByKey};
 ghost use Rattle.std.specs.IoError.{error_kind};
 ghost use Rattle.cv_base.specs.Path.{path_cmp, path_of};
 ghost use Rattle.cv_folder_desk.specs.Folder.{folder_text, most_entries};
@@ -76,6 +76,7 @@ fn folder_of(alloc: Global, layer: &Digest) -> Result<String, NoMemory>
 #[tactic(auto, using(crate::proofs::Walks::sorted_by_key))]
 fn sort(entries: &mut Vec<ListEntry>)
     ensures sorted { IsSortedByKey (λ entry. entry.path) path_cmp entries.new.items }
+    ensures permutation { IsPermutation entries.old.items entries.new.items }
     ensures count { length entries.new.items ≡ length entries.old.items }
 {
     entries.sort_unstable();

@@ -8,7 +8,7 @@ ghost use Rattle.cv_seats.specs.Events.{IsReplayed, entries_from, state_of};
 ghost use Rattle.cv_seats.specs.Seats.{AreAllReceipts, AreFresh, AreNumbered, HaveSeen, IsApplied, seat_of};
 ghost use Rattle.cv_seats.specs.declared.submission.Submission.{Submission};
 
-use crate::held::Held;
+use crate::view::View;
 use cv_base::Digest;
 use cv_desk::Desk;
 use cv_locked::{Core, Event, Locked, Receipt};
@@ -99,7 +99,7 @@ impl<D: Desk + Drop, L: Identity> Hub<D, L> {
         held.submit(rt, alloc, seat, by, event)
     }
 
-    /// A note of the list, with at least all events that were taken. It waits for the lock.
+    /// A note of the list, with at least all events that were taken. It takes no memory. It waits for the lock.
     pub fn note<W: Wait>(&self, rt: &W) -> Note<D, L>
         ensures { IsPrefix self.now result }
     {
@@ -109,7 +109,7 @@ impl<D: Desk + Drop, L: Identity> Hub<D, L> {
 
     /// A view, with at least all events that the seat has seen; the seat has then seen those of the view. It waits for the lock, and
     /// holds it.
-    pub fn view<W: Wait>(&self, rt: &W, seat: &mut Seat<D, L>) -> Held<'_, D, L>
+    pub fn view<W: Wait>(&self, rt: &W, seat: &mut Seat<D, L>) -> View<'_, D, L>
         ensures taken { IsPrefix self.now result }
         ensures seen { IsPrefix seat.old.list result }
         ensures seat { seat.new ≡ seat_of seat.old.index result seat.old.count }
@@ -137,7 +137,7 @@ impl<D: Desk + Drop, L: Identity> Hub<D, L> {
     /// them has seen. The seats stay as they are. It takes no memory, and waits for the lock.
     pub fn take_events<W: Wait>(&mut self, rt: &W, seats: &mut [Seat<D, L>]) -> Vec<EventEntry>
         requires all { length seats.old ≡ L.parts }
-        requires some { 0 < length seats.old }
+        requires has_seats { 0 < length seats.old }
         requires numbered { AreNumbered 0 seats.old }
         ensures more { IsPrefix self.old self.new }
         ensures replayed { IsReplayed D.tree L.limits self.new }
@@ -160,7 +160,7 @@ impl<D: Desk + Drop, L: Identity> Hub<D, L> {
     /// The list with the entries since the last taking.
     fn take<W: Wait>(&self, rt: &W, seats: &mut [Seat<D, L>]) -> (Front<D, L>, Vec<EventEntry>)
         requires all { length seats.old ≡ L.parts }
-        requires some { 0 < length seats.old }
+        requires has_seats { 0 < length seats.old }
         requires numbered { AreNumbered 0 seats.old }
         ensures more { IsPrefix self.now result.0 }
         ensures entries { result.1.items ≡ entries_from (length self.now + 1) (drop (length self.now) result.0) }
@@ -180,10 +180,10 @@ impl<D: Desk + Drop, L: Identity> Hub<D, L> {
     }
 
     /// Holds the lock, with room for one more event.
-    fn hold_with_room<W: Wait>(&self, rt: &W, seen: &Front<D, L>) -> Held<'_, D, L>
+    fn hold_with_room<W: Wait>(&self, rt: &W, seen: &Front<D, L>) -> View<'_, D, L>
         ensures seen { IsPrefix seen.now result }
         ensures taken { IsPrefix self.now result }
-        ensures few { length result < 2 ^ 63 }
+        ensures below_2_63_events { length result < 2 ^ 63 }
     {
         for _ in rt.forever() {
             let held = self.hold(rt, seen);
@@ -195,12 +195,12 @@ impl<D: Desk + Drop, L: Identity> Hub<D, L> {
     }
 
     /// Holds the lock. A hold that finds fewer events than were seen or taken is given up and tried again.
-    fn hold<W: Wait>(&self, rt: &W, seen: &Front<D, L>) -> Held<'_, D, L>
+    fn hold<W: Wait>(&self, rt: &W, seen: &Front<D, L>) -> View<'_, D, L>
         ensures seen { IsPrefix seen.now result }
         ensures taken { IsPrefix self.now result }
     {
         for _ in rt.forever() {
-            if let Some(held) = Held::of(self.locked.lock(rt)) {
+            if let Some(held) = View::of(self.locked.lock(rt)) {
                 if seen.begins(held.seen()) && self.taken.begins(held.seen()) {
                     return held;
                 }

@@ -5,17 +5,16 @@
 //! let (mut hub, mut seats) = Hub::<D, L>::start(alloc, Blank::new(2), core, 2)?;
 //! let receipt = hub.submit(rt, alloc, &mut seats[0], By::Worker(0), Event::Claim(layer, 0))?;
 //! seats[1].learn(receipt.note);
-//! let view = hub.view(rt, &mut seats[1]);
-//! let answer = view.report(&image);
+//! let is_known = hub.view(rt, &mut seats[1]).report(&image).is_ok();
 //! let entries = hub.take_events(rt, &mut seats);
 //! hub.end(seats);
 //! ```
 #![tactic(auto)]
 
-mod held;
 mod hub;
+mod view;
 
 pub use cv_locked::Receipt;
 pub use cv_seats::{Blank, Identity, Note, Seat, Submission};
-pub use held::Held;
 pub use hub::Hub;
+pub use view::View;

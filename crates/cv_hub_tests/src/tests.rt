@@ -2,7 +2,7 @@ ghost use Rattle.std.specs.Prelude.{◌≡◌, true};
 ghost use Rattle.cv_hub.specs.Seats.{AreNumbered};
 ghost use Rattle.sample_events.specs.Core.{opened};
 
-use cv_hub::{Blank, Held, Hub, Identity, Seat};
+use cv_hub::{Blank, Hub, Identity, Seat, View};
 use cv_seq::NoMemory;
 use sample_events::{
     By, Core, EventEntry, IMAGES, Reply, SampleDesk, add_line, event, hash, new_core, replayed,
@@ -12,6 +12,8 @@ use std::marker::Brand;
 use std::process::Abort;
 use std::sync::{Wait, ledger};
 use std::thread::{self, Threads};
+
+mod seats;
 
 /// How many seats submit events, each in a thread of its own.
 const LANES: usize = 8;
@@ -243,7 +245,7 @@ fn add_shown<L: Identity, W: Wait>(
 fn add_view<L: Identity>(
     alloc: Global,
     out: &mut String,
-    view: &Held<'_, SampleDesk, L>,
+    view: &View<'_, SampleDesk, L>,
 ) -> Result<(), NoMemory> {
     for image in 0..IMAGES {
         add_line(alloc, out, &view.report(&hash(image)))?;
@@ -261,7 +263,7 @@ fn lanes_with_entries(receipts: &[Vec<(u64, Reply)>], entries: &[EventEntry]) ->
     receipts.len()
 }
 
-/// Whether a lane has a receipt for each of its lines, whose numbers rise, and the entry of each number is that line with that reply.
+/// Whether a lane has a receipt for each of its lines, whose numbers ascend, and the entry of each number is that line with that reply.
 fn are_entries(lane: u8, receipts: &[(u64, Reply)], entries: &[EventEntry]) -> bool {
     let mut last = 0;
     let mut line = 0;

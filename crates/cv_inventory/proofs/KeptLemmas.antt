@@ -32,8 +32,8 @@ use Rattle.cv_tree.specs.Entries.{map_values, remade_entries, rows_of}
 use Rattle.cv_tree.proofs.ValueLemmas.{mapped_at, mapped_with, mapped_without}
 use Rattle.cv_knowledge.specs.Changes.{feeds_replaced, image_added, image_dropped, layer_indexed}
 use Rattle.cv_knowledge.specs.Knowledge.{KnowledgeView, Outcomes, nothing_known, report_by}
-use Rattle.cv_knowledge.proofs.FactTables.{entered_indexed, facts_entered, facts_remaining, remaining_told}
-use Rattle.cv_knowledge.proofs.RenewedLemmas.{all_told}
+use Rattle.cv_knowledge.proofs.FactTables.{entered_indexed, facts_entered, facts_remaining, remaining_known}
+use Rattle.cv_knowledge.proofs.RenewedLemmas.{all_known}
 use Rattle.cv_inventory.specs.Holdings.{Holdings, IsRegular, alone, feed_table, holding}
 use Rattle.cv_inventory.specs.code.Kept.{HasEntered, IsAlike, IsKept, held, registrations, with_image, without_image}
 
@@ -127,7 +127,7 @@ dropped trees r k image names kept regular ascends =
       right = facts_remaining trees r.layers k.facts names others kept.right regular.layers ascends;
       made =
           ap (λ (o : Outcomes). without_value o image) kept.made ∙ sym (mapped_without text_cmp (outcome_at k.facts k.feeds.feeds) r.images image)
-          ∙ remaining_told trees r.layers k.facts k.feeds.feeds names others kept.right regular.layers ascends;
+          ∙ remaining_known trees r.layers k.facts k.feeds.feeds names others kept.right regular.layers ascends;
       few_feeds = kept.few_feeds;
       few_layers = λ q layers is.
           kept.few_layers q layers (found_before (same image q) (value_at r.images q) layers (sym (value_cut r.images image q regular.images) ∙ is));
@@ -149,7 +149,7 @@ entered trees r after k known kept regular h right =
     subst (λ (s : Registrations). IsKept trees s (layer_indexed k known r.images)) (sym h.now)
     (record {
       right = facts_entered trees r.layers k.facts known.digest known kept.right refl right;
-      made = all_told k.facts known.digest known k.feeds.feeds r.images k.outcomes regular.images (kept.right.indexed known.digest ∙ h.new) kept.made;
+      made = all_known k.facts known.digest known k.feeds.feeds r.images k.outcomes regular.images (kept.right.indexed known.digest ∙ h.new) kept.made;
       few_feeds = kept.few_feeds;
       few_layers = kept.few_layers;
     })

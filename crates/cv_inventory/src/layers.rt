@@ -50,7 +50,7 @@ impl<D: Desk + Drop> Inventory<D> {
         Ok((self.with_registry(registry)?, reply))
     }
 
-    /// A worker gives a layer back, after a fault or for want of memory: `Requeued`, and the layer waits for a worker again;
+    /// A worker gives a layer back, after a fault or when memory ran out: `Requeued`, and the layer waits for a worker again;
     /// `NotClaimed` and `Discarded` as for `index`.
     pub fn requeue(
         &self,

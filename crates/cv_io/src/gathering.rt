@@ -5,7 +5,7 @@ ghost use Rattle.cv_io.specs.Fault.{is_read_fault};
 ghost use Rattle.cv_io.specs.Lines.{LF, HasNoLineEnd, text_of};
 ghost use Rattle.cv_io.specs.Takes.{Takes};
 ghost use Rattle.cv_io.specs.Reader.{Answers, Step, new_reader};
-ghost use Rattle.cv_io.specs.code.Gather.{held_by, progress_by, reader_of, gathered, SameLimits, SameCounts, reads_left};
+ghost use Rattle.cv_io.specs.code.Gather.{held_by, progress_by, reader_of, gathered, SameLimits, SameCounts, reads_remaining};
 
 use crate::chunk::Chunk;
 use crate::fault::IoFault;
@@ -102,7 +102,7 @@ impl Gather {
         requires room { self.old.taken < self.old.max_input }
         ensures takes { Takes (held_by self.old) (held_by self.new) (progress_by self.old) (progress_by self.new)
             (S.remaining input.old) (S.remaining input.new) }
-        ensures less { OnOk result (reads_left self.new < reads_left self.old) }
+        ensures less { OnOk result (reads_remaining self.new < reads_remaining self.old) }
         ensures refused { IfErr result (λ e. Answers (held_by self.new) (reader_of self.new false) (Err e)) }
         ensures limits { SameLimits self.old self.new }
         ensures cause { CausedBy (S.faults input.old) (S.faults input.new) (is_read_fault result) }

@@ -177,10 +177,10 @@ agreeing ones others feeds (image ∷ images) h =
     ∷ agreeing ones others feeds images (λ layer named. h layer (or_second (has_text image.1 layer) (is_named images layer) named)) i
 
 -- the other images have the outcomes that they had
-pub remaining_told : (trees : List ℕ → Option (Option (List Stored))) (table : Layers) (facts : FactTable) (feeds : Feeds) (layers : List (List ℕ)) (others : Images)
+pub remaining_known : (trees : List ℕ → Option (Option (List Stored))) (table : Layers) (facts : FactTable) (feeds : Feeds) (layers : List (List ℕ)) (others : Images)
     → AreFactsOf trees table facts → IsStrictlySortedBy text_cmp (keys_of table) → IsStrictlySortedBy text_cmp (keys_of facts)
     → map_values (outcome_at facts feeds) others ≡ map_values (outcome_at (remaining_facts facts layers (remaining table layers others)) feeds) others
-remaining_told trees table facts feeds layers others are sorted ascends =
+remaining_known trees table facts feeds layers others are sorted ascends =
     agreeing facts (remaining_facts facts layers (remaining table layers others)) feeds others
     (λ q named.
     sym (dropped_found table facts layers others q sorted ascends

@@ -135,12 +135,12 @@ either true x y h = refl
 either false x y h = sym h
 
 -- the outcome of an image after the layer has its first facts
-told_anew : (facts : FactTable) (layer : List ℕ) (known : Known) (feeds : Feeds) (images : Images) (q : List ℕ) (layers : List (List ℕ)) → has_facts facts layer ≡ false
+known_anew : (facts : FactTable) (layer : List ℕ) (known : Known) (feeds : Feeds) (images : Images) (q : List ℕ) (layers : List (List ℕ)) → has_facts facts layer ≡ false
     → value_at images q ≡ Some layers
     → cond (has_text (users_of images layer) q && waits_for layer (outcome_at facts feeds layers)) (Some (outcome_at (with_value facts layer known) feeds layers))
     (Some (outcome_at facts feeds layers))
     ≡ Some (outcome_at (with_value facts layer known) feeds layers)
-told_anew facts layer known feeds images q layers new found = by_named (has_text layers layer) refl where
+known_anew facts layer known feeds images q layers new found = by_named (has_text layers layer) refl where
   user : Bool
   user = has_text (users_of images layer) q
 
@@ -159,11 +159,11 @@ told_anew facts layer known feeds images q layers new found = by_named (has_text
   by_named false named = either (user && waits_for layer before) (Some after) (Some before) (ap Some (unnamed facts layer known feeds layers named))
 
 -- the outcomes made anew are those with the new facts
-pub all_told : (facts : FactTable) (layer : List ℕ) (known : Known) (feeds : Feeds) (images : Images) (outcomes : Outcomes) → IsStrictlySortedBy text_cmp (keys_of images)
+pub all_known : (facts : FactTable) (layer : List ℕ) (known : Known) (feeds : Feeds) (images : Images) (outcomes : Outcomes) → IsStrictlySortedBy text_cmp (keys_of images)
     → has_facts facts layer ≡ false → outcomes ≡ map_values (outcome_at facts feeds) images
     → all_renewed (outcome_at (with_value facts layer known) feeds) images layer outcomes (users_of images layer)
     ≡ map_values (outcome_at (with_value facts layer known) feeds) images
-all_told facts layer known feeds images outcomes sorted new told =
+all_known facts layer known feeds images outcomes sorted new shown =
     same_entries nat_list_cmp_total exact_bytes after (map_values made images)
     (all_sorted made images layer outcomes (users_of images layer) (subst (IsStrictlySortedBy text_cmp) (sym same_before) sorted))
     (subst (IsStrictlySortedBy text_cmp) (sym (mapped_keys made images)) sorted) (λ q. by_found q (value_at images q) refl) where
@@ -174,10 +174,10 @@ all_told facts layer known feeds images outcomes sorted new told =
       after = all_renewed made images layer outcomes (users_of images layer)
 
       same_before : keys_of outcomes ≡ keys_of images
-      same_before = ap (λ (o : Outcomes). keys_of o) told ∙ mapped_keys (outcome_at facts feeds) images
+      same_before = ap (λ (o : Outcomes). keys_of o) shown ∙ mapped_keys (outcome_at facts feeds) images
 
       had : (q : List ℕ) → value_at outcomes q ≡ option_map (outcome_at facts feeds) (value_at images q)
-      had q = ap (λ (o : Outcomes). value_at o q) told ∙ mapped_at text_cmp (outcome_at facts feeds) images q
+      had q = ap (λ (o : Outcomes). value_at o q) shown ∙ mapped_at text_cmp (outcome_at facts feeds) images q
 
       by_found : (q : List ℕ) (found : Option (List (List ℕ))) → value_at images q ≡ found → value_at after q ≡ value_at (map_values made images) q
       by_found q None is =
@@ -187,4 +187,4 @@ all_told facts layer known feeds images outcomes sorted new told =
           all_at made images layer outcomes (users_of images layer) q layers is
           ∙ ap (λ (o : Option Outcome). cond (has_text (users_of images layer) q && is_waiting layer o) (Some (made layers)) o)
           (had q ∙ ap (option_map (outcome_at facts feeds)) is)
-          ∙ told_anew facts layer known feeds images q layers new is ∙ sym (mapped_at text_cmp made images q ∙ ap (option_map made) is)
+          ∙ known_anew facts layer known feeds images q layers new is ∙ sym (mapped_at text_cmp made images q ∙ ap (option_map made) is)

@@ -12,7 +12,7 @@ use Rattle.cv_hub.proofs.Prefixes.{prefix_length}
 use Rattle.cv_legal.specs.declared.taken.Requested.{Requested}
 use Rattle.cv_transcript.proofs.OrderLemmas.{all_weaker}
 use Rattle.cv_lanes.specs.code.Own.{Submission}
-use Rattle.cv_lanes.specs.code.Lane.{Answers, AreInTurn, Follows, IsFrom, IsWithin, LaneDid, Looked, OneStep, Step, Submitted, placed_in, placed_of, read_in, reads_in}
+use Rattle.cv_lanes.specs.code.Lane.{Answers, AreInTurn, Follows, IsFrom, IsWithin, LaneDid, Answered, OneStep, Step, Submitted, placed_in, placed_of, read_in, reads_in}
 use Rattle.cv_lanes.proofs.OwnLemmas.{made_longer, made_none, made_then}
 
 -- ---- lists
@@ -33,7 +33,7 @@ zip_more P (w ∷ xs) (z ∷ ys) x y h one = (h.0, zip_more P xs ys x y h.1 one)
 answers_longer : (tree : DeskTrees) (limits : Limits) (list longer : List Submission) (asked : Requested) (step : Step) → IsPrefix list longer → IsWithin (length list) step
     → Answers tree limits list asked step → Answers tree limits longer asked step
 answers_longer tree limits list longer asked (Submitted p) begins within h = h
-answers_longer tree limits list longer asked (Looked read) begins within h =
+answers_longer tree limits list longer asked (Answered read) begins within h =
     let same : take read.front longer ≡ take read.front list = sym (ap (take read.front) begins.1) ∙ take-append-le read.front list begins.0 within in
     rw same h
 
@@ -47,19 +47,19 @@ all_longer tree limits list longer (r ∷ asked) (step ∷ steps) begins within 
 
 pub within_more : (m n : ℕ) → m ≤ n → (step : Step) → IsWithin m step → IsWithin n step
 within_more m n less (Submitted p) h = omega (arith, less, h)
-within_more m n less (Looked read) h = omega (arith, less, h)
+within_more m n less (Answered read) h = omega (arith, less, h)
 
 pub from_less : (m n : ℕ) → m ≤ n → (step : Step) → IsFrom n step → IsFrom m step
 from_less m n less (Submitted p) h = omega (arith, less, h)
-from_less m n less (Looked read) h = omega (arith, less, h)
+from_less m n less (Answered read) h = omega (arith, less, h)
 
 -- ---- in turn
 
 follows : (n : ℕ) (first second : Step) → IsWithin n first → IsFrom n second → Follows first second
 follows n (Submitted p) (Submitted q) within from = omega (arith, within, from)
-follows n (Submitted p) (Looked read) within from = omega (arith, within, from)
-follows n (Looked read) (Submitted q) within from = omega (arith, within, from)
-follows n (Looked read) (Looked later) within from = omega (arith, within, from)
+follows n (Submitted p) (Answered read) within from = omega (arith, within, from)
+follows n (Answered read) (Submitted q) within from = omega (arith, within, from)
+follows n (Answered read) (Answered later) within from = omega (arith, within, from)
 
 turn_more : (n : ℕ) (steps : List Step) (step : Step) → AreInTurn steps → AllByRecursion (IsWithin n) steps → IsFrom n step → AreInTurn (steps ++ step ∷ [])
 turn_more n [] step turn within from = (tt, tt)

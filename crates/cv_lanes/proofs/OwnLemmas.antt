@@ -19,7 +19,7 @@ pub among_none : (seat number : ℕ) (events : List Submission) → Among seat n
 among_none seat number [] = refl
 among_none seat number (event ∷ events) = inl (among_none seat (number + 1) events)
 
--- of two lists, one behind the other
+-- of two lists, one after the other
 pub among_both : (seat number next : ℕ) (xs ys : List Placed) (ds es : List Submission) → next ≡ number + length ds → Among seat number xs ds → Among seat next ys es → Among seat number (xs ++ ys) (ds ++ es)
 among_both seat number next xs ys [] es is first second =
     subst (λ own. Among seat number own es) (ap (λ own. own ++ ys) (sym first)) (let e : next ≡ number = omega (arith, is) in subst (λ (n : ℕ). Among seat n ys es) e second)

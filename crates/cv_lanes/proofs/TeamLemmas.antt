@@ -4,15 +4,15 @@ use Rattle.std.specs.List.{AllByRecursion}
 use Rattle.cv_machine.specs.declared.limits.Limits.{Limits}
 use Rattle.cv_hub.specs.Events.{DeskTrees}
 use Rattle.cv_hub.specs.Seats.{SeatView}
-use Rattle.cv_crew.specs.code.Team.{AreReady, EachDid}
-use Rattle.cv_dealing.specs.code.Dealt.{IsLaneReady}
+use Rattle.cv_crew.specs.code.Team.{ArePrepared, EachDid}
+use Rattle.cv_dealing.specs.code.Dealt.{IsLanePrepared}
 use Rattle.cv_dealing.specs.declared.lane.Lane.{Lane}
 use Rattle.cv_lanes.specs.code.Lane.{LaneAt, LanesDid}
 
-pub lanes_ready : (seats : List SeatView) (lanes : List Lane) → AllByRecursion IsLaneReady lanes → AreReady (λ (seat : SeatView) lane. IsLaneReady lane) seats lanes
-lanes_ready [] lanes h = tt
-lanes_ready (seat ∷ seats) [] h = tt
-lanes_ready (seat ∷ seats) (lane ∷ lanes) h = (h.0, lanes_ready seats lanes h.1)
+pub lanes_prepared : (seats : List SeatView) (lanes : List Lane) → AllByRecursion IsLanePrepared lanes → ArePrepared (λ (seat : SeatView) lane. IsLanePrepared lane) seats lanes
+lanes_prepared [] lanes h = tt
+lanes_prepared (seat ∷ seats) [] h = tt
+lanes_prepared (seat ∷ seats) (lane ∷ lanes) h = (h.0, lanes_prepared seats lanes h.1)
 
 pub lanes_did : (tree : DeskTrees) (limits : Limits) (ss ts : List SeatView) (os ns : List Lane) → EachDid (LaneAt tree limits) ss ts os ns → LanesDid tree limits ss ts os ns
 lanes_did tree limits [] ts os ns h = tt

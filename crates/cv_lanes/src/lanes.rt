@@ -1,5 +1,5 @@
 ghost use Rattle.std.specs.Prelude.{OnOk};
-ghost use Rattle.cv_dealing.specs.code.Dealt.{IsLaneReady};
+ghost use Rattle.cv_dealing.specs.code.Dealt.{IsLanePrepared};
 ghost use Rattle.cv_lanes.specs.code.Lane.{LaneAt};
 
 use crate::request::carry_out;
@@ -19,7 +19,7 @@ pub struct LaneTeam<'a, D: Desk + Drop, L: Identity, W: Wait> {
 }
 
 impl<'a, D: Desk + Drop, L: Identity, W: Wait> Team<Seat<D, L>, Lane> for LaneTeam<'a, D, L, W> {
-    ghost ready = { λ _ _ lane. IsLaneReady lane };
+    ghost prepared = { λ _ _ lane. IsLanePrepared lane };
 
     ghost did = { λ _ before after lane lane_after. LaneAt D.tree L.limits before after lane lane_after };
 
@@ -39,7 +39,7 @@ fn run_lane<D: Desk + Drop, L: Identity, W: Wait>(
     seat: &mut Seat<D, L>,
     lane: &mut Lane,
 ) -> Result<(), NoMemory>
-    requires { IsLaneReady lane.old }
+    requires { IsLanePrepared lane.old }
     ensures { OnOk result (LaneAt D.tree L.limits seat.old seat.new lane.old lane.new) }
 {
     let alloc = *lane.asked.allocator();

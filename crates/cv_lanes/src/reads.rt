@@ -6,15 +6,15 @@ ghost use Rattle.cv_request.specs.declared.request.Act.{Act};
 ghost use Rattle.cv_request.specs.declared.request.Act.TheVariants as act;
 ghost use Rattle.cv_legal.specs.Replay.{read_of};
 ghost use Rattle.cv_hub.specs.Events.{state_of};
-ghost use Rattle.cv_lanes.specs.code.Lane.{Looked, OneStep};
-ghost use Rattle.cv_lanes.specs.code.Place.{looked_at, requested};
+ghost use Rattle.cv_lanes.specs.code.Lane.{Answered, OneStep};
+ghost use Rattle.cv_lanes.specs.code.Place.{answered_read, requested};
 
 use crate::request::Place;
 use cv_base::{Digest, Finding};
 use cv_board::ReportRefusal;
 use cv_dealing::{copy_findings, copy_rows};
 use cv_desk::Desk;
-use cv_hub::{Held, Hub, Identity, Seat};
+use cv_hub::{Hub, Identity, Seat, View};
 use cv_notice::PageError;
 use cv_overlay::ImageFault;
 use cv_records::{Answer, PageOutcome, ReadEntry, ReportOutcome};
@@ -31,7 +31,7 @@ pub fn report_at<D: Desk + Drop, L: Identity, W: Wait>(
     place: Place,
     image: Digest,
 ) -> ReadEntry
-    ensures { OneStep D.tree L.limits (requested place (act.Report image)) seat.old seat.new (Looked result) }
+    ensures { OneStep D.tree L.limits (requested place (act.Report image)) seat.old seat.new (Answered result) }
 {
     let held = hub.view(rt, seat);
     let answer = report(alloc, &held, image);
@@ -51,7 +51,7 @@ pub fn page_at<D: Desk + Drop, L: Identity, W: Wait>(
 ) -> ReadEntry
     requires size { 1 ≤ size }
     requires page { 1 ≤ page }
-    ensures { OneStep D.tree L.limits (requested place (act.Page number size page)) seat.old seat.new (Looked result) }
+    ensures { OneStep D.tree L.limits (requested place (act.Page number size page)) seat.old seat.new (Answered result) }
 {
     let held = hub.view(rt, seat);
     let answer = page_of(alloc, &held, number, size, page);
@@ -66,7 +66,7 @@ pub fn list_at<D: Desk + Drop, L: Identity, W: Wait>(
     seat: &mut Seat<D, L>,
     place: Place,
 ) -> ReadEntry
-    ensures { OneStep D.tree L.limits (requested place act.List) seat.old seat.new (Looked result) }
+    ensures { OneStep D.tree L.limits (requested place act.List) seat.old seat.new (Answered result) }
 {
     let held = hub.view(rt, seat);
     let answer = list(alloc, &held);
@@ -80,7 +80,7 @@ pub fn no_memory_at<D: Desk + Drop, L: Identity, W: Wait>(
     seat: &mut Seat<D, L>,
     place: Place,
 ) -> ReadEntry
-    ensures { (act : Act) → OneStep D.tree L.limits (requested place act) seat.old seat.new (Looked result) }
+    ensures { (act : Act) → OneStep D.tree L.limits (requested place act) seat.old seat.new (Answered result) }
 {
     let held = hub.view(rt, seat);
     read_entry(&held, place, Err(NoMemory))
@@ -88,11 +88,11 @@ pub fn no_memory_at<D: Desk + Drop, L: Identity, W: Wait>(
 
 /// The entry of a read with this answer, or that memory ran out.
 fn read_entry<D: Desk + Drop, L: Identity>(
-    held: &Held<'_, D, L>,
+    held: &View<'_, D, L>,
     place: Place,
     answer: Result<Answer, NoMemory>,
 ) -> ReadEntry
-    ensures { result ≡ looked_at place held.now answer }
+    ensures { result ≡ answered_read place held.now answer }
 {
     ReadEntry {
         front: held.front(),
@@ -104,7 +104,7 @@ fn read_entry<D: Desk + Drop, L: Identity>(
 
 fn report<D: Desk + Drop, L: Identity>(
     alloc: Global,
-    held: &Held<'_, D, L>,
+    held: &View<'_, D, L>,
     image: Digest,
 ) -> Result<Answer, NoMemory>
     ensures { IsKnown D.tree → IfOk result (λ found. found ≡ answer_to (trees_of D.tree) (state_of (trees_of D.tree) L.limits held.now) (Report image)) }
@@ -116,7 +116,7 @@ fn report<D: Desk + Drop, L: Identity>(
 /// The report of an image, copied.
 fn report_outcome<D: Desk + Drop, L: Identity>(
     alloc: Global,
-    held: &Held<'_, D, L>,
+    held: &View<'_, D, L>,
     image: &Digest,
 ) -> Result<ReportOutcome, NoMemory>
     ensures { IsKnown D.tree → IfOk result (λ outcome. outcome ≡ report_of (trees_of D.tree) (state_of (trees_of D.tree) L.limits held.now) image.now) }
@@ -147,7 +147,7 @@ fn bad(fault: &ImageFault) -> Result<ReportOutcome, NoMemory>
 
 fn page_of<D: Desk + Drop, L: Identity>(
     alloc: Global,
-    held: &Held<'_, D, L>,
+    held: &View<'_, D, L>,
     number: u64,
     size: u32,
     page: u64,
@@ -174,7 +174,7 @@ fn page_of<D: Desk + Drop, L: Identity>(
 
 fn list<D: Desk + Drop, L: Identity>(
     alloc: Global,
-    held: &Held<'_, D, L>,
+    held: &View<'_, D, L>,
 ) -> Result<Answer, NoMemory>
     ensures { IsKnown D.tree → IfOk result (λ found. found ≡ answer_to (trees_of D.tree) (state_of (trees_of D.tree) L.limits held.now) Heads) }
 {

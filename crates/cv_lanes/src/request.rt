@@ -3,7 +3,7 @@ ghost use Rattle.cv_request.specs.declared.request.Act.{Act};
 ghost use Rattle.cv_request.specs.Limits.{IsWithinLimits};
 ghost use Rattle.cv_steps.specs.Core.{IsSound, act_of};
 ghost use Rattle.cv_legal.specs.Replay.{event_of};
-ghost use Rattle.cv_lanes.specs.code.Lane.{Looked, OneStep, Submitted};
+ghost use Rattle.cv_lanes.specs.code.Lane.{Answered, OneStep, Submitted};
 ghost use Rattle.cv_lanes.specs.code.Own.{Placed};
 ghost use Rattle.cv_lanes.specs.code.Place.{asked_by, requested};
 
@@ -43,7 +43,7 @@ pub fn carry_out<D: Desk + Drop, L: Identity, W: Wait>(
 ) -> Option<ReadEntry>
     requires within { IsWithinLimits asked.request.act }
     ensures event { IfNone result ((placed : Placed) × OneStep D.tree L.limits asked seat.old seat.new (Submitted placed)) }
-    ensures read { IfSome result (λ read. OneStep D.tree L.limits asked seat.old seat.new (Looked read)) }
+    ensures read { IfSome result (λ read. OneStep D.tree L.limits asked seat.old seat.new (Answered read)) }
 {
     let Requested {
         line,
@@ -83,7 +83,7 @@ fn look_at<D: Desk + Drop, L: Identity, W: Wait>(
     look: Look,
 ) -> ReadEntry
     requires within { IsWithinLimits (asked_by look) }
-    ensures { OneStep D.tree L.limits (requested place (asked_by look)) seat.old seat.new (Looked result) }
+    ensures { OneStep D.tree L.limits (requested place (asked_by look)) seat.old seat.new (Answered result) }
 {
     match look {
         Look::Report(image) => report_at(rt, alloc, hub, seat, place, image),
@@ -105,7 +105,7 @@ fn submit<D: Desk + Drop, L: Identity, W: Wait>(
 ) -> Option<ReadEntry>
     requires sound { IsSound (act_of event) }
     ensures event { (act : Act) → event_of act ≡ Some (act_of event) → IfNone result ((placed : Placed) × OneStep D.tree L.limits (requested place act) seat.old seat.new (Submitted placed)) }
-    ensures read { (act : Act) → event_of act ≡ Some (act_of event) → IfSome result (λ read. OneStep D.tree L.limits (requested place act) seat.old seat.new (Looked read)) }
+    ensures read { (act : Act) → event_of act ≡ Some (act_of event) → IfSome result (λ read. OneStep D.tree L.limits (requested place act) seat.old seat.new (Answered read)) }
 {
     let by = By::Lane {
         lane: place.lane,

@@ -22,7 +22,7 @@ use Rattle.cv_legal.specs.Replay.{Moment}
 use Rattle.cv_legal.specs.Round.{AreReadsOrdered, IsLegalRound, StandsBefore}
 use Rattle.cv_legal.specs.Taken.{IsTaken, lines_asked, refusals, request_at, requests}
 use Rattle.cv_legal.specs.code.Segment.{Address, IsFound, Segment, address_by, address_in, address_of, lane_requests, lanes_from}
-use Rattle.cv_legal.specs.code.Served.{LinesRise}
+use Rattle.cv_legal.specs.Served.{LinesAscend}
 use Rattle.cv_legal.specs.declared.taken.Requested.{Requested}
 use Rattle.cv_legal.specs.declared.taken.Taken.{Taken}
 
@@ -36,16 +36,16 @@ all_cond : {X : Type 0} (P : X → Type 0) (b : Bool) (x : X) (xs : List X) → 
 all_cond P true x xs h k = (h refl, k)
 all_cond P false x xs h k = k
 
--- ---- the requests of rising lines rise
+-- ---- the requests of rising lines ascend
 
 -- one request's line is below another's
 abbrev Below : Requested → Requested → Type 0
 Below first second = first.line < second.line
 
 -- requests on rising lines
-abbrev pub AsksRise : List Requested → Type 0
-AsksRise [] = ⊤
-AsksRise (r ∷ rs) = AllByRecursion (Below r) rs × AsksRise rs
+abbrev pub RequestsAscend : List Requested → Type 0
+RequestsAscend [] = ⊤
+RequestsAscend (r ∷ rs) = AllByRecursion (Below r) rs × RequestsAscend rs
 
 -- of lines above a number, and what became of them
 taken_above : (number : ℕ) (lines : List Line) (taken : List Taken) → AllZip IsTaken lines taken → AllByRecursion (λ line. number < line.number) lines
@@ -60,15 +60,15 @@ taken_above number (line ∷ lines) (t ∷ taken) h k = by_answer t.answer (take
   by_answer (Err error) rest = rest
 
 -- what became of rising lines
-pub asks_rise : (lines : List Line) (last : ℕ) (taken : List Taken) → AllZip IsTaken lines taken → LinesRise lines last → AsksRise (requests taken)
-asks_rise [] last [] h k = tt
-asks_rise [] last (t ∷ taken) h k = absurd h
-asks_rise (line ∷ lines) last [] h k = absurd h
-asks_rise (line ∷ lines) last (t ∷ taken) h k = by_answer t.answer (asks_rise lines last taken h.1 k.1.1) where
+pub requests_ascend : (lines : List Line) (last : ℕ) (taken : List Taken) → AllZip IsTaken lines taken → LinesAscend lines last → RequestsAscend (requests taken)
+requests_ascend [] last [] h k = tt
+requests_ascend [] last (t ∷ taken) h k = absurd h
+requests_ascend (line ∷ lines) last [] h k = absurd h
+requests_ascend (line ∷ lines) last (t ∷ taken) h k = by_answer t.answer (requests_ascend lines last taken h.1 k.1.1) where
   higher : AllByRecursion (λ r. t.line < r.line) (requests taken)
   higher = subst (λ n. AllByRecursion (λ r. n < r.line) (requests taken)) (sym h.0.number) (taken_above line.number lines taken h.1 k.1.0)
 
-  by_answer : (answer : Result Request RequestError) → AsksRise (requests taken) → AsksRise (cons_option (request_at t.line answer) (requests taken))
+  by_answer : (answer : Result Request RequestError) → RequestsAscend (requests taken) → RequestsAscend (cons_option (request_at t.line answer) (requests taken))
   by_answer (Ok request) rest = (higher, rest)
   by_answer (Err error) rest = rest
 
@@ -93,7 +93,7 @@ found_after : (first : Requested) (rest some : List Requested) → AllByRecursio
 found_after first rest [] low found = tt
 found_after first rest (r ∷ some) low found = (found_next first rest r low.0 found.0, found_after first rest some low.1 found.1)
 
-pub all_found : (asked : List Requested) → AsksRise asked → AllByRecursion (IsFound asked) asked
+pub all_found : (asked : List Requested) → RequestsAscend asked → AllByRecursion (IsFound asked) asked
 all_found [] h = tt
 all_found (first ∷ rest) h = (found_first first rest, found_after first rest rest h.0 (all_found rest h.1))
 
@@ -139,30 +139,30 @@ order_both : (xs ys : List Requested) → InOrder xs → InOrder ys → AllByRec
 order_both [] ys h k all = k
 order_both (x ∷ xs) ys h k all = (all_both (Precedes x) xs ys h.0 all.0, order_both xs ys h.1 k all.1)
 
--- requests of one lane that rise
-order_lane : (lane : ℕ) (xs : List Requested) → AllByRecursion (λ r. r.request.lane ≡ lane) xs → AsksRise xs → InOrder xs
-order_lane lane [] h rise = tt
-order_lane lane (x ∷ xs) h rise = (after xs h.1 rise.0, order_lane lane xs h.1 rise.1) where
+-- requests of one lane that ascend
+order_lane : (lane : ℕ) (xs : List Requested) → AllByRecursion (λ r. r.request.lane ≡ lane) xs → RequestsAscend xs → InOrder xs
+order_lane lane [] h ascend = tt
+order_lane lane (x ∷ xs) h ascend = (after xs h.1 ascend.0, order_lane lane xs h.1 ascend.1) where
   after : (rs : List Requested) → AllByRecursion (λ r. r.request.lane ≡ lane) rs → AllByRecursion (Below x) rs → AllByRecursion (Precedes x) rs
   after [] same low = tt
   after (r ∷ rs) same low = (inr (h.0 ∙ sym same.0, low.0), after rs same.1 low.1)
 
 -- rising requests without some of them
-rise_cond : (b : Bool) (x : Requested) (xs : List Requested) → AllByRecursion (Below x) xs → AsksRise xs → AsksRise (cond b (x ∷ xs) xs)
+rise_cond : (b : Bool) (x : Requested) (xs : List Requested) → AllByRecursion (Below x) xs → RequestsAscend xs → RequestsAscend (cond b (x ∷ xs) xs)
 rise_cond true x xs h k = (h, k)
 rise_cond false x xs h k = k
 
-pub rise_lane : (lane : ℕ) (asked : List Requested) → AsksRise asked → AsksRise (lane_requests lane asked)
+pub rise_lane : (lane : ℕ) (asked : List Requested) → RequestsAscend asked → RequestsAscend (lane_requests lane asked)
 rise_lane lane [] h = tt
 rise_lane lane (r ∷ asked) h =
     rise_cond (r.request.lane == lane) r (lane_requests lane asked) (in_lane (Below r) lane asked h.0) (rise_lane lane asked h.1)
 
-order_lanes : (lane count : ℕ) (asked : List Requested) → AsksRise asked → InOrder (lanes_from lane count asked)
-order_lanes lane zero asked rise = tt
-order_lanes lane (suc count) asked rise =
+order_lanes : (lane count : ℕ) (asked : List Requested) → RequestsAscend asked → InOrder (lanes_from lane count asked)
+order_lanes lane zero asked ascend = tt
+order_lanes lane (suc count) asked ascend =
     order_both (lane_requests lane asked) (lanes_from (lane + 1) count asked)
-    (order_lane lane (lane_requests lane asked) (of_lane lane asked) (rise_lane lane asked rise))
-    (order_lanes (lane + 1) count asked rise)
+    (order_lane lane (lane_requests lane asked) (of_lane lane asked) (rise_lane lane asked ascend))
+    (order_lanes (lane + 1) count asked ascend)
     (all_weaker (λ (r : Requested). r.request.lane ≡ lane) (λ (r : Requested). AllByRecursion (Precedes r) (lanes_from (lane + 1) count asked)) (lane_requests lane asked)
     (λ r same. all_weaker (λ (x : Requested). lane + 1 ≤ x.request.lane) (Precedes r) (lanes_from (lane + 1) count asked) (λ x most. inl (omega (arith, same, most))) (of_lanes (lane + 1) count asked))
     (of_lane lane asked))
@@ -313,10 +313,10 @@ lane_lines lane asked entries all same =
 -- ---- the round
 
 pub legal_round : (trees : Trees) (workers : ℕ) (lines : List Line) (last : ℕ) (taken : List Taken) (before : Moment) (entries : List Entry) (after : Moment)
-    → AllZip IsTaken lines taken → LinesRise lines last → AllByRecursion (λ r. r.request.lane < 8) (requests taken)
+    → AllZip IsTaken lines taken → LinesAscend lines last → AllByRecursion (λ r. r.request.lane < 8) (requests taken)
     → Segment trees workers (lanes_from 0 8 (requests taken)) (queued before.state.layers) before entries after
     → IsLegalRound trees workers before lines (refusals taken ++ entries) after
-legal_round trees workers lines last taken before entries after read rise low h = record {
+legal_round trees workers lines last taken before entries after read ascend low h = record {
   taken = taken;
   answers = read;
   others = entries;
@@ -328,5 +328,5 @@ legal_round trees workers lines last taken before entries after read rise low h 
   claimers = h.claimers;
   works = h.works;
 } where
-  risen : AsksRise (requests taken)
-  risen = asks_rise lines last taken read rise
+  risen : RequestsAscend (requests taken)
+  risen = requests_ascend lines last taken read ascend

@@ -23,7 +23,7 @@ ends_more limits round rest lines more (inr (inl h)) = inr (inl (record {
   joined = ap (λ x. x ++ more) h.joined ∙ append_assoc round rest more;
 }))
 ends_more limits round rest lines more (inr (inr h)) = inr (inr (record {
-  some = h.some;
+  has_lines = h.has_lines;
   next = h.next;
   later = h.later ++ more;
   begins = ap (λ x. x ++ more) h.begins;
@@ -117,7 +117,7 @@ cut_one limits cut lines line some h = by_text (is_nil line.text) refl where
       let past = ltb-true limits.bytes (size_of cut.begun + length line.text) parts.1 in
       ended_full limits (put_line line (end_round cut)) (lines ++ line ∷ []) some
       (replace limits cut.rounds (cut.begun ∷ []) (cut.begun ++ line ∷ []) (line ∷ []) (lines ++ line ∷ []) longer
-      (h.text, h.within, (line ∷ [], inr (inr (record { some = is_some cut.begun parts.0; next = line; later = []; begins = refl; text = text; past = past; short = h.short; joined = refl })), refl)))
+      (h.text, h.within, (line ∷ [], inr (inr (record { has_lines = is_some cut.begun parts.0; next = line; later = []; begins = refl; text = text; past = past; short = h.short; joined = refl })), refl)))
       (text, tt) (inr refl) (omega (arith, some))
   by_room false is text =
       ended_full limits (put_line line cut) (lines ++ line ∷ []) some longer (all_with cut.begun line h.text text)

@@ -58,11 +58,11 @@ use Rattle.cv_legal.specs.Rounds.{Round, RoundLimits, round_limits, rounds_of}
 use Rattle.cv_legal.specs.Taken.{IsTaken, lines_asked, refusal_at, refusals, request_at, requests}
 use Rattle.cv_legal.specs.Turns.{ClaimsBelow, FitsWork, Works}
 use Rattle.cv_legal.specs.code.Segment.{lane_requests}
-use Rattle.cv_legal.specs.code.Served.{LinesRise}
+use Rattle.cv_legal.specs.Served.{LinesAscend}
 use Rattle.cv_legal.specs.declared.taken.Requested.{Requested}
 use Rattle.cv_legal.specs.declared.taken.Taken.{Taken}
 use Rattle.cv_base.proofs.Same.{same_self}
-use Rattle.cv_legal.proofs.Assembled.{AsksRise, asks_rise, rise_lane}
+use Rattle.cv_legal.proofs.Assembled.{RequestsAscend, requests_ascend, rise_lane}
 
 abbrev line : ℕ → List ℕ → Line
 line number text = record { number = number; text = text }
@@ -534,12 +534,12 @@ higher_first first second workers lines after h =
       by_kind (inl less) = omega (arith, less)
       by_kind (inr less) = let l = less.1 in omega (arith, l)
 
--- two events of a lane in the other order, if the numbers of the lines rise
-not_falling : (rs : List Requested) → AsksRise rs → 2 ∷ 1 ∷ [] ≡ map (λ (r : Requested). r.line) rs → ⊥
-not_falling [] rise is = cc is
-not_falling (x ∷ []) rise is = cc is
-not_falling (x ∷ y ∷ rs) rise is =
-    let low = rise.0.0 in
+-- two events of a lane in the other order, if the numbers of the lines ascend
+not_falling : (rs : List Requested) → RequestsAscend rs → 2 ∷ 1 ∷ [] ≡ map (λ (r : Requested). r.line) rs → ⊥
+not_falling [] ascend is = cc is
+not_falling (x ∷ []) ascend is = cc is
+not_falling (x ∷ y ∷ rs) ascend is =
+    let low = ascend.0.0 in
     let first : 2 ≡ x.line = cc is in
     let second : 1 ≡ y.line = cc is in
     omega (arith, low, first, second)
@@ -547,13 +547,13 @@ not_falling (x ∷ y ∷ rs) rise is =
 abbrev swapped_events : EventEntry → EventEntry → List Entry
 swapped_events first second = entry.Event (record second { by = by.Lane 0 2 }) ∷ entry.Event (record first { by = by.Lane 0 1 }) ∷ []
 
-swapped_acts : (first second : EventEntry) (workers : ℕ) (before : Moment) (lines : Round) (last : ℕ) (after : Moment) → LinesRise lines last
+swapped_acts : (first second : EventEntry) (workers : ℕ) (before : Moment) (lines : Round) (last : ℕ) (after : Moment) → LinesAscend lines last
     → IsLegalRound trees workers before lines (swapped_events first second) after → ⊥
-swapped_acts first second workers before lines last after rise h =
+swapped_acts first second workers before lines last after ascend h =
     let same = others_are trees workers before lines (swapped_events first second) after h (λ refused. refused) in
     let numbers : lines_answered 0 (swapped_events first second) ≡ lines_asked 0 (requests h.taken) =
     subst (λ entries. lines_answered 0 entries ≡ lines_asked 0 (requests h.taken)) same (h.lanes 0) in
-    not_falling (lane_requests 0 (requests h.taken)) (rise_lane 0 (requests h.taken) (asks_rise lines last h.taken h.answers rise)) numbers
+    not_falling (lane_requests 0 (requests h.taken)) (rise_lane 0 (requests h.taken) (requests_ascend lines last h.taken h.answers ascend)) numbers
 
 -- no claim of a layer that is Queued as the round begins
 unclaimed : (workers : ℕ) (lines : Round) (after : Moment) → IsLegalRound trees workers registered lines [] after → ⊥

@@ -13,7 +13,7 @@ use Rattle.cv_legal.specs.Replay.{Moment, beginning}
 use Rattle.cv_legal.specs.Round.{IsLegalRound}
 use Rattle.cv_legal.specs.Rounds.{Cut, Round, RoundLimits, counted, cut_line, cut_lines, end_round, put_line}
 use Rattle.cv_legal.specs.Taken.{IsTaken}
-use Rattle.cv_legal.specs.code.Served.{LinesRise, Served}
+use Rattle.cv_legal.specs.Served.{LinesAscend, Served}
 use Rattle.cv_legal.specs.declared.taken.Taken.{Taken}
 use Rattle.cv_legal.proofs.Divided.{size_by_one}
 use Rattle.cv_legal.proofs.Joined.{one_more}
@@ -52,13 +52,13 @@ zip_with R (a ∷ xs) [] x y h k = absurd h
 zip_with R (a ∷ xs) (b ∷ ys) x y h k = (h.0, zip_with R xs ys x y h.1 k)
 
 -- a line with the next number
-rise_with : (lines : List Line) (last : ℕ) (line : Line) → line.number ≡ last + 1 → LinesRise lines last → LinesRise (lines ++ line ∷ []) (last + 1)
+rise_with : (lines : List Line) (last : ℕ) (line : Line) → line.number ≡ last + 1 → LinesAscend lines last → LinesAscend (lines ++ line ∷ []) (last + 1)
 rise_with [] last line is h = (omega (arith, is), (tt, tt))
 rise_with (first ∷ lines) last line is h =
     let low = h.0 in
     (omega (arith, low), (all_with (λ later. first.number < later.number) lines line h.1.0 (omega (arith, low, is)), rise_with lines last line is h.1.1))
 
-rise_later : (lines : List Line) (last more : ℕ) → LinesRise lines last → last ≤ more → LinesRise lines more
+rise_later : (lines : List Line) (last more : ℕ) → LinesAscend lines last → last ≤ more → LinesAscend lines more
 rise_later [] last more h most = tt
 rise_later (first ∷ lines) last more h most =
     let low = h.0 in
@@ -67,7 +67,7 @@ rise_later (first ∷ lines) last more h most =
 -- ---- what a service did
 
 pub begins : (trees : Trees) (workers : ℕ) (limits : RoundLimits) → Served trees workers (cut_lines limits []) 0 [] 0 [] beginning
-begins trees workers limits = record { rounds = (refl, refl); begun = tt; rise = tt; size = refl }
+begins trees workers limits = record { rounds = (refl, refl); begun = tt; ascend = tt; size = refl }
 
 pub takes_line : (trees : Trees) (workers : ℕ) (cut : Cut) (last : ℕ) (taken : List Taken) (bytes : ℕ) (entries : List Entry) (now : Moment) (line : Line) (t : Taken)
     → Served trees workers cut last taken bytes entries now → line.number ≡ last + 1 → IsTaken line t
@@ -75,7 +75,7 @@ pub takes_line : (trees : Trees) (workers : ℕ) (cut : Cut) (last : ℕ) (taken
 takes_line trees workers cut last taken bytes entries now line t h is k = record {
   rounds = h.rounds;
   begun = zip_with IsTaken cut.begun taken line t h.begun k;
-  rise = rise_with cut.begun last line is h.rise;
+  ascend = rise_with cut.begun last line is h.ascend;
   size = size_by_one cut.begun line ∙ ap (λ n. n + length line.text) h.size;
 }
 
@@ -86,7 +86,7 @@ pub ends_round : (trees : Trees) (workers : ℕ) (cut : Cut) (last : ℕ) (taken
 ends_round trees workers cut last taken bytes entries now next after h k = record {
   rounds = one_more trees workers beginning now after cut.rounds cut.begun entries next h.rounds k;
   begun = tt;
-  rise = tt;
+  ascend = tt;
   size = refl;
 }
 
@@ -94,7 +94,7 @@ ends_round trees workers cut last taken bytes entries now next after h k = recor
 pub later : (trees : Trees) (workers : ℕ) (cut : Cut) (last : ℕ) (taken : List Taken) (bytes : ℕ) (entries : List Entry) (now : Moment) (more : ℕ)
     → Served trees workers cut last taken bytes entries now → last ≤ more → Served trees workers cut more taken bytes entries now
 later trees workers cut last taken bytes entries now more h most =
-    record { rounds = h.rounds; begun = h.begun; rise = rise_later cut.begun last more h.rise most; size = h.size }
+    record { rounds = h.rounds; begun = h.begun; ascend = rise_later cut.begun last more h.ascend most; size = h.size }
 
 -- ---- the end of the input
 

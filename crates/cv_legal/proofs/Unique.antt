@@ -132,7 +132,7 @@ one_round limits rounds round rest lines some text within (inr (inr h)) =
     after_round limits (cut_at rounds []) round rest lines h.joined
     ∙ ap (λ x. fold (cut_line limits) x rest) (stays limits rounds [] round text within h.short)
     ∙ ap (λ x. fold (cut_line limits) (cut_at rounds round) x) h.begins
-    ∙ ap (λ x. fold (cut_line limits) x h.later) (ends_before limits rounds round h.next h.some h.text h.past)
+    ∙ ap (λ x. fold (cut_line limits) x h.later) (ends_before limits rounds round h.next h.has_lines h.text h.past)
     ∙ ap (λ x. fold (cut_line limits) (cut_at (rounds ++ round ∷ []) []) x) (sym h.begins)
 
 all_rounds : (limits : RoundLimits) (before rounds : List Round) (begun : Round) (lines : List Line) → 0 < limits.lines → AllByRecursion HasText begun

@@ -23,7 +23,7 @@ pub record EndsFull (limits : RoundLimits) (round : Round) (rest lines : List Li
 
 -- the round has a line, and the rest begins with one that would bring it past its bytes
 pub record EndsBefore (limits : RoundLimits) (round : Round) (rest lines : List Line) : Type 0 where
-  pub some : 0 < length round
+  pub has_lines : 0 < length round
   pub next : Line
   pub later : List Line
   pub begins : rest ≡ next ∷ later

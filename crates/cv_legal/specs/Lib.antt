@@ -5,6 +5,7 @@ pub mod Parts
 pub mod Replay
 pub mod Round
 pub mod Rounds
+pub mod Served
 pub mod Taken
 pub mod Turns
 pub mod code

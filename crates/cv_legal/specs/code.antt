@@ -1,3 +1,2 @@
 -- Words of the proof that a service is legal.
 pub mod Segment
-pub mod Served

@@ -7,7 +7,7 @@ use Rattle.cv_seats.specs.Events.{entries_from}
 use Rattle.cv_locked.specs.code.Locked.{IsListed}
 use Rattle.cv_seats.specs.declared.submission.Submission.{Submission}
 
--- the entries of one more event stand behind the others
+-- the entries of one more event stand after the others
 entries_more : (number : ℕ) (list : List Submission) (event : Submission) → entries_from number (list ++ event ∷ []) ≡ entries_from number list ++ event_entry (number + length list) event.by event.act event.reply ∷ []
 entries_more number [] event = let e : number ≡ number + 0 = omega arith in ap (λ (n : ℕ). event_entry n event.by event.act event.reply ∷ []) e
 entries_more number (first ∷ list) event =

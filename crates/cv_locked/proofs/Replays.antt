@@ -1,4 +1,4 @@
--- One more event behind a list.
+-- One more event after a list.
 use Rattle.std.proofs.Common.{◌≡◌, ℕ, ◌+◌, List, [], ◌∷◌, ◌++◌, map, length, refl, ap, sym, ◌∙◌, arith, length-append}
 use Rattle.std.proofs.lemmas.List.{map-append}
 use Rattle.cv_records.specs.declared.reply.Reply.{Reply}
@@ -11,7 +11,7 @@ use Rattle.cv_machine.specs.declared.limits.Limits.{Limits}
 use Rattle.cv_core.specs.Core.{CoreView, counted}
 use Rattle.cv_core.specs.Planned.{PlannedView, plan_of}
 use Rattle.cv_seats.specs.Events.{DeskTrees, IsReplayed, acts_of, replies_of, state_of}
-use Rattle.cv_locked.specs.code.Locked.{IsAfter, IsReady}
+use Rattle.cv_locked.specs.code.Locked.{IsAfter, IsEventPrepared}
 use Rattle.cv_seats.specs.declared.submission.Submission.{Submission}
 
 after_more : (trees : Trees) (state : State) (acts : List WholeAct) (act : WholeAct) → state_after trees state (acts ++ act ∷ []) ≡ (step trees (state_after trees state acts) act).0

@@ -87,7 +87,7 @@ impl<D: Desk, L: Identity> EventList<D, L> {
         reply: Reply,
     )
         requires room { 0 < self.old.room }
-        requires few { length self.old.list < 2 ^ 63 }
+        requires below_2_63_events { length self.old.list < 2 ^ 63 }
         requires seat { deed.seat ≡ seat.old.index }
         requires seen { IsPrefix seat.old.list self.old.list }
         requires name { name ≡ act_name (act_of deed.event.value) }
@@ -112,7 +112,7 @@ impl<D: Desk, L: Identity> EventList<D, L> {
     /// The entries since the last taking, by all seats of the hub.
     pub fn take(&mut self, seats: &mut [Seat<D, L>]) -> Vec<EventEntry>
         requires all { length seats.old ≡ L.parts }
-        requires some { 0 < length seats.old }
+        requires has_seats { 0 < length seats.old }
         requires numbered { AreNumbered 0 seats.old }
         requires seen { HaveSeen self.old.list seats.old }
         ensures entries { result.items ≡ entries_from (self.old.taken + 1) (drop self.old.taken self.old.list) }

@@ -9,7 +9,7 @@
 
 mod events;
 mod locked;
-mod ready;
+mod prepared;
 
 pub use cv_core::{Core, Event, NoticeHead, Page, PageError, Report, ReportRefusal};
 pub use locked::{Locked, Receipt};

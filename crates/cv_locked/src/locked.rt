@@ -3,10 +3,10 @@ ghost use mathlib.Core.List.{IsPrefix};
 ghost use Rattle.cv_core.specs.Core.{IsSound, act_of, opened};
 ghost use Rattle.cv_seats.specs.Events.{entries_from};
 ghost use Rattle.cv_seats.specs.Seats.{AreAllReceipts, AreNumbered, HaveSeen, IsApplied};
-ghost use Rattle.cv_locked.specs.code.Locked.{IsAfter, IsReady};
+ghost use Rattle.cv_locked.specs.code.Locked.{IsAfter, IsEventPrepared};
 
 use crate::events::EventList;
-use crate::ready::Ready;
+use crate::prepared::PreparedEvent;
 use cv_core::{Core, Event};
 use cv_desk::Desk;
 use cv_records::{By, EventEntry, Reply};
@@ -101,7 +101,7 @@ impl<D: Desk + Drop, L: Identity> Locked<D, L> {
         event: Event<D>,
     ) -> (Locked<D, L>, Result<Receipt<D, L>, NoMemory>)
         requires sound { IsSound (act_of event) }
-        requires few { length self.list < 2 ^ 63 }
+        requires below_2_63_events { length self.list < 2 ^ 63 }
         requires seen { IsPrefix seat.old.list self.list }
         ensures applied { IfOk result.1 (λ receipt. IsApplied D.tree L.limits self.list seat.old by (act_of event) receipt.number receipt.reply receipt.note seat.new) }
         ensures list { IfOk result.1 (λ receipt. result.0.list ≡ receipt.note) }
@@ -113,10 +113,10 @@ impl<D: Desk + Drop, L: Identity> Locked<D, L> {
             return (self, Err(NoMemory));
         }
         let Locked { core, events } = self;
-        match Ready::of(alloc, core, event) {
+        match PreparedEvent::of(alloc, core, event) {
             Err((core, NoMemory)) => (Locked { core, events }, Err(NoMemory)),
-            Ok(ready) => {
-                let (locked, receipt) = enter(rt, events, seat, by, ready);
+            Ok(prepared) => {
+                let (locked, receipt) = enter(rt, events, seat, by, prepared);
                 (locked, Ok(receipt))
             }
         }
@@ -125,7 +125,7 @@ impl<D: Desk + Drop, L: Identity> Locked<D, L> {
     /// The entries since the last taking, by all seats of the hub.
     pub fn take(self, seats: &mut [Seat<D, L>]) -> (Locked<D, L>, Vec<EventEntry>)
         requires all { length seats.old ≡ L.parts }
-        requires some { 0 < length seats.old }
+        requires has_seats { 0 < length seats.old }
         requires numbered { AreNumbered 0 seats.old }
         requires seen { HaveSeen self.list seats.old }
         ensures entries { result.1.items ≡ entries_from (self.taken + 1) (drop self.taken self.list) }
@@ -146,23 +146,23 @@ fn enter<W: Wait, D: Desk + Drop, L: Identity>(
     mut events: EventList<D, L>,
     seat: &mut Seat<D, L>,
     by: By,
-    ready: Ready<D>,
+    prepared: PreparedEvent<D>,
 ) -> (Locked<D, L>, Receipt<D, L>)
     requires room { 0 < events.room }
-    requires few { length events.list < 2 ^ 63 }
+    requires below_2_63_events { length events.list < 2 ^ 63 }
     requires seen { IsPrefix seat.old.list events.list }
-    requires ready { IsReady D.tree ready.planned.before (act_of ready.event.value) ready.planned ready.name ready.reply }
-    requires after { IsAfter D.tree L.limits events.list ready.planned.before }
-    ensures applied { IsApplied D.tree L.limits events.list seat.old by (act_of ready.event.value) result.1.number result.1.reply result.1.note seat.new }
+    requires prepared { IsEventPrepared D.tree prepared.planned.before (act_of prepared.event.value) prepared.planned prepared.name prepared.reply }
+    requires after { IsAfter D.tree L.limits events.list prepared.planned.before }
+    ensures applied { IsApplied D.tree L.limits events.list seat.old by (act_of prepared.event.value) result.1.number result.1.reply result.1.note seat.new }
     ensures list { result.0.list ≡ result.1.note }
     ensures taken { result.0.taken ≡ events.taken }
 {
-    let Ready {
+    let PreparedEvent {
         planned,
         event,
         name,
         reply,
-    } = ready;
+    } = prepared;
     let _facts = events.front.len();
     let deed = Deed {
         seat: seat.number(),

@@ -1,3 +1,4 @@
+pub mod Crossing
 mod Examples
 pub mod FindingsLaws
 pub mod Keys

@@ -5,7 +5,8 @@ use cv_base::{
     Seq, Steps, Text, Turn,
 };
 use cv_match::{
-    FixedAt, Hit, ReadyPackage, affects, fixed_text, package_keys, prepare, prepare_package,
+    FixedAt, Hit, PreparedForKinds, ReadyAdvisory, ReadyPackage, affects, fixed_text, package_keys,
+    prepare, prepare_package,
 };
 use std::alloc::Global;
 use std::marker::Brand;
@@ -163,7 +164,7 @@ fn answer<L: Ledger>(
 ) -> Result<Text, NoMemory>
     requires name { blank.name ≡ L.name }
     requires parts { blank.parts ≡ L.parts }
-    requires some { 0 < L.parts }
+    requires has_parts { 0 < L.parts }
 {
     let mut steps = Steps::<L>::open(blank);
     let prepared = prepare(alloc, advisory, package.kind)?;
@@ -226,6 +227,16 @@ fn a_package_has_a_key_for_its_ecosystem_and_one_for_the_part_before_the_colon(
 
 /// Only a type that threads may share is one for which this can be called.
 fn is_shared<T: Send + Sync>() {}
+
+#[test]
+fn prepared_records_are_shared_by_threads() {
+    is_shared::<ReadyAdvisory>();
+}
+
+#[test]
+fn records_prepared_for_all_kinds_are_shared_by_threads() {
+    is_shared::<PreparedForKinds>();
+}
 
 #[test]
 fn prepared_packages_are_shared_by_threads() {

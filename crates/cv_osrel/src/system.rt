@@ -12,7 +12,7 @@ use std::alloc::Global;
 
 /// The system that a file os-release names.
 ///
-/// Nothing is refused: a line that is no assignment is ignored. One pass over the bytes for each of the two names.
+/// Nothing is refused: a line that is not a valid assignment is ignored. One pass over the bytes for each of the two names.
 pub fn read_os(alloc: Global, bytes: &[u8]) -> Result<OsName, NoMemory>
     ensures { IfOk result (λ os. os ≡ os_of bytes.now) }
 {

@@ -77,7 +77,7 @@ fn outcomes<L: Ledger>(
 fn updated<L: Ledger>(blank: Blank, alloc: Global) -> Result<(u64, Vec<Row>), Fail>
     requires name { blank.name ≡ L.name }
     requires parts { blank.parts ≡ L.parts }
-    requires some { 0 < L.parts }
+    requires has_parts { 0 < L.parts }
 {
     let mut steps = Steps::<L>::open(blank);
     let before = outcomes(alloc, &mut steps)?;

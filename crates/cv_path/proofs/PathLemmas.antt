@@ -1,4 +1,4 @@
--- Paths told by their texts: that the walks of the code over the bytes are the words of `specs/Path.antt`.
+-- Paths by their texts: that the walks of the code over the bytes are the words of `specs/Path.antt`.
 use Rattle.std.proofs.Common.{◌≡◌, ℕ, ◌<◌, Bool, true, false, ◌&&◌, ◌||◌, not, cond, ◌==◌, List, [], ◌∷◌, refl, sym, ◌∙◌, ap, arith}
 use Rattle.std.specs.Cmp.Lexicographic.{slice_cmp}
 use Rattle.std.specs.List.{list_all, list_any, slice_split, onto_first, join_with_byte}

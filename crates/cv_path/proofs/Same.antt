@@ -1,4 +1,4 @@
--- Texts and paths that are the same are equal, and the order of paths tells no two paths equal.
+-- Texts and paths that are the same are equal, and in the order of paths no two different paths are equal.
 use Rattle.std.specs.Prelude.{◌≡◌, ℕ, true, ◌==◌, List, [], ◌∷◌, refl}
 use Rattle.std.specs.Cmp.{IsTotalOrder}
 use Rattle.std.specs.Cmp.Lexicographic.{lists_ties, lists_total, nat_list_cmp_total, same_text, slice_cmp, texts_ties}

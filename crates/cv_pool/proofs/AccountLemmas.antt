@@ -8,8 +8,8 @@ use Rattle.cv_pool.specs.declared.task.Task.{Task}
 use Rattle.cv_pool.specs.declared.task.Task.TheVariants.{Job, End}
 use Rattle.cv_pool.specs.declared.account.Account.{Account}
 use Rattle.cv_pool.specs.Jobs.{weigh}
-use Rattle.cv_pool.specs.Tasks.{jobs, marks, AreMarksLast}
-use Rattle.cv_pool.specs.Accounts.{account, total, Each, Fits, EachTaskOnce, with_pushed, with_taken, IsWithin, both, HasAll}
+use Rattle.cv_pool.specs.code.Tasks.{jobs, marks, AreMarksLast}
+use Rattle.cv_pool.specs.code.Accounts.{account, total, Each, Fits, EachTaskOnce, with_pushed, with_taken, IsWithin, both, HasAll}
 use Rattle.cv_pool.proofs.TaskLemmas.{cons_is_not_nil, weigh-append, jobs-append, marks-append, marks_last-end, marks_last-job}
 
 -- the total after a change of one account

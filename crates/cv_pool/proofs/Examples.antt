@@ -4,7 +4,7 @@ use Rattle.cv_pool.specs.declared.task.Task.TheVariants.{Job, End}
 use Rattle.cv_pool.specs.Jobs.{times, lists_weigh, weigh_below}
 use Rattle.cv_pool.specs.Hands.{Fill, deal, new_hand, new_hands, hand_after, any_done, lists_of}
 use Rattle.cv_pool.proofs.TaskLemmas.{cons_is_not_nil}
-use Rattle.cv_pool.specs.Tasks.{jobs, marks, AreMarksLast}
+use Rattle.cv_pool.specs.code.Tasks.{jobs, marks, AreMarksLast}
 
 each_once : (times 0 ([] ∷ (1 ∷ 0 ∷ 2 ∷ []) ∷ []) ≡ 1) × (times 2 ([] ∷ (1 ∷ 0 ∷ 2 ∷ []) ∷ []) ≡ 1)
 each_once = (refl, refl)

@@ -10,12 +10,12 @@ use Rattle.cv_pool.specs.declared.account.Account.{Account}
 use Rattle.cv_pool.specs.declared.task.Task.TheVariants.{Job, End}
 use Rattle.cv_pool.specs.declared.seat.Seat.{Seat}
 use Rattle.cv_pool.specs.Jobs.{weigh, lists_weigh, weigh_below}
-use Rattle.cv_pool.specs.Tasks.{jobs, marks}
-use Rattle.cv_pool.specs.Accounts.{account, with_pushed}
-use Rattle.cv_pool.specs.Owners.{Owner, owner_account, owner_deque, IsOwner, owners_dealt}
-use Rattle.cv_pool.specs.Filling.{AreOwners, AreNewSeats, AreParts, Seated, SeatedAt, fill_of, owner_jobs}
-use Rattle.cv_pool.specs.Seats.{seat_deque, seat_jobs, seat_account, IsSeated, seats_weigh, seats_dealt, any_more}
-use Rattle.cv_pool.specs.HandParts.{hand_state, IsHand, HasChest}
+use Rattle.cv_pool.specs.code.Tasks.{jobs, marks}
+use Rattle.cv_pool.specs.code.Accounts.{account, with_pushed}
+use Rattle.cv_pool.specs.code.Owners.{Owner, owner_account, owner_deque, IsOwner, owners_dealt}
+use Rattle.cv_pool.specs.code.Filling.{AreOwners, AreNewSeats, AreParts, Seated, SeatedAt, fill_of, owner_jobs}
+use Rattle.cv_pool.specs.code.Seats.{seat_deque, seat_jobs, seat_account, IsSeated, seats_weigh, seats_dealt, any_more}
+use Rattle.cv_pool.specs.code.HandParts.{hand_state, IsHand, HasChest}
 use Rattle.cv_pool.specs.Hands.{Fill, HandState, below, dealt_to, deal, new_hand, new_hands, AreHandsFrom, IsNewFill}
 use Rattle.cv_pool.specs.declared.chest.Chest.{Chest}
 use Rattle.std.specs.Global.{Global, Vec}

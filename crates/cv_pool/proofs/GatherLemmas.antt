@@ -7,11 +7,11 @@ use Rattle.cv_pool.specs.declared.chest.Chest.{Chest}
 use Rattle.cv_pool.specs.declared.seat.Seat.{Seat}
 use Rattle.cv_pool.specs.Jobs.{weigh, lists_weigh}
 use Rattle.cv_pool.specs.Hands.{Fill, HandState, AreHandsFrom, AreHandsOf, lists_of, any_done}
-use Rattle.cv_pool.specs.HandParts.{hand_state, IsChest, HasChest, IsHand}
-use Rattle.cv_pool.specs.Tasks.{jobs}
-use Rattle.cv_pool.specs.Seats.{seat_deque, seat_jobs, seat_account, IsSeated, seats_weigh, any_more}
-use Rattle.cv_pool.specs.Owners.{Owner, owner_deque, owner_account, IsOwner, HasShares, HasEnded, owners_weigh, owners_dealt}
-use Rattle.cv_pool.specs.Gathering.{HasShare, AreSeatsOf, AreOfDeques, Absorbed, AbsorbedAt, Gathered, HasSettled}
+use Rattle.cv_pool.specs.code.HandParts.{hand_state, IsChest, HasChest, IsHand}
+use Rattle.cv_pool.specs.code.Tasks.{jobs}
+use Rattle.cv_pool.specs.code.Seats.{seat_deque, seat_jobs, seat_account, IsSeated, seats_weigh, any_more}
+use Rattle.cv_pool.specs.code.Owners.{Owner, owner_deque, owner_account, IsOwner, HasShares, HasEnded, owners_weigh, owners_dealt}
+use Rattle.cv_pool.specs.code.Gathering.{HasShare, AreSeatsOf, AreOfDeques, Absorbed, AbsorbedAt, Gathered, HasSettled}
 use Rattle.cv_pool.proofs.TaskLemmas.{cons_is_not_nil, weigh-append}
 use Rattle.cv_pool.proofs.SeatLemmas.{each_seat_by, or_is_false-first, or_is_false-second}
 

@@ -6,8 +6,8 @@ use Rattle.std.proofs.lemmas.List.{length-map}
 use Rattle.cv_pool.specs.declared.chest.Chest.{Chest}
 use Rattle.cv_pool.specs.declared.seat.Seat.{Seat}
 use Rattle.cv_pool.specs.Jobs.{weigh, weigh_below}
-use Rattle.cv_pool.specs.Seats.{seat_deque, SeatsTook}
-use Rattle.cv_pool.specs.HandParts.{IsHand, HasChest}
+use Rattle.cv_pool.specs.code.Seats.{seat_deque, SeatsTook}
+use Rattle.cv_pool.specs.code.HandParts.{IsHand, HasChest}
 use Rattle.cv_pool.proofs.TaskLemmas.{weigh-append}
 use Rattle.cv_pool.proofs.SeatLemmas.{seats_within}
 

@@ -5,10 +5,10 @@ use Rattle.crossbeam_deque.specs.Handles.{IsPassOf, stealer_deque, stealer_flavo
 use Rattle.cv_pool.specs.declared.account.Account.{Account}
 use Rattle.cv_pool.specs.declared.seat.Seat.{Seat}
 use Rattle.cv_pool.specs.Jobs.{weigh}
-use Rattle.cv_pool.specs.Tasks.{jobs, marks}
-use Rattle.cv_pool.specs.Accounts.{with_taken, IsWithin}
-use Rattle.cv_pool.specs.Owners.{Owner, EachSeat}
-use Rattle.cv_pool.specs.Seats.{seat_deque, seat_jobs, seat_account, IsSeated, SeatTook, SeatsTook, seats_weigh, seats_dealt, any_more, task_of}
+use Rattle.cv_pool.specs.code.Tasks.{jobs, marks}
+use Rattle.cv_pool.specs.code.Accounts.{with_taken, IsWithin}
+use Rattle.cv_pool.specs.code.Owners.{Owner, EachSeat}
+use Rattle.cv_pool.specs.code.Seats.{seat_deque, seat_jobs, seat_account, IsSeated, SeatTook, SeatsTook, seats_weigh, seats_dealt, any_more, task_of}
 use Rattle.std.proofs.lemmas.List.{map-append, length-map}
 use Rattle.std.proofs.Math.Seq.{take-append_seam}
 use Rattle.cv_pool.proofs.TaskLemmas.{weigh-append}

@@ -3,7 +3,7 @@ use Rattle.std.proofs.Common.{◌≡◌, ℕ, suc, length, ◌+◌, List, [], �
 use Rattle.cv_pool.specs.declared.task.Task.{Task}
 use Rattle.cv_pool.specs.declared.task.Task.TheVariants.{Job, End}
 use Rattle.cv_pool.specs.Jobs.{weigh}
-use Rattle.cv_pool.specs.Tasks.{jobs, marks, AreMarksLast}
+use Rattle.cv_pool.specs.code.Tasks.{jobs, marks, AreMarksLast}
 
 -- a list with an item is not empty
 pub cons_is_not_nil : {A : Type 0} (x : A) (xs : List A) → (x ∷ xs) ≡ [] → ⊥

@@ -1,9 +1,3 @@
 pub mod Jobs
 pub mod Hands
-pub mod Tasks
-pub mod Accounts
-pub mod Seats
-pub mod Owners
-pub mod HandParts
-pub mod Gathering
-pub mod Filling
+pub mod code

@@ -16,7 +16,7 @@ pub struct EachOnce;
 
 impl Protocol<Task, Account> for EachOnce {
     ghost use Rattle.std.specs.Prelude.{[]};
-    ghost use Rattle.cv_pool.specs.Accounts.{account, EachTaskOnce};
+    ghost use Rattle.cv_pool.specs.code.Accounts.{account, EachTaskOnce};
 
     ghost holds = { EachTaskOnce };
 
@@ -30,7 +30,7 @@ pub struct Added;
 
 impl Outcome<Task, Account> for Added {
     ghost use Rattle.std.specs.Prelude.{◌≡◌};
-    ghost use Rattle.cv_pool.specs.Accounts.{with_pushed};
+    ghost use Rattle.cv_pool.specs.code.Accounts.{with_pushed};
 
     ghost then = { λ v xs w. w ≡ with_pushed v xs };
 }
@@ -40,8 +40,8 @@ pub struct Taking;
 
 impl Outcome<Task, Account> for Taking {
     ghost use Rattle.std.specs.Prelude.{◌≡◌, ◌<◌};
-    ghost use Rattle.cv_pool.specs.Tasks.{marks};
-    ghost use Rattle.cv_pool.specs.Accounts.{with_taken, IsWithin};
+    ghost use Rattle.cv_pool.specs.code.Tasks.{marks};
+    ghost use Rattle.cv_pool.specs.code.Accounts.{with_taken, IsWithin};
 
     ghost then = { λ v xs w. (w ≡ with_taken v xs) × IsWithin w };
 
@@ -53,7 +53,7 @@ pub struct Share;
 
 impl Split<Account> for Share {
     ghost use Rattle.std.specs.Prelude.{◌-◌, []};
-    ghost use Rattle.cv_pool.specs.Accounts.{account};
+    ghost use Rattle.cv_pool.specs.code.Accounts.{account};
 
     ghost left = { λ v. account (v.shares - 1) v.pushed v.taken v.ended };
 
@@ -62,7 +62,7 @@ impl Split<Account> for Share {
 
 impl Join<Account> for Share {
     ghost use Rattle.std.specs.Prelude.{[]};
-    ghost use Rattle.cv_pool.specs.Accounts.{account, both};
+    ghost use Rattle.cv_pool.specs.code.Accounts.{account, both};
 
     ghost both = { both };
 
@@ -74,7 +74,7 @@ pub struct Settled;
 
 impl Lesson<Task, Account> for Settled {
     ghost use Rattle.std.specs.Prelude.{◌<◌};
-    ghost use Rattle.cv_pool.specs.Accounts.{IsWithin, HasAll};
+    ghost use Rattle.cv_pool.specs.code.Accounts.{IsWithin, HasAll};
 
     ghost fact = { λ v items. IsWithin v × (0 < v.ended → HasAll v) };
 }

@@ -2,8 +2,8 @@ ghost use Rattle.std.specs.Prelude.{◌≡◌, ◌+◌, ◌-◌, ◌<◌, ◌≤
 ghost use Rattle.std.specs.List.{AllByRecursion};
 ghost use Rattle.cv_pool.specs.declared.seat.Seat.{Seat};
 ghost use Rattle.cv_pool.specs.Hands.{IsNewFill, new_hand, new_hands};
-ghost use Rattle.cv_pool.specs.Owners.{owner_deque, IsOwner, owners_dealt};
-ghost use Rattle.cv_pool.specs.Filling.{AreOwners, AreParts, Seated, SeatedAt, fill_of, owner_jobs};
+ghost use Rattle.cv_pool.specs.code.Owners.{owner_deque, IsOwner, owners_dealt};
+ghost use Rattle.cv_pool.specs.code.Filling.{AreOwners, AreParts, Seated, SeatedAt, fill_of, owner_jobs};
 
 use crate::account::{Added, Share};
 use crate::chest::Chest;

@@ -22,7 +22,7 @@ impl Model for Hand {
 
     ghost Value = { HandState };
 
-    ghost use Rattle.cv_pool.specs.HandParts.{hand_state, IsHand};
+    ghost use Rattle.cv_pool.specs.code.HandParts.{hand_state, IsHand};
 
     ghost view = { λ h. hand_state h.jobs h.index h.seats.items h.list.items };
 

@@ -1,9 +1,9 @@
 ghost use Rattle.std.specs.Prelude.{◌≡◌, ◌<◌, ◌≤◌, ◌∷◌, [], length};
 ghost use Rattle.std.specs.List.{AllByRecursion};
 ghost use Rattle.crossbeam_deque.specs.Handles.{view, IsPassOf, stealer_deque, stealer_flavor};
-ghost use Rattle.cv_pool.specs.Tasks.{marks};
-ghost use Rattle.cv_pool.specs.Accounts.{with_taken, IsWithin};
-ghost use Rattle.cv_pool.specs.Seats.{IsSeated, SeatTook, SeatsTook, task_of};
+ghost use Rattle.cv_pool.specs.code.Tasks.{marks};
+ghost use Rattle.cv_pool.specs.code.Accounts.{with_taken, IsWithin};
+ghost use Rattle.cv_pool.specs.code.Seats.{IsSeated, SeatTook, SeatsTook, task_of};
 
 use crate::account::{Account, Taking};
 use crate::task::{Task, Thief};

@@ -3,10 +3,10 @@ ghost use Rattle.std.specs.List.{AllByRecursion};
 ghost use Rattle.std.specs.Vec.{vec_len, vec_capacity};
 ghost use Rattle.cv_pool.specs.Jobs.{weigh, lists_weigh, weigh_below};
 ghost use Rattle.cv_pool.specs.Hands.{Fill, AreHandsOf, lists_of, any_done};
-ghost use Rattle.cv_pool.specs.HandParts.{hand_state};
-ghost use Rattle.cv_pool.specs.Seats.{seat_deque, seats_weigh, any_more, IsSeated};
-ghost use Rattle.cv_pool.specs.Owners.{owner_deque, IsOwner, HasShares, owners_dealt};
-ghost use Rattle.cv_pool.specs.Gathering.{AreSeatsOf, AreOfDeques, Absorbed, AbsorbedAt, Gathered, HasShare, HasSettled};
+ghost use Rattle.cv_pool.specs.code.HandParts.{hand_state};
+ghost use Rattle.cv_pool.specs.code.Seats.{seat_deque, seats_weigh, any_more, IsSeated};
+ghost use Rattle.cv_pool.specs.code.Owners.{owner_deque, IsOwner, HasShares, owners_dealt};
+ghost use Rattle.cv_pool.specs.code.Gathering.{AreSeatsOf, AreOfDeques, Absorbed, AbsorbedAt, Gathered, HasShare, HasSettled};
 
 use crate::account::{Settled, Share};
 use crate::chest::Chest;

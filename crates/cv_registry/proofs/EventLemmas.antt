@@ -20,7 +20,7 @@ use Rattle.cv_machine.proofs.Consistent.{IsRight, claim_consistent, cut_right, d
 use Rattle.cv_machine.proofs.Entries.{sorted_cut, sorted_put}
 use Rattle.cv_machine.proofs.LayerTables.{same_key, value_put}
 use Rattle.cv_registry.specs.Registrations.{IsRegular, Leads, Registrations, alone, holding, users_of}
-use Rattle.cv_registry.specs.code.Tables.{left}
+use Rattle.cv_registry.specs.code.Tables.{without_unused}
 use Rattle.cv_registry.specs.code.Users.{ArePut, AreTaken, ImageSet, IsKept, Users, names, uses}
 use Rattle.cv_registry.proofs.TableLemmas.{left_remaining}
 use Rattle.cv_registry.proofs.UserLemmas.{keys_users, used_named, value_cut}
@@ -112,7 +112,7 @@ names_taken images image layers users after h found named taken l q = taken l q 
         whole false = refl
 
 pub dropped_table : (images : Images) (table : Layers) (users fewer : Users) (limit : ℕ) (image : List ℕ) (layers : List (List ℕ)) → IsKept images table users limit
-    → value_at images image ≡ Some layers → AreTaken layers image users fewer → left table layers fewer ≡ remaining table layers (without_value images image)
+    → value_at images image ≡ Some layers → AreTaken layers image users fewer → without_unused table layers fewer ≡ remaining table layers (without_value images image)
 dropped_table images table users fewer limit image layers k found taken =
     left_remaining table layers fewer (without_value images image) k.regular.layers
     (λ q.
@@ -120,7 +120,7 @@ dropped_table images table users fewer limit image layers k found taken =
     (names_taken images image layers users fewer k.regular.images found k.named taken))
 
 pub kept_dropped : (images next : Images) (table after : Layers) (users fewer : Users) (limit : ℕ) (image : List ℕ) (layers : List (List ℕ)) → IsKept images table users limit
-    → value_at images image ≡ Some layers → next ≡ without_value images image → after ≡ left table layers fewer → AreTaken layers image users fewer
+    → value_at images image ≡ Some layers → next ≡ without_value images image → after ≡ without_unused table layers fewer → AreTaken layers image users fewer
     → IsKept next after fewer limit
 kept_dropped images next table after users fewer limit image layers k found a b taken =
     rw (a, b, dropped_table images table users fewer limit image layers k found taken) record {
@@ -134,7 +134,7 @@ having images layers limit = record { images = images; layers = layers; limit = 
 
 pub dropped_leads : (images next : Images) (table after : Layers) (users fewer : Users) (limit : ℕ) (image : List ℕ) (layers : List (List ℕ)) (before made : Registrations)
     → IsKept images table users limit → having images table limit ≡ before → value_at images image ≡ Some layers → next ≡ without_value images image
-    → after ≡ left table layers fewer → AreTaken layers image users fewer → made ≡ having next after limit
+    → after ≡ without_unused table layers fewer → AreTaken layers image users fewer → made ≡ having next after limit
     → Leads (λ state. drop_at (Some layers) state image) before (made, reply.Dropped)
 dropped_leads images next table after users fewer limit image layers before made k was found a b taken is =
     subst (λ (r : Registrations). Leads (λ state. drop_at (Some layers) state image) r (made, reply.Dropped)) was

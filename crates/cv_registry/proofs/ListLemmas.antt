@@ -31,7 +31,7 @@ pub past_head : {K V : Type 0} {R : K → K → Ordering} → IsTotalOrder R →
 past_head {K} {V} {R} o q e es h is =
     lookup-none (is_at (R q)) es (none_past_head (eq_by_cmp_equiv o) q e es (IsDistinct-from_sorted R (keys_of (e ∷ es)) h) is)
 
--- what stands is the same behind the first keys, if these are equal
+-- what stands is the same after the first keys, if these are equal
 tails : {K V W X : Type 0} {R : K → K → Ordering} → IsTotalOrder R → (f : Option V → X) (g : Option W → X) (e : K × V) (es : List (K × V)) (d : K × W) (ds : List (K × W))
     → IsStrictlySortedBy R (keys_of (e ∷ es)) → IsStrictlySortedBy R (keys_of (d ∷ ds)) → R e.0 d.0 ≡ Equal → f None ≡ g None
     → ((q : K) → f (lookup (is_at (R q)) (e ∷ es)) ≡ g (lookup (is_at (R q)) (d ∷ ds))) → (q : K) → f (lookup (is_at (R q)) es) ≡ g (lookup (is_at (R q)) ds)

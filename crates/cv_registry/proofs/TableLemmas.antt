@@ -1,4 +1,4 @@
--- The table after layers left it one by one is what remains of it.
+-- The table after unused layers were taken out one by one is what remains of it.
 use Rattle.std.specs.Prelude.{◌≡◌, ℕ, Bool, true, false, ◌||◌, not, cond, List, [], ◌∷◌, Option, Some, None, refl}
 use Rattle.std.specs.BTreeMap.{is_at}
 use Rattle.std.specs.Cmp.Lexicographic.{nat_list_cmp_total}
@@ -15,12 +15,12 @@ use Rattle.cv_machine.specs.Step.{remaining}
 use Rattle.cv_machine.specs.declared.status.Status.{Status}
 use Rattle.cv_machine.proofs.Entries.{sorted_cut, sorted_filter}
 use Rattle.cv_machine.proofs.LayerTables.{remaining_found, same_key, staying, stays}
-use Rattle.cv_registry.specs.code.Tables.{left}
+use Rattle.cv_registry.specs.code.Tables.{without_unused}
 use Rattle.cv_registry.specs.code.Users.{Users, is_used}
 use Rattle.cv_registry.proofs.ListLemmas.{same_entries}
 use Rattle.cv_registry.proofs.UserLemmas.{value_cut}
 
--- the table after one layer left, if it does
+-- the table without one layer, if it is unused
 abbrev one_left : Layers → List ℕ → Users → Layers
 one_left table layer users = cond (is_used users layer || is_claimed (value_at table layer)) table (without_value table layer)
 
@@ -29,11 +29,11 @@ one_sorted : (table : Layers) (layer : List ℕ) (b : Bool) → IsStrictlySorted
 one_sorted table layer true h = h
 one_sorted table layer false h = sorted_cut text_cmp (is_at (text_cmp layer)) table h
 
-left_sorted : (table : Layers) (layers : List (List ℕ)) (users : Users) → IsStrictlySortedBy text_cmp (keys_of table)
-    → IsStrictlySortedBy text_cmp (keys_of (left table layers users))
-left_sorted table [] users h = h
-left_sorted table (layer ∷ layers) users h =
-    left_sorted (one_left table layer users) layers users (one_sorted table layer (is_used users layer || is_claimed (value_at table layer)) h)
+without_unused_sorted : (table : Layers) (layers : List (List ℕ)) (users : Users) → IsStrictlySortedBy text_cmp (keys_of table)
+    → IsStrictlySortedBy text_cmp (keys_of (without_unused table layers users))
+without_unused_sorted table [] users h = h
+without_unused_sorted table (layer ∷ layers) users h =
+    without_unused_sorted (one_left table layer users) layers users (one_sorted table layer (is_used users layer || is_claimed (value_at table layer)) h)
 
 other_stays : (used : Bool) (found : Option Status) → found ≡ staying false used found
 other_stays used None = refl
@@ -80,17 +80,17 @@ stays_both a b used (Some status) = by_tests a b used (is_claimed_as status) ref
   by_tests false false u c is = refl
 
 left_found : (table : Layers) (layers : List (List ℕ)) (users : Users) (q : List ℕ) → IsStrictlySortedBy text_cmp (keys_of table)
-    → value_at (left table layers users) q ≡ staying (has_text layers q) (is_used users q) (value_at table q)
+    → value_at (without_unused table layers users) q ≡ staying (has_text layers q) (is_used users q) (value_at table q)
 left_found table [] users q h = other_stays (is_used users q) (value_at table q)
 left_found table (layer ∷ layers) users q h =
     left_found (one_left table layer users) layers users q (one_sorted table layer (is_used users layer || is_claimed (value_at table layer)) h)
     ∙ ap (staying (has_text layers q) (is_used users q)) (one_found table layer users q h)
     ∙ stays_both (same layer q) (has_text layers q) (is_used users q) (value_at table q)
 
--- what is left of the table is what the machine has of it
+-- what remains of the table is what the machine has of it
 pub left_remaining : (table : Layers) (layers : List (List ℕ)) (users : Users) (others : Images) → IsStrictlySortedBy text_cmp (keys_of table)
-    → ((q : List ℕ) → is_used users q ≡ is_named others q) → left table layers users ≡ remaining table layers others
+    → ((q : List ℕ) → is_used users q ≡ is_named others q) → without_unused table layers users ≡ remaining table layers others
 left_remaining table layers users others h used =
-    same_entries nat_list_cmp_total exact_bytes (left table layers users) (remaining table layers others) (left_sorted table layers users h)
+    same_entries nat_list_cmp_total exact_bytes (without_unused table layers users) (remaining table layers others) (without_unused_sorted table layers users h)
     (sorted_filter text_cmp (λ (e : List ℕ × Status). stays (has_text layers e.0) (is_named others e.0) e.1) table h)
     (λ q. left_found table layers users q h ∙ ap (λ u. staying (has_text layers q) u (value_at table q)) (used q) ∙ sym (remaining_found table layers others q h))

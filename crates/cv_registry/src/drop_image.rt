@@ -4,7 +4,7 @@ ghost use Rattle.cv_machine.specs.Step.{drop_at, drop_image};
 ghost use Rattle.cv_registry.specs.Registrations.{Leads};
 
 use crate::registry::Registry;
-use crate::table::left;
+use crate::table::without_unused;
 use crate::users::take_all;
 use cv_base::Digest;
 use cv_records::Reply;
@@ -35,7 +35,7 @@ impl Registry {
         ensures { IfOk result (Leads (λ state. drop_at (Some names.now) state image.now) self.now) }
     {
         let users = take_all(alloc, &self.users, names, image)?;
-        let layers = left(alloc, &self.layers, names, &users)?;
+        let layers = without_unused(alloc, &self.layers, names, &users)?;
         let images = self.images.without(alloc, image)?;
         let registry = Registry::of(images, layers, users, self.limit);
         Ok((registry, Reply::Dropped))

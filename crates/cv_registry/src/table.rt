@@ -2,7 +2,7 @@ ghost use Rattle.std.specs.Prelude.{◌≡◌, is_some, IfOk};
 ghost use Rattle.cv_machine.specs.Laws.{is_claimed};
 ghost use Rattle.cv_machine.specs.State.{value_at};
 ghost use Rattle.cv_machine.specs.Step.{entered};
-ghost use Rattle.cv_registry.specs.code.Tables.{left};
+ghost use Rattle.cv_registry.specs.code.Tables.{without_unused};
 
 use crate::registry::Layers;
 use crate::standing::Standing;
@@ -28,22 +28,22 @@ pub fn entered(alloc: Global, table: &Layers, layers: &[Digest]) -> Result<Layer
 }
 
 /// The table without those of these layers that no image uses and that are not claimed.
-pub fn left(
+pub fn without_unused(
     alloc: Global,
     table: &Layers,
     layers: &[Digest],
     users: &Users,
 ) -> Result<Layers, NoMemory>
-    ensures { IfOk result (λ after. after ≡ left table.now layers.now users.now) }
+    ensures { IfOk result (λ after. after ≡ without_unused table.now layers.now users.now) }
 {
     let [layer, rest @ ..] = layers else {
         return table.share();
     };
     if is_used(users, layer) || is_claimed(table, layer) {
-        return left(alloc, table, rest, users);
+        return without_unused(alloc, table, rest, users);
     }
     let next = table.without(alloc, layer)?;
-    left(alloc, &next, rest, users)
+    without_unused(alloc, &next, rest, users)
 }
 
 fn is_known(table: &Layers, layer: &Digest) -> bool

@@ -19,31 +19,31 @@ use Rattle.cv_legal.specs.Replay.{asked_at, event_of, submitted}
 use Rattle.cv_legal.specs.Taken.{lines_asked}
 use Rattle.cv_legal.specs.code.Segment.{IsFound, lane_requests}
 use Rattle.cv_legal.specs.declared.taken.Requested.{Requested}
-use Rattle.cv_legal.proofs.Assembled.{AsksRise, all_found, in_lane, of_lane, rise_lane}
+use Rattle.cv_legal.proofs.Assembled.{RequestsAscend, all_found, in_lane, of_lane, rise_lane}
 use Rattle.cv_workers.specs.Events.{DeskTrees}
 use Rattle.cv_workers.specs.code.Own.{Placed, Submission, entry_of}
 use Rattle.cv_workers.proofs.Prefixes.{prefix_length}
-use Rattle.cv_workers.specs.code.Lane.{Answers, AreAsksOf, AreInTurn, Follows, IsFrom, IsWithin, Looked, Step, Submitted, entry_in, placed_of, reads_in}
-use Rattle.cv_round.specs.code.Told.{IsSeen, IsSourced, is_of_lane}
+use Rattle.cv_workers.specs.code.Lane.{Answers, AreRequestsOf, AreInTurn, Follows, IsFrom, IsWithin, Answered, Step, Submitted, entry_in, placed_of, reads_in}
+use Rattle.cv_round.specs.code.Parts.{IsSeen, IsSourced, is_of_lane}
 
 -- ---- the entries of steps
 
 step_events : (steps : List Step) → events_of (map entry_in steps) ≡ map entry_of (placed_of steps)
 step_events [] = refl
 step_events (Submitted p ∷ steps) = ap (λ events. entry_of p ∷ events) (step_events steps)
-step_events (Looked read ∷ steps) = step_events steps
+step_events (Answered read ∷ steps) = step_events steps
 
 step_reads : (steps : List Step) → reads_of (map entry_in steps) ≡ reads_in steps
 step_reads [] = refl
 step_reads (Submitted p ∷ steps) = step_reads steps
-step_reads (Looked read ∷ steps) = ap (λ reads. read ∷ reads) (step_reads steps)
+step_reads (Answered read ∷ steps) = ap (λ reads. read ∷ reads) (step_reads steps)
 
 -- ---- the entries of a lane
 
 -- a step is of a lane, and on the line of a request
 abbrev pub IsOnLine : ℕ → Requested → Step → Type 0
 IsOnLine lane asked (Submitted p) = p.event.by ≡ by.Lane lane asked.line
-IsOnLine lane asked (Looked read) = (read.lane ≡ lane) × (read.line ≡ asked.line)
+IsOnLine lane asked (Answered read) = (read.lane ≡ lane) × (read.line ≡ asked.line)
 
 -- an entry is of a lane
 abbrev is_at : ℕ → Entry → Bool
@@ -81,7 +81,7 @@ line_here lane other line same = ap (λ b. cond b (Some line) None) (eq-eqb othe
 
 line_of_step : (lane : ℕ) (asked : Requested) (step : Step) → IsOnLine lane asked step → line_in lane (entry_in step) ≡ Some asked.line
 line_of_step lane asked (Submitted p) h = ap (line_by lane) h ∙ line_here lane lane asked.line refl
-line_of_step lane asked (Looked read) h = line_here lane read.lane read.line h.0 ∙ ap (λ line. Some line) h.1
+line_of_step lane asked (Answered read) h = line_here lane read.lane read.line h.0 ∙ ap (λ line. Some line) h.1
 
 lines_of_steps : (lane : ℕ) (asks : List Requested) (steps : List Step) → AllZip (λ asked step. IsOnLine lane asked step) asks steps
     → lines_answered lane (map entry_in steps) ≡ map (λ (asked : Requested). asked.line) asks
@@ -112,9 +112,9 @@ no_lane_lines lane others order events reads = lane_lines lane [] [] others orde
 line_of_answer : (lane : ℕ) (tree : DeskTrees) (limits : Limits) (list : List Submission) (asked : Requested) (step : Step) → asked.request.lane ≡ lane → Answers tree limits list asked step
     → IsOnLine lane asked step
 line_of_answer lane tree limits list asked (Submitted p) here h = h.0 ∙ ap (λ n. by.Lane n asked.line) here
-line_of_answer lane tree limits list asked (Looked read) here h = (h.0 ∙ here, h.1)
+line_of_answer lane tree limits list asked (Answered read) here h = (h.0 ∙ here, h.1)
 
-pub lane_on_lines : (lane : ℕ) (tree : DeskTrees) (limits : Limits) (list : List Submission) (asks : List Requested) (steps : List Step) → AreAsksOf lane asks
+pub lane_on_lines : (lane : ℕ) (tree : DeskTrees) (limits : Limits) (list : List Submission) (asks : List Requested) (steps : List Step) → AreRequestsOf lane asks
     → AllZip (Answers tree limits list) asks steps → AllZip (λ asked step. IsOnLine lane asked step) asks steps
 lane_on_lines lane tree limits list [] [] of h = tt
 lane_on_lines lane tree limits list [] (step ∷ steps) of h = absurd h
@@ -123,7 +123,7 @@ lane_on_lines lane tree limits list (asked ∷ asks) (step ∷ steps) of h =
     (line_of_answer lane tree limits list asked step of.0 h.0, lane_on_lines lane tree limits list asks steps of.2 h.1)
 
 -- reads of one lane, the second on a later line
-reads_precede : (lane : ℕ) (first second : Requested) (read later : ReadEntry) → first.line < second.line → IsOnLine lane first (Looked read) → IsOnLine lane second (Looked later)
+reads_precede : (lane : ℕ) (first second : Requested) (read later : ReadEntry) → first.line < second.line → IsOnLine lane first (Answered read) → IsOnLine lane second (Answered later)
     → read.front ≤ later.front → Precedes (entry.Read read) (entry.Read later)
 reads_precede lane first second read later less here there front = by_front (cases_lt read.front later.front) where
   by_front : (read.front < later.front) ⊎ (later.front ≤ read.front) → Precedes (entry.Read read) (entry.Read later)
@@ -134,9 +134,9 @@ reads_precede lane first second read later less here there front = by_front (cas
 step_precedes : (lane : ℕ) (first second : Requested) (step later : Step) → first.line < second.line → IsOnLine lane first step → IsOnLine lane second later → Follows step later
     → Precedes (entry_in step) (entry_in later)
 step_precedes lane first second (Submitted p) (Submitted q) less here there h = h
-step_precedes lane first second (Submitted p) (Looked read) less here there h = h
-step_precedes lane first second (Looked read) (Submitted q) less here there h = h
-step_precedes lane first second (Looked read) (Looked later) less here there h = reads_precede lane first second read later less here there h
+step_precedes lane first second (Submitted p) (Answered read) less here there h = h
+step_precedes lane first second (Answered read) (Submitted q) less here there h = h
+step_precedes lane first second (Answered read) (Answered later) less here there h = reads_precede lane first second read later less here there h
 
 all_precede : (lane : ℕ) (first : Requested) (step : Step) (asks : List Requested) (steps : List Step) → IsOnLine lane first step
     → AllByRecursion (λ (other : Requested). first.line < other.line) asks → AllZip (λ asked step. IsOnLine lane asked step) asks steps → AllByRecursion (Follows step) steps
@@ -149,9 +149,9 @@ all_precede lane first step (asked ∷ asks) (later ∷ steps) here less lines h
 
 is_event_or_read : (step : Step) (rest : List Entry) → AllByRecursion (Precedes (entry_in step)) rest → AreAscending rest → AreAscending (entry_in step ∷ rest)
 is_event_or_read (Submitted p) rest h k = (tt, h, k)
-is_event_or_read (Looked read) rest h k = (tt, h, k)
+is_event_or_read (Answered read) rest h k = (tt, h, k)
 
-lines_ascend : (lane : ℕ) (asks : List Requested) (steps : List Step) → AreAsksOf lane asks → AllZip (λ asked step. IsOnLine lane asked step) asks steps → AreInTurn steps
+lines_ascend : (lane : ℕ) (asks : List Requested) (steps : List Step) → AreRequestsOf lane asks → AllZip (λ asked step. IsOnLine lane asked step) asks steps → AreInTurn steps
     → AreAscending (map entry_in steps)
 lines_ascend lane [] [] of lines turn = tt
 lines_ascend lane [] (step ∷ steps) of lines turn = absurd lines
@@ -160,23 +160,23 @@ lines_ascend lane (asked ∷ asks) (step ∷ steps) of lines turn =
     is_event_or_read step (map entry_in steps) (all_precede lane asked step asks steps lines.0 of.1 lines.1 turn.0) (lines_ascend lane asks steps of.2 lines.1 turn.1)
 
 -- the entries of a lane's steps stand in their order
-pub steps_ascend : (lane : ℕ) (tree : DeskTrees) (limits : Limits) (list : List Submission) (asks : List Requested) (steps : List Step) → AreAsksOf lane asks
+pub steps_ascend : (lane : ℕ) (tree : DeskTrees) (limits : Limits) (list : List Submission) (asks : List Requested) (steps : List Step) → AreRequestsOf lane asks
     → AllZip (Answers tree limits list) asks steps → AreInTurn steps → AreAscending (map entry_in steps)
 steps_ascend lane tree limits list asks steps of h turn = lines_ascend lane asks steps of (lane_on_lines lane tree limits list asks steps of h) turn
 
 -- ---- the reads of a lane
 
 -- they are of it
-pub reads_of_lane : (lane : ℕ) (tree : DeskTrees) (limits : Limits) (list : List Submission) (asks : List Requested) (steps : List Step) → AreAsksOf lane asks
+pub reads_of_lane : (lane : ℕ) (tree : DeskTrees) (limits : Limits) (list : List Submission) (asks : List Requested) (steps : List Step) → AreRequestsOf lane asks
     → AllZip (Answers tree limits list) asks steps → AllByRecursion (λ read. read.lane ≡ lane) (reads_in steps)
 reads_of_lane lane tree limits list [] [] of h = tt
 reads_of_lane lane tree limits list [] (step ∷ steps) of h = absurd h
 reads_of_lane lane tree limits list (asked ∷ asks) [] of h = absurd h
 reads_of_lane lane tree limits list (asked ∷ asks) (Submitted p ∷ steps) of h = reads_of_lane lane tree limits list asks steps of.2 h.1
-reads_of_lane lane tree limits list (asked ∷ asks) (Looked read ∷ steps) of h = (h.0.0 ∙ of.0, reads_of_lane lane tree limits list asks steps of.2 h.1)
+reads_of_lane lane tree limits list (asked ∷ asks) (Answered read ∷ steps) of h = (h.0.0 ∙ of.0, reads_of_lane lane tree limits list asks steps of.2 h.1)
 
 -- and stand in order
-pub reads_in_lane : (lane : ℕ) (tree : DeskTrees) (limits : Limits) (list : List Submission) (asks : List Requested) (steps : List Step) → AreAsksOf lane asks
+pub reads_in_lane : (lane : ℕ) (tree : DeskTrees) (limits : Limits) (list : List Submission) (asks : List Requested) (steps : List Step) → AreRequestsOf lane asks
     → AllZip (Answers tree limits list) asks steps → AreInTurn steps → AreOfLane lane (reads_in steps)
 reads_in_lane lane tree limits list asks steps of h turn = record {
   lanes = reads_of_lane lane tree limits list asks steps of h;
@@ -185,7 +185,7 @@ reads_in_lane lane tree limits list asks steps of h turn = record {
 
 -- a read of a lane, seen in a longer list and among all requests
 read_seen : (tree : DeskTrees) (limits : Limits) (before : ℕ) (list whole : List Submission) (all : List Requested) (asked : Requested) (read : ReadEntry) → IsKnown tree → IsPrefix list whole
-    → IsFound all asked → Answers tree limits list asked (Looked read) → before ≤ read.front → read.front ≤ length list → IsSeen (trees_of tree) limits whole before all read
+    → IsFound all asked → Answers tree limits list asked (Answered read) → before ≤ read.front → read.front ≤ length list → IsSeen (trees_of tree) limits whole before all read
 read_seen tree limits before list whole all asked read known begins found h from within =
     let same : take read.front whole ≡ take read.front list = sym (ap (take read.front) begins.1) ∙ take-append-le read.front list begins.0 within in
     let longer = prefix_length list whole begins in
@@ -205,7 +205,7 @@ lane_seen tree limits before list whole all [] (step ∷ steps) known begins fou
 lane_seen tree limits before list whole all (asked ∷ asks) [] known begins found h from within = absurd h
 lane_seen tree limits before list whole all (asked ∷ asks) (Submitted p ∷ steps) known begins found h from within =
     lane_seen tree limits before list whole all asks steps known begins found.1 h.1 from.1 within.1
-lane_seen tree limits before list whole all (asked ∷ asks) (Looked read ∷ steps) known begins found h from within =
+lane_seen tree limits before list whole all (asked ∷ asks) (Answered read ∷ steps) known begins found h from within =
     (read_seen tree limits before list whole all asked read known begins found.0 h.0 from.0 within.0, lane_seen tree limits before list whole all asks steps known begins found.1 h.1 from.1 within.1)
 
 -- ---- the events of a lane
@@ -222,22 +222,22 @@ lane_sourced tree limits list all [] [] found h = tt
 lane_sourced tree limits list all [] (step ∷ steps) found h = absurd h
 lane_sourced tree limits list all (asked ∷ asks) [] found h = absurd h
 lane_sourced tree limits list all (asked ∷ asks) (Submitted p ∷ steps) found h = (event_sourced tree limits list all asked p found.0 h.0, lane_sourced tree limits list all asks steps found.1 h.1)
-lane_sourced tree limits list all (asked ∷ asks) (Looked read ∷ steps) found h = lane_sourced tree limits list all asks steps found.1 h.1
+lane_sourced tree limits list all (asked ∷ asks) (Answered read ∷ steps) found h = lane_sourced tree limits list all asks steps found.1 h.1
 
 -- ---- the requests of a lane
 
-asks_of : (lane : ℕ) (asks : List Requested) → AllByRecursion (λ r. r.request.lane ≡ lane) asks → AsksRise asks → AreAsksOf lane asks
-asks_of lane [] here rise = tt
-asks_of lane (asked ∷ asks) here rise = (here.0, rise.0, asks_of lane asks here.1 rise.1)
+asks_of : (lane : ℕ) (asks : List Requested) → AllByRecursion (λ r. r.request.lane ≡ lane) asks → RequestsAscend asks → AreRequestsOf lane asks
+asks_of lane [] here ascend = tt
+asks_of lane (asked ∷ asks) here ascend = (here.0, ascend.0, asks_of lane asks here.1 ascend.1)
 
 -- those of all requests that are a lane's are of it, on rising lines
-pub asks_of_lane : (lane : ℕ) (all : List Requested) → AsksRise all → AreAsksOf lane (lane_requests lane all)
-asks_of_lane lane all rise = asks_of lane (lane_requests lane all) (of_lane lane all) (rise_lane lane all rise)
+pub asks_of_lane : (lane : ℕ) (all : List Requested) → RequestsAscend all → AreRequestsOf lane (lane_requests lane all)
+asks_of_lane lane all ascend = asks_of lane (lane_requests lane all) (of_lane lane all) (rise_lane lane all ascend)
 
 -- their lines
 pub lines_of_lane : (lane : ℕ) (all : List Requested) → lines_asked lane all ≡ map (λ (asked : Requested). asked.line) (lane_requests lane all)
 lines_of_lane lane all = refl
 
 -- and each of them is found among all
-pub found_of_lane : (lane : ℕ) (all : List Requested) → AsksRise all → AllByRecursion (IsFound all) (lane_requests lane all)
-found_of_lane lane all rise = in_lane (IsFound all) lane all (all_found all rise)
+pub found_of_lane : (lane : ℕ) (all : List Requested) → RequestsAscend all → AllByRecursion (IsFound all) (lane_requests lane all)
+found_of_lane lane all ascend = in_lane (IsFound all) lane all (all_found all ascend)

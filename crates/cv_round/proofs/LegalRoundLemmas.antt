@@ -1,4 +1,4 @@
--- What the lanes and the workers told of a round makes its entries a legal round.
+-- The parts of the lanes and the workers in a round make its entries a legal round.
 use Rattle.std.proofs.Common.{◌≡◌, ℕ, zero, suc, ◌+◌, ◌-◌, ◌==◌, ◌≤◌, ◌<◌, ◌⊎◌, inl, inr, cond, List, [], ◌∷◌, ◌++◌, filter, get_or, length, map, None, Some, Result, Ok, Err, refl, ap, sym, subst, ◌∙◌, arith}
 use Rattle.std.specs.List.{AllByRecursion, AllZip, cons_option}
 use Rattle.std.proofs.lemmas.Bool.{cases_lt, eq-eqb, ne_eqb}
@@ -30,10 +30,10 @@ use Rattle.cv_legal.specs.Round.{IsLegalRound}
 use Rattle.cv_legal.specs.Taken.{IsTaken, lines_asked, refusal_at, refusals, requests}
 use Rattle.cv_legal.specs.Turns.{ClaimsBelow, Works}
 use Rattle.cv_legal.specs.code.Segment.{lane_requests}
-use Rattle.cv_legal.specs.code.Served.{LinesRise}
+use Rattle.cv_legal.specs.Served.{LinesAscend}
 use Rattle.cv_legal.specs.declared.taken.Requested.{Requested}
 use Rattle.cv_legal.specs.declared.taken.Taken.{Taken}
-use Rattle.cv_legal.proofs.Assembled.{AsksRise, asks_rise, of_lane as of_this_lane}
+use Rattle.cv_legal.proofs.Assembled.{RequestsAscend, requests_ascend, of_lane as of_this_lane}
 use Rattle.cv_legal.proofs.Order.{reads_in_order}
 use Rattle.cv_pool.specs.Jobs.{lists_weigh, weigh, weigh_below}
 use Rattle.cv_workers.specs.Events.{DeskTrees, IsReplayed, entries_from, state_of}
@@ -41,11 +41,11 @@ use Rattle.cv_workers.specs.Seats.{SeatView, made_by, one_if}
 use Rattle.cv_workers.specs.code.Own.{Made, Placed, Submission, entry_of, of_seat}
 use Rattle.cv_workers.proofs.Prefixes.{prefix_chain, prefix_length, prefix_same}
 use Rattle.cv_workers.specs.Counts.{RoseBy, fault_count, grant_count}
-use Rattle.cv_workers.specs.code.Lane.{Answers, IsFrom, IsWithin, LaneDid, Looked, Step, Submitted, placed_of}
+use Rattle.cv_workers.specs.code.Lane.{Answers, IsFrom, IsWithin, LaneDid, Answered, Step, Submitted, placed_of}
 use Rattle.cv_workers.specs.code.Worker.{IsByWorker, WorkerDid, layers_of}
 use Rattle.cv_workers.proofs.LaneLemmas.{all_longer, from_less, within_more}
 use Rattle.cv_round.specs.Round.{moment_of}
-use Rattle.cv_round.specs.code.Told.{FitsSeat, IsSeen, IsSourced, LaneTold, WorkerTold, is_of_lane, placed_from, sum_seats}
+use Rattle.cv_round.specs.code.Parts.{FitsSeat, IsSeen, IsSourced, LanePart, WorkerPart, is_of_lane, placed_from, sum_seats}
 use Rattle.cv_round.proofs.LaneLineLemmas.{asks_of_lane, found_of_lane, lane_lines, lane_on_lines, lane_seen, lane_sourced, no_lane_lines, steps_ascend}
 use Rattle.cv_round.proofs.ReplayLemmas.{replays}
 use Rattle.cv_round.proofs.SeatingLemmas.{claims_by_seats, each_seat, entries_placed, first_of, jobs_weigh, lane_events, no_lane_events, no_worker_events, own_is, queue_weighs, rest_of, sum_split, sum_zero, worker_events}
@@ -63,10 +63,10 @@ own_of before later seat mid end own is long seen first last made =
     own_is before later mid end own long (seen_before mid end own (before ++ later) made seen) seen made first last
     ∙ ap (λ i. of_seat i (length before + 1) later) is
 
-pub lane_told : (tree : DeskTrees) (limits : Limits) (before later : List Submission) (asked : List Requested) (lane : ℕ) (mid end : SeatView) (reads : List ReadEntry) → mid.index ≡ lane
+pub lane_part : (tree : DeskTrees) (limits : Limits) (before later : List Submission) (asked : List Requested) (lane : ℕ) (mid end : SeatView) (reads : List ReadEntry) → mid.index ≡ lane
     → length before ≤ length mid.list → IsPrefix end.list (before ++ later) → made_by mid.index before ≡ mid.count → made_by end.index (before ++ later) ≡ end.count
-    → LaneDid tree limits (lane_requests lane asked) mid [] end reads → LaneTold tree limits before later asked lane reads
-lane_told tree limits before later asked lane mid end reads is long seen first last did =
+    → LaneDid tree limits (lane_requests lane asked) mid [] end reads → LanePart tree limits before later asked lane reads
+lane_part tree limits before later asked lane mid end reads is long seen first last did =
     let some = did.steps in
     record {
       steps = some;
@@ -78,10 +78,10 @@ lane_told tree limits before later asked lane mid end reads is long seen first l
       in_turn = did.in_turn;
     }
 
-pub worker_told : (before later : List Submission) (worker : ℕ) (layers : List (List ℕ)) (mid end : SeatView) (l f m g : ℕ) → mid.index ≡ 8 + worker
+pub worker_part : (before later : List Submission) (worker : ℕ) (layers : List (List ℕ)) (mid end : SeatView) (l f m g : ℕ) → mid.index ≡ 8 + worker
     → length before ≤ length mid.list → IsPrefix end.list (before ++ later) → made_by mid.index before ≡ mid.count → made_by end.index (before ++ later) ≡ end.count
-    → WorkerDid worker layers mid l f end m g → WorkerTold before later worker layers
-worker_told before later worker layers mid end l f m g is long seen first last did = record {
+    → WorkerDid worker layers mid l f end m g → WorkerPart before later worker layers
+worker_part before later worker layers mid end l f m g is long seen first last did = record {
   own = did.own;
   own_is = own_of before later (8 + worker) mid end did.own is long seen first last did.made;
   by_worker = did.by_worker;
@@ -98,7 +98,7 @@ lane_fits lane tree limits list [] [] low of h = tt
 lane_fits lane tree limits list [] (step ∷ steps) low of h = absurd h
 lane_fits lane tree limits list (asked ∷ asks) [] low of h = absurd h
 lane_fits lane tree limits list (asked ∷ asks) (Submitted p ∷ steps) low of h = (subst (FitsSeat lane) (sym h.0.0) (of.0, low), lane_fits lane tree limits list asks steps low of.1 h.1)
-lane_fits lane tree limits list (asked ∷ asks) (Looked read ∷ steps) low of h = lane_fits lane tree limits list asks steps low of.1 h.1
+lane_fits lane tree limits list (asked ∷ asks) (Answered read ∷ steps) low of h = lane_fits lane tree limits list asks steps low of.1 h.1
 
 -- a request submits no claim
 no_claim : (act : RequestAct) (event : WholeAct) → event_of act ≡ Some event → claim_in (act_name event) ≡ None
@@ -118,7 +118,7 @@ lane_claims tree limits list [] (step ∷ steps) h = absurd h
 lane_claims tree limits list (asked ∷ asks) [] h = absurd h
 lane_claims tree limits list (asked ∷ asks) (Submitted p ∷ steps) h =
     ap (λ layer. cons_option layer (claims_of (map entry_of (placed_of steps)))) (no_claim asked.request.act p.event.act h.0.1) ∙ lane_claims tree limits list asks steps h.1
-lane_claims tree limits list (asked ∷ asks) (Looked read ∷ steps) h = lane_claims tree limits list asks steps h.1
+lane_claims tree limits list (asked ∷ asks) (Answered read ∷ steps) h = lane_claims tree limits list asks steps h.1
 
 -- who claims
 below_lane : (workers lane line : ℕ) (act : Act) → claim_in act ≡ None → ClaimsBelow workers (by.Lane lane line) act
@@ -151,7 +151,7 @@ lane_below workers tree limits list (asked ∷ asks) (Submitted p ∷ steps) h =
       (below_lane workers asked.request.lane asked.line (act_name p.event.act) (no_claim asked.request.act p.event.act h.0.1)),
   lane_below workers tree limits list asks steps h.1,
 )
-lane_below workers tree limits list (asked ∷ asks) (Looked read ∷ steps) h = lane_below workers tree limits list asks steps h.1
+lane_below workers tree limits list (asked ∷ asks) (Answered read ∷ steps) h = lane_below workers tree limits list asks steps h.1
 
 -- a lane from eight on has no requests
 no_requests : (lane : ℕ) (asked : List Requested) → 8 ≤ lane → AllByRecursion (λ (r : Requested). r.request.lane < 8) asked → lane_requests lane asked ≡ []
@@ -164,10 +164,10 @@ no_requests lane (r ∷ asked) high few =
 -- ---- all events
 
 -- what holds of the events of each lane and of each worker holds of all events
-each_told : (P : ℕ → Placed → Type 0) (n workers : ℕ) (later : List Submission) → AllByRecursion (λ (e : Submission). e.seat < 8 + workers) later
+each_known : (P : ℕ → Placed → Type 0) (n workers : ℕ) (later : List Submission) → AllByRecursion (λ (e : Submission). e.seat < 8 + workers) later
     → ((lane : ℕ) → lane < 8 → AllByRecursion (P lane) (of_seat lane n later)) → ((worker : ℕ) → worker < workers → AllByRecursion (P (8 + worker)) (of_seat (8 + worker) n later))
     → AllByRecursion (λ (p : Placed). P p.event.seat p) (placed_from n later)
-each_told P n workers later below lanes desks = each_seat P n later (8 + workers) below (λ i less. by_order i less (cases_lt i 8)) where
+each_known P n workers later below lanes desks = each_seat P n later (8 + workers) below (λ i less. by_order i less (cases_lt i 8)) where
   by_order : (i : ℕ) → i < 8 + workers → (i < 8) ⊎ (8 ≤ i) → AllByRecursion (P i) (of_seat i n later)
   by_order i less (inl low) = lanes i low
   by_order i less (inr high) =
@@ -196,78 +196,78 @@ each_lane P (read ∷ reads) all = (
 
 -- ---- a round
 
--- what is known of a round: what its lanes and its workers told, and that its entries are their events and their reads
-pub record RoundTold (tree : DeskTrees) (limits : Limits) (before later : List Submission) (asked : List Requested) (others : List Entry) (workers : ℕ) (reads : ℕ → List ReadEntry) (layers : ℕ → List (List ℕ)) : Type 0 where
+-- what is known of a round: the parts of its lanes and its workers, and that its entries are their events and their reads
+pub record RoundParts (tree : DeskTrees) (limits : Limits) (before later : List Submission) (asked : List Requested) (others : List Entry) (workers : ℕ) (reads : ℕ → List ReadEntry) (layers : ℕ → List (List ℕ)) : Type 0 where
   pub known : IsKnown tree
-  pub rise : AsksRise asked
+  pub ascend : RequestsAscend asked
   pub few : AllByRecursion (λ (r : Requested). r.request.lane < 8) asked
   pub below : AllByRecursion (λ (e : Submission). e.seat < 8 + workers) later
-  pub lanes : (lane : ℕ) → lane < 8 → LaneTold tree limits before later asked lane (reads lane)
+  pub lanes : (lane : ℕ) → lane < 8 → LanePart tree limits before later asked lane (reads lane)
   pub no_lanes : (lane : ℕ) → 8 ≤ lane → reads lane ≡ []
-  pub desks : (worker : ℕ) → worker < workers → WorkerTold before later worker (layers worker)
+  pub desks : (worker : ℕ) → worker < workers → WorkerPart before later worker (layers worker)
   pub events : events_of others ≡ entries_from (length before + 1) later
   pub by_lane : (lane : ℕ) → reads_by lane (reads_of others) ≡ reads lane
   pub order : AreAscending others
 
 -- each event is of its seat
 pub round_fits : (tree : DeskTrees) (limits : Limits) (before later : List Submission) (asked : List Requested) (workers : ℕ) (reads : ℕ → List ReadEntry) (layers : ℕ → List (List ℕ))
-    → AllByRecursion (λ (e : Submission). e.seat < 8 + workers) later → ((lane : ℕ) → lane < 8 → LaneTold tree limits before later asked lane (reads lane))
-    → ((worker : ℕ) → worker < workers → WorkerTold before later worker (layers worker)) → AllByRecursion (λ (p : Placed). FitsSeat p.event.seat p.event.by) (placed_from (length before + 1) later)
-round_fits tree limits before later asked workers reads layers below lanes desks = each_told (λ seat p. FitsSeat seat p.event.by) (length before + 1) workers later below of_lane of_desk where
+    → AllByRecursion (λ (e : Submission). e.seat < 8 + workers) later → ((lane : ℕ) → lane < 8 → LanePart tree limits before later asked lane (reads lane))
+    → ((worker : ℕ) → worker < workers → WorkerPart before later worker (layers worker)) → AllByRecursion (λ (p : Placed). FitsSeat p.event.seat p.event.by) (placed_from (length before + 1) later)
+round_fits tree limits before later asked workers reads layers below lanes desks = each_known (λ seat p. FitsSeat seat p.event.by) (length before + 1) workers later below of_lane of_desk where
   of_lane : (lane : ℕ) → lane < 8 → AllByRecursion (λ (p : Placed). FitsSeat lane p.event.by) (of_seat lane (length before + 1) later)
   of_lane lane low =
-      let told = lanes lane low in
-      subst (AllByRecursion (λ (p : Placed). FitsSeat lane p.event.by)) told.own
-      (lane_fits lane tree limits (before ++ later) (lane_requests lane asked) told.steps low (of_this_lane lane asked) told.answers)
+      let part = lanes lane low in
+      subst (AllByRecursion (λ (p : Placed). FitsSeat lane p.event.by)) part.own
+      (lane_fits lane tree limits (before ++ later) (lane_requests lane asked) part.steps low (of_this_lane lane asked) part.answers)
 
   of_desk : (worker : ℕ) → worker < workers → AllByRecursion (λ (p : Placed). FitsSeat (8 + worker) p.event.by) (of_seat (8 + worker) (length before + 1) later)
   of_desk worker low =
-      let told = desks worker low in
-      subst (AllByRecursion (λ (p : Placed). FitsSeat (8 + worker) p.event.by)) told.own_is
-      (all_weaker (IsByWorker worker) (λ (p : Placed). FitsSeat (8 + worker) p.event.by) told.own (λ p h. subst (FitsSeat (8 + worker)) (sym h.0) refl) told.by_worker)
+      let part = desks worker low in
+      subst (AllByRecursion (λ (p : Placed). FitsSeat (8 + worker) p.event.by)) part.own_is
+      (all_weaker (IsByWorker worker) (λ (p : Placed). FitsSeat (8 + worker) p.event.by) part.own (λ p h. subst (FitsSeat (8 + worker)) (sym h.0) refl) part.by_worker)
 
 -- each event is what a request asks for, or what its worker says
 round_sourced : (tree : DeskTrees) (limits : Limits) (before later : List Submission) (asked : List Requested) (others : List Entry) (workers : ℕ) (reads : ℕ → List ReadEntry) (layers : ℕ → List (List ℕ))
-    → RoundTold tree limits before later asked others workers reads layers → AllByRecursion (IsSourced asked) later
+    → RoundParts tree limits before later asked others workers reads layers → AllByRecursion (IsSourced asked) later
 round_sourced tree limits before later asked others workers reads layers round =
-    all_later (IsSourced asked) (length before + 1) later (each_told (λ seat p. IsSourced asked p.event) (length before + 1) workers later round.below of_lane of_desk) where
+    all_later (IsSourced asked) (length before + 1) later (each_known (λ seat p. IsSourced asked p.event) (length before + 1) workers later round.below of_lane of_desk) where
       of_lane : (lane : ℕ) → lane < 8 → AllByRecursion (λ (p : Placed). IsSourced asked p.event) (of_seat lane (length before + 1) later)
       of_lane lane low =
-          let told = round.lanes lane low in
-          subst (AllByRecursion (λ (p : Placed). IsSourced asked p.event)) told.own
-          (lane_sourced tree limits (before ++ later) asked (lane_requests lane asked) told.steps (found_of_lane lane asked round.rise) told.answers)
+          let part = round.lanes lane low in
+          subst (AllByRecursion (λ (p : Placed). IsSourced asked p.event)) part.own
+          (lane_sourced tree limits (before ++ later) asked (lane_requests lane asked) part.steps (found_of_lane lane asked round.ascend) part.answers)
 
       of_desk : (worker : ℕ) → worker < workers → AllByRecursion (λ (p : Placed). IsSourced asked p.event) (of_seat (8 + worker) (length before + 1) later)
       of_desk worker low =
-          let told = round.desks worker low in
-          subst (AllByRecursion (λ (p : Placed). IsSourced asked p.event)) told.own_is
-          (all_weaker (IsByWorker worker) (λ (p : Placed). IsSourced asked p.event) told.own (λ p h. ap (λ source. submitted asked source (act_name p.event.act)) h.0 ∙ h.1) told.by_worker)
+          let part = round.desks worker low in
+          subst (AllByRecursion (λ (p : Placed). IsSourced asked p.event)) part.own_is
+          (all_weaker (IsByWorker worker) (λ (p : Placed). IsSourced asked p.event) part.own (λ p h. ap (λ source. submitted asked source (act_name p.event.act)) h.0 ∙ h.1) part.by_worker)
 
 -- each read is the answer to a request
 round_seen : (tree : DeskTrees) (limits : Limits) (before later : List Submission) (asked : List Requested) (others : List Entry) (workers : ℕ) (reads : ℕ → List ReadEntry) (layers : ℕ → List (List ℕ))
-    → RoundTold tree limits before later asked others workers reads layers → AllByRecursion (IsSeen (trees_of tree) limits (before ++ later) (length before) asked) (reads_of others)
+    → RoundParts tree limits before later asked others workers reads layers → AllByRecursion (IsSeen (trees_of tree) limits (before ++ later) (length before) asked) (reads_of others)
 round_seen tree limits before later asked others workers reads layers round = each_lane (IsSeen (trees_of tree) limits (before ++ later) (length before) asked) (reads_of others) (λ lane. by_order lane (cases_lt lane 8)) where
   by_order : (lane : ℕ) → (lane < 8) ⊎ (8 ≤ lane) → AllByRecursion (IsSeen (trees_of tree) limits (before ++ later) (length before) asked) (reads_by lane (reads_of others))
   by_order lane (inl low) =
-      let told = round.lanes lane low in
-      subst (AllByRecursion (IsSeen (trees_of tree) limits (before ++ later) (length before) asked)) (sym (round.by_lane lane ∙ told.reads_are))
-      (lane_seen tree limits (length before) (before ++ later) (before ++ later) asked (lane_requests lane asked) told.steps round.known (prefix_same (before ++ later)) (found_of_lane lane asked round.rise)
-      told.answers told.from told.within)
+      let part = round.lanes lane low in
+      subst (AllByRecursion (IsSeen (trees_of tree) limits (before ++ later) (length before) asked)) (sym (round.by_lane lane ∙ part.reads_are))
+      (lane_seen tree limits (length before) (before ++ later) (before ++ later) asked (lane_requests lane asked) part.steps round.known (prefix_same (before ++ later)) (found_of_lane lane asked round.ascend)
+      part.answers part.from part.within)
   by_order lane (inr high) = subst (AllByRecursion (IsSeen (trees_of tree) limits (before ++ later) (length before) asked)) (sym (round.by_lane lane ∙ round.no_lanes lane high)) tt
 
 -- each request has one entry, and those of a lane stand in its order
 round_lines : (tree : DeskTrees) (limits : Limits) (before later : List Submission) (asked : List Requested) (others : List Entry) (workers : ℕ) (reads : ℕ → List ReadEntry) (layers : ℕ → List (List ℕ))
-    → RoundTold tree limits before later asked others workers reads layers → AllByRecursion (λ (p : Placed). FitsSeat p.event.seat p.event.by) (placed_from (length before + 1) later)
+    → RoundParts tree limits before later asked others workers reads layers → AllByRecursion (λ (p : Placed). FitsSeat p.event.seat p.event.by) (placed_from (length before + 1) later)
     → (lane : ℕ) → lines_answered lane others ≡ lines_asked lane asked
 round_lines tree limits before later asked others workers reads layers round fits lane = by_order (cases_lt lane 8) where
   by_order : (lane < 8) ⊎ (8 ≤ lane) → lines_answered lane others ≡ lines_asked lane asked
   by_order (inl low) =
-      let told = round.lanes lane low in
+      let part = round.lanes lane low in
       let asks = lane_requests lane asked in
-      let of = asks_of_lane lane asked round.rise in
-      lane_lines lane asks told.steps others round.order (steps_ascend lane tree limits (before ++ later) asks told.steps of told.answers told.in_turn)
-      (ap (filter (λ (event : EventEntry). is_of_lane lane event.by)) round.events ∙ (lane_events lane (length before + 1) later low fits ∙ ap (map entry_of) (sym told.own)))
-      (round.by_lane lane ∙ told.reads_are) (lane_on_lines lane tree limits (before ++ later) asks told.steps of told.answers)
+      let of = asks_of_lane lane asked round.ascend in
+      lane_lines lane asks part.steps others round.order (steps_ascend lane tree limits (before ++ later) asks part.steps of part.answers part.in_turn)
+      (ap (filter (λ (event : EventEntry). is_of_lane lane event.by)) round.events ∙ (lane_events lane (length before + 1) later low fits ∙ ap (map entry_of) (sym part.own)))
+      (round.by_lane lane ∙ part.reads_are) (lane_on_lines lane tree limits (before ++ later) asks part.steps of part.answers)
   by_order (inr high) =
       no_lane_lines lane others round.order
       (ap (filter (λ (event : EventEntry). is_of_lane lane event.by)) round.events ∙ no_lane_events lane (length before + 1) later high fits)
@@ -298,7 +298,7 @@ sum_above f k count total none some =
 
 -- each layer of the queue is claimed once
 round_claims : (tree : DeskTrees) (limits : Limits) (before later : List Submission) (asked : List Requested) (others : List Entry) (workers : ℕ) (reads : ℕ → List ReadEntry) (queue jobs : List (List ℕ))
-    → RoundTold tree limits before later asked others workers reads (λ worker. layers_of queue (get_or jobs worker [])) → length jobs ≡ workers
+    → RoundParts tree limits before later asked others workers reads (λ worker. layers_of queue (get_or jobs worker [])) → length jobs ≡ workers
     → ((h : ℕ → ℕ) → lists_weigh h jobs ≡ weigh_below h (length queue)) → (layer : List ℕ) → times layer (claims_of (events_of others)) ≡ times layer queue
 round_claims tree limits before later asked others workers reads queue jobs round many weights layer =
     ap (λ events. times layer (claims_of events)) round.events
@@ -313,64 +313,64 @@ round_claims tree limits before later asked others workers reads queue jobs roun
 
       of_lane : (lane : ℕ) → lane < 8 → claimed lane ≡ 0
       of_lane lane low =
-          let told = round.lanes lane low in
-          ap (λ own. times layer (claims_of (map entry_of own))) (sym told.own) ∙ ap (times layer) (lane_claims tree limits (before ++ later) (lane_requests lane asked) told.steps told.answers)
+          let part = round.lanes lane low in
+          ap (λ own. times layer (claims_of (map entry_of own))) (sym part.own) ∙ ap (times layer) (lane_claims tree limits (before ++ later) (lane_requests lane asked) part.steps part.answers)
 
       of_desk : (worker : ℕ) → worker < workers → claimed (8 + worker) ≡ weigh found (get_or jobs worker [])
       of_desk worker low =
-          let told = round.desks worker low in
-          ap (λ own. times layer (claims_of (map entry_of own))) (sym told.own_is) ∙ (ap (times layer) told.claims ∙ jobs_weigh layer queue (get_or jobs worker []))
+          let part = round.desks worker low in
+          ap (λ own. times layer (claims_of (map entry_of own))) (sym part.own_is) ∙ (ap (times layer) part.claims ∙ jobs_weigh layer queue (get_or jobs worker []))
 
 -- claims are of workers
 round_claimers : (tree : DeskTrees) (limits : Limits) (before later : List Submission) (asked : List Requested) (others : List Entry) (workers : ℕ) (reads : ℕ → List ReadEntry) (layers : ℕ → List (List ℕ))
-    → RoundTold tree limits before later asked others workers reads layers → AllByRecursion (λ (event : EventEntry). ClaimsBelow workers event.by event.act) (events_of others)
+    → RoundParts tree limits before later asked others workers reads layers → AllByRecursion (λ (event : EventEntry). ClaimsBelow workers event.by event.act) (events_of others)
 round_claimers tree limits before later asked others workers reads layers round =
     subst (AllByRecursion (λ (event : EventEntry). ClaimsBelow workers event.by event.act)) (sym (round.events ∙ entries_placed (length before + 1) later))
     (all_entries (λ (event : EventEntry). ClaimsBelow workers event.by event.act) (placed_from (length before + 1) later)
-    (each_told (λ seat p. ClaimsBelow workers p.event.by (act_name p.event.act)) (length before + 1) workers later round.below of_lane of_desk)) where
+    (each_known (λ seat p. ClaimsBelow workers p.event.by (act_name p.event.act)) (length before + 1) workers later round.below of_lane of_desk)) where
       of_lane : (lane : ℕ) → lane < 8 → AllByRecursion (λ (p : Placed). ClaimsBelow workers p.event.by (act_name p.event.act)) (of_seat lane (length before + 1) later)
       of_lane lane low =
-          let told = round.lanes lane low in
-          subst (AllByRecursion (λ (p : Placed). ClaimsBelow workers p.event.by (act_name p.event.act))) told.own
-          (lane_below workers tree limits (before ++ later) (lane_requests lane asked) told.steps told.answers)
+          let part = round.lanes lane low in
+          subst (AllByRecursion (λ (p : Placed). ClaimsBelow workers p.event.by (act_name p.event.act))) part.own
+          (lane_below workers tree limits (before ++ later) (lane_requests lane asked) part.steps part.answers)
 
       of_desk : (worker : ℕ) → worker < workers → AllByRecursion (λ (p : Placed). ClaimsBelow workers p.event.by (act_name p.event.act)) (of_seat (8 + worker) (length before + 1) later)
       of_desk worker low =
-          let told = round.desks worker low in
-          subst (AllByRecursion (λ (p : Placed). ClaimsBelow workers p.event.by (act_name p.event.act))) told.own_is
-          (all_weaker (IsByWorker worker) (λ (p : Placed). ClaimsBelow workers p.event.by (act_name p.event.act)) told.own
-          (λ p h. subst (λ source. ClaimsBelow workers source (act_name p.event.act)) (sym h.0) (below_worker workers worker (act_name p.event.act) low)) told.by_worker)
+          let part = round.desks worker low in
+          subst (AllByRecursion (λ (p : Placed). ClaimsBelow workers p.event.by (act_name p.event.act))) part.own_is
+          (all_weaker (IsByWorker worker) (λ (p : Placed). ClaimsBelow workers p.event.by (act_name p.event.act)) part.own
+          (λ p h. subst (λ source. ClaimsBelow workers source (act_name p.event.act)) (sym h.0) (below_worker workers worker (act_name p.event.act) low)) part.by_worker)
 
 -- each worker ends what it claimed
 round_works : (tree : DeskTrees) (limits : Limits) (before later : List Submission) (asked : List Requested) (others : List Entry) (workers : ℕ) (reads : ℕ → List ReadEntry) (layers : ℕ → List (List ℕ))
-    → RoundTold tree limits before later asked others workers reads layers → AllByRecursion (λ (p : Placed). FitsSeat p.event.seat p.event.by) (placed_from (length before + 1) later)
+    → RoundParts tree limits before later asked others workers reads layers → AllByRecursion (λ (p : Placed). FitsSeat p.event.seat p.event.by) (placed_from (length before + 1) later)
     → (worker : ℕ) → Works None (events_by worker (events_of others)) None
 round_works tree limits before later asked others workers reads layers round fits worker = by_order (cases_lt worker workers) where
   by_order : (worker < workers) ⊎ (workers ≤ worker) → Works None (events_by worker (events_of others)) None
   by_order (inl low) =
-      let told = round.desks worker low in
+      let part = round.desks worker low in
       subst (λ events. Works None events None)
-      (sym (ap (events_by worker) round.events ∙ (worker_events worker (length before + 1) later fits ∙ ap (map entry_of) (sym told.own_is)))) told.works
+      (sym (ap (events_by worker) round.events ∙ (worker_events worker (length before + 1) later fits ∙ ap (map entry_of) (sym part.own_is)))) part.works
   by_order (inr high) =
       subst (λ events. Works None events None) (sym (ap (events_by worker) round.events ∙ no_worker_events worker (length before + 1) later workers high round.below fits)) refl
 
 -- ---- the legal round
 
 pub round_legal : (tree : DeskTrees) (limits : Limits) (before later : List Submission) (lines : List Line) (last : ℕ) (taken : List Taken) (others : List Entry) (workers : ℕ) (reads : List (List ReadEntry))
-    (queue : List (List ℕ)) (jobs : List (List ℕ)) → IsKnown tree → AllZip IsTaken lines taken → LinesRise lines last → AllByRecursion (λ r. r.request.lane < 8) (requests taken)
+    (queue : List (List ℕ)) (jobs : List (List ℕ)) → IsKnown tree → AllZip IsTaken lines taken → LinesAscend lines last → AllByRecursion (λ r. r.request.lane < 8) (requests taken)
     → IsReplayed tree limits (before ++ later) → AllByRecursion (λ e. e.seat < 8 + workers) later
-    → ((lane : ℕ) → lane < 8 → LaneTold tree limits before later (requests taken) lane (get_or reads lane [])) → length reads ≡ 8
-    → ((worker : ℕ) → worker < workers → WorkerTold before later worker (layers_of queue (get_or jobs worker []))) → length jobs ≡ workers
+    → ((lane : ℕ) → lane < 8 → LanePart tree limits before later (requests taken) lane (get_or reads lane [])) → length reads ≡ 8
+    → ((worker : ℕ) → worker < workers → WorkerPart before later worker (layers_of queue (get_or jobs worker []))) → length jobs ≡ workers
     → ((h : ℕ → ℕ) → lists_weigh h jobs ≡ weigh_below h (length queue)) → queue ≡ queued (state_of (trees_of tree) limits before).layers
     → events_of others ≡ entries_from (length before + 1) later → ((lane : ℕ) → reads_by lane (reads_of others) ≡ get_or reads lane []) → AreAscending others
     → IsLegalRound (trees_of tree) workers (moment_of (trees_of tree) limits before) lines (refusals taken ++ others) (moment_of (trees_of tree) limits (before ++ later))
-round_legal tree limits before later lines last taken others workers reads queue jobs known read rise few replayed below lanes eight desks many weights queue_is events by_lane order =
+round_legal tree limits before later lines last taken others workers reads queue jobs known read ascend few replayed below lanes eight desks many weights queue_is events by_lane order =
     let asked = requests taken in
     let reads_at : ℕ → List ReadEntry = λ lane. get_or reads lane [] in
     let layers_at : ℕ → List (List ℕ) = λ worker. layers_of queue (get_or jobs worker []) in
-    let round : RoundTold tree limits before later asked others workers reads_at layers_at = record {
+    let round : RoundParts tree limits before later asked others workers reads_at layers_at = record {
       known = known;
-      rise = asks_rise lines last taken read rise;
+      ascend = requests_ascend lines last taken read ascend;
       few = few;
       below = below;
       lanes = lanes;
@@ -414,11 +414,11 @@ desk_events before later worker others taken own is events fits =
     ap (events_by worker) (no_events taken others ∙ events) ∙ (worker_events worker (length before + 1) later fits ∙ ap (map entry_of) (sym is))
 
 -- so it has as many granted claims, and as many faults
-pub desk_told : (before later : List Submission) (worker : ℕ) (others : List Entry) (taken : List Taken) (own : List Placed) → own ≡ of_seat (8 + worker) (length before + 1) later
+pub desk_counted : (before later : List Submission) (worker : ℕ) (others : List Entry) (taken : List Taken) (own : List Placed) → own ≡ of_seat (8 + worker) (length before + 1) later
     → events_of others ≡ entries_from (length before + 1) later → AllByRecursion (λ (p : Placed). FitsSeat p.event.seat p.event.by) (placed_from (length before + 1) later)
     → (grant_count (events_by worker (events_of (refusals taken ++ others))) ≡ grant_count (map entry_of own))
     × (fault_count (events_by worker (events_of (refusals taken ++ others))) ≡ fault_count (map entry_of own))
-desk_told before later worker others taken own is events fits =
+desk_counted before later worker others taken own is events fits =
     let all = desk_events before later worker others taken own is events fits in (ap grant_count all, ap fault_count all)
 
 -- a worker's desk listed a layer for each granted claim in the round's entries, and failed for each fault there
@@ -428,5 +428,5 @@ pub desk_rose : (before later : List Submission) (worker : ℕ) (layers : List (
     → AllByRecursion (λ (p : Placed). FitsSeat p.event.seat p.event.by) (placed_from (length before + 1) later)
     → (m ≡ l + grant_count (events_by worker (events_of (refusals taken ++ others)))) × RoseBy (fault_count (events_by worker (events_of (refusals taken ++ others)))) f g
 desk_rose before later worker layers mid end l f m g others taken is long seen first last did events fits =
-    let told = desk_told before later worker others taken did.own (own_of before later (8 + worker) mid end did.own is long seen first last did.made) events fits in
-    (did.listed ∙ ap (λ count. l + count) (sym told.0), subst (λ (count : ℕ). RoseBy count f g) (sym told.1) did.failed)
+    let part = desk_counted before later worker others taken did.own (own_of before later (8 + worker) mid end did.own is long seen first last did.made) events fits in
+    (did.listed ∙ ap (λ count. l + count) (sym part.0), subst (λ (count : ℕ). RoseBy count f g) (sym part.1) did.failed)

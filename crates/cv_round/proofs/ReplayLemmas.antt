@@ -1,4 +1,4 @@
--- Entries in ascending order, whose events are one list behind another and whose reads were answered in that list, are one history.
+-- Entries in ascending order, whose events are one list after another and whose reads were answered in that list, are one history.
 use Rattle.std.proofs.Common.{◌≡◌, ℕ, ◌+◌, ◌≤◌, List, [], ◌∷◌, ◌++◌, length, take, refl, ap, sym, subst, ◌∙◌, arith, append_assoc, length-append}
 use Rattle.std.specs.List.{AllByRecursion}
 use Rattle.std.proofs.lemmas.List.{append-nil}
@@ -20,7 +20,7 @@ use Rattle.cv_workers.specs.Events.{acts_of, entries_from, replies_of, state_of}
 use Rattle.cv_workers.specs.code.Own.{Submission}
 use Rattle.cv_workers.proofs.Replays.{state_more}
 use Rattle.cv_round.specs.Round.{moment_of}
-use Rattle.cv_round.specs.code.Told.{IsSeen, IsSourced}
+use Rattle.cv_round.specs.code.Parts.{IsSeen, IsSourced}
 
 -- ---- entries in order
 
@@ -31,7 +31,7 @@ event_first P event events (entry.Refused line error ∷ es) h is = event_first 
 event_first P event events (entry.Event first ∷ es) h is = let same : first ≡ event = cc is in subst (λ e. P (entry.Event e)) same h.0
 event_first P event events (entry.Read read ∷ es) h is = event_first P event events es h.1 is
 
--- reads behind an event have it before them
+-- reads after an event have it before them
 reads_behind : (event : EventEntry) (es : List Entry) → AllByRecursion (Precedes (entry.Event event)) es → AllByRecursion (λ read. event.number ≤ read.front) (reads_of es)
 reads_behind event [] h = tt
 reads_behind event (entry.Refused line error ∷ es) h = absurd h.0

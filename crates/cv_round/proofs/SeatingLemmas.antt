@@ -1,4 +1,4 @@
--- The events of a list, seat by seat: what each seat tells of its own events holds of all of them.
+-- The events of a list, seat by seat: what holds of the events of each seat holds of all of them.
 use Rattle.std.proofs.Common.{◌≡◌, ℕ, zero, suc, ◌+◌, ◌≤◌, ◌<◌, ◌==◌, cond, Bool, true, false, true≢false, List, [], ◌∷◌, ◌++◌, filter, get_or, length, map, None, Some, Option, refl, ap, sym, subst, ◌∙◌, arith, append_assoc, append-nil, length-append}
 use Rattle.std.specs.List.{AllByRecursion, cons_option}
 use Rattle.std.proofs.lemmas.Bool.{eq-eqb}
@@ -18,7 +18,7 @@ use Rattle.cv_workers.proofs.Made.{made_both}
 use Rattle.cv_workers.proofs.Prefixes.{prefix_between}
 use Rattle.cv_workers.specs.code.Worker.{layers_of}
 use Rattle.cv_workers.proofs.OwnLemmas.{all_own, among_both, among_none}
-use Rattle.cv_round.specs.code.Told.{FitsSeat, is_of_lane, placed_from, sum_seats}
+use Rattle.cv_round.specs.code.Parts.{FitsSeat, is_of_lane, placed_from, sum_seats}
 
 -- ---- the events of one seat
 

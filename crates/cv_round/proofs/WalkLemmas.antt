@@ -18,11 +18,11 @@ use Rattle.cv_workers.specs.code.Own.{Placed, Submission}
 use Rattle.cv_workers.proofs.Prefixes.{prefix_length}
 use Rattle.cv_workers.specs.code.Lane.{LaneDid, LanesDid}
 use Rattle.cv_workers.specs.code.Refreshed.{AreRefreshed}
-use Rattle.cv_workers.specs.code.Worker.{AreDone, AreHandsReady, HaveRoom, WorkersDid, layers_of}
-use Rattle.cv_round.specs.Round.{DesksTold}
+use Rattle.cv_workers.specs.code.Worker.{AreDone, AreHandsPrepared, HaveRoom, WorkersDid, layers_of}
+use Rattle.cv_round.specs.Round.{DesksCounted}
 use Rattle.cv_round.specs.code.Begun.{AreBegun, AreEnded}
-use Rattle.cv_round.specs.code.Told.{FitsSeat, LaneTold, WorkerTold, placed_from}
-use Rattle.cv_round.proofs.LegalRoundLemmas.{desk_rose, lane_told, worker_told}
+use Rattle.cv_round.specs.code.Parts.{FitsSeat, LanePart, WorkerPart, placed_from}
+use Rattle.cv_round.proofs.LegalRoundLemmas.{desk_rose, lane_part, worker_part}
 
 -- ---- the seats before
 
@@ -34,7 +34,7 @@ begun list n (o ∷ olds) (m ∷ mids) numbered receipts fresh = (
   fresh.0 ∙ numbered.0,
   prefix_length list m.list fresh.2,
   ap (λ index. made_by index list) fresh.0 ∙ (receipts.0 ∙ sym fresh.1),
-  begun list (n + 1) olds mids numbered.1 receipts.1 fresh.3,
+  begun list (n + 1) olds mids numbered.1 receipts.1 fresh.4,
 )
 
 pub begun_take : (list : List Submission) (k n : ℕ) (mids : List SeatView) → AreBegun list n mids → AreBegun list n (take k mids)
@@ -87,27 +87,27 @@ one_did : (tree : DeskTrees) (limits : Limits) (asks : List Requested) (mid end 
 one_did tree limits asks mid end reads reads_now given is none h =
     subst (λ (rs : List ReadEntry). LaneDid tree limits asks mid rs end reads_now) none (subst (λ (qs : List Requested). LaneDid tree limits qs mid reads end reads_now) is h)
 
-pub each_lane_told : (tree : DeskTrees) (limits : Limits) (before later : List Submission) (asked : List Requested) (n : ℕ) (mids ends : List SeatView) (lanes lanes_after : List Lane)
+pub each_lane_part : (tree : DeskTrees) (limits : Limits) (before later : List Submission) (asked : List Requested) (n : ℕ) (mids ends : List SeatView) (lanes lanes_after : List Lane)
     → AreBegun before n mids → AreEnded (before ++ later) ends → AreDealt n asked lanes
     → length ends ≡ length lanes → length mids ≡ length lanes → length lanes_after ≡ length lanes → LanesDid tree limits mids ends lanes lanes_after
-    → (k : ℕ) → k < length lanes → LaneTold tree limits before later asked (n + k) (get_or (map (λ (lane : Lane). lane.reads.items) lanes_after) k [])
-each_lane_told tree limits before later asked n mids ends [] lanes_after b e d many same all h k low = absurd (omega (arith, low))
-each_lane_told tree limits before later asked n [] ends (l ∷ lanes) lanes_after b e d many same all h k low = absurd (omega (arith, same))
-each_lane_told tree limits before later asked n (m ∷ mids) [] (l ∷ lanes) lanes_after b e d many same all h k low = absurd (omega (arith, many))
-each_lane_told tree limits before later asked n (m ∷ mids) (x ∷ ends) (l ∷ lanes) [] b e d many same all h k low = absurd (omega (arith, all))
-each_lane_told tree limits before later asked n (m ∷ mids) (x ∷ ends) (l ∷ lanes) (t ∷ lanes_after) b e d many same all h zero low =
-    subst (λ (i : ℕ). LaneTold tree limits before later asked i t.reads.items) (omega arith)
-    (lane_told tree limits before later asked n m x t.reads.items b.0 b.1 e.0 b.2 e.1
+    → (k : ℕ) → k < length lanes → LanePart tree limits before later asked (n + k) (get_or (map (λ (lane : Lane). lane.reads.items) lanes_after) k [])
+each_lane_part tree limits before later asked n mids ends [] lanes_after b e d many same all h k low = absurd (omega (arith, low))
+each_lane_part tree limits before later asked n [] ends (l ∷ lanes) lanes_after b e d many same all h k low = absurd (omega (arith, same))
+each_lane_part tree limits before later asked n (m ∷ mids) [] (l ∷ lanes) lanes_after b e d many same all h k low = absurd (omega (arith, many))
+each_lane_part tree limits before later asked n (m ∷ mids) (x ∷ ends) (l ∷ lanes) [] b e d many same all h k low = absurd (omega (arith, all))
+each_lane_part tree limits before later asked n (m ∷ mids) (x ∷ ends) (l ∷ lanes) (t ∷ lanes_after) b e d many same all h zero low =
+    subst (λ (i : ℕ). LanePart tree limits before later asked i t.reads.items) (omega arith)
+    (lane_part tree limits before later asked n m x t.reads.items b.0 b.1 e.0 b.2 e.1
     (one_did tree limits (lane_requests n asked) m x l.reads.items t.reads.items l.asked.items d.0.1 d.0.2 h.0.1))
-each_lane_told tree limits before later asked n (m ∷ mids) (x ∷ ends) (l ∷ lanes) (t ∷ lanes_after) b e d many same all h (suc k) low =
-    subst (λ (i : ℕ). LaneTold tree limits before later asked i (get_or (map (λ (lane : Lane). lane.reads.items) lanes_after) k [])) (omega arith)
-    (each_lane_told tree limits before later asked (n + 1) mids ends lanes lanes_after b.3 e.2 d.1 (omega (arith, many)) (omega (arith, same)) (omega (arith, all)) h.1 k (omega (arith, low)))
+each_lane_part tree limits before later asked n (m ∷ mids) (x ∷ ends) (l ∷ lanes) (t ∷ lanes_after) b e d many same all h (suc k) low =
+    subst (λ (i : ℕ). LanePart tree limits before later asked i (get_or (map (λ (lane : Lane). lane.reads.items) lanes_after) k [])) (omega arith)
+    (each_lane_part tree limits before later asked (n + 1) mids ends lanes lanes_after b.3 e.2 d.1 (omega (arith, many)) (omega (arith, same)) (omega (arith, all)) h.1 k (omega (arith, low)))
 
 -- ---- hands
 
-pub new_ready : (fill : Fill) (jobs from n : ℕ) → fill.jobs ≡ jobs → AreHandsReady jobs (new_hands fill from n)
-new_ready fill jobs from zero is = tt
-new_ready fill jobs from (suc n) is = ((is, refl), new_ready fill jobs (from + 1) n is)
+pub new_prepared : (fill : Fill) (jobs from n : ℕ) → fill.jobs ≡ jobs → AreHandsPrepared jobs (new_hands fill from n)
+new_prepared fill jobs from zero is = tt
+new_prepared fill jobs from (suc n) is = ((is, refl), new_prepared fill jobs (from + 1) n is)
 
 pub new_many : (fill : Fill) (from n : ℕ) → length (new_hands fill from n) ≡ n
 new_many fill from zero = refl
@@ -151,34 +151,34 @@ module _ {D : Type 0} (listings faults : D → ℕ) (queue : List (List ℕ)) wh
   numbered_workers before n worker (k ∷ hands) (m ∷ mids) (x ∷ ends) (d ∷ desks) (f ∷ desks_after) b h =
       (h.0.made.index_is ∙ b.0, numbered_workers before (n + 1) (worker + 1) hands mids ends desks desks_after b.3 h.1)
 
-  pub each_worker_told : (before later : List Submission) (n worker : ℕ) (hands : List HandState) (mids ends : List SeatView) (desks desks_after : List D) → n ≡ 8 + worker → AreBegun before n mids
+  pub each_worker_part : (before later : List Submission) (n worker : ℕ) (hands : List HandState) (mids ends : List SeatView) (desks desks_after : List D) → n ≡ 8 + worker → AreBegun before n mids
       → AreEnded (before ++ later) ends → WorkersDid listings faults queue worker hands mids ends desks desks_after
-      → (k : ℕ) → k < length hands → WorkerTold before later (worker + k) (layers_of queue (get_or (lists_of hands) k []))
-  each_worker_told before later n worker [] mids ends desks desks_after at b e h k low = absurd (omega (arith, low))
-  each_worker_told before later n worker (x ∷ hands) [] ends desks desks_after at b e h k low = absurd h
-  each_worker_told before later n worker (x ∷ hands) (m ∷ mids) [] desks desks_after at b e h k low = absurd h
-  each_worker_told before later n worker (x ∷ hands) (m ∷ mids) (y ∷ ends) [] desks_after at b e h k low = absurd h
-  each_worker_told before later n worker (x ∷ hands) (m ∷ mids) (y ∷ ends) (d ∷ desks) [] at b e h k low = absurd h
-  each_worker_told before later n worker (x ∷ hands) (m ∷ mids) (y ∷ ends) (d ∷ desks) (f ∷ desks_after) at b e h zero low =
-      subst (λ (i : ℕ). WorkerTold before later i (layers_of queue x.list)) (omega arith)
-      (worker_told before later worker (layers_of queue x.list) m y (listings d) (faults d) (listings f) (faults f) (b.0 ∙ at) b.1 e.0 b.2 e.1 h.0)
-  each_worker_told before later n worker (x ∷ hands) (m ∷ mids) (y ∷ ends) (d ∷ desks) (f ∷ desks_after) at b e h (suc k) low =
-      subst (λ (i : ℕ). WorkerTold before later i (layers_of queue (get_or (lists_of hands) k []))) (omega arith)
-      (each_worker_told before later (n + 1) (worker + 1) hands mids ends desks desks_after (omega (arith, at)) b.3 e.2 h.1 k (omega (arith, low)))
+      → (k : ℕ) → k < length hands → WorkerPart before later (worker + k) (layers_of queue (get_or (lists_of hands) k []))
+  each_worker_part before later n worker [] mids ends desks desks_after at b e h k low = absurd (omega (arith, low))
+  each_worker_part before later n worker (x ∷ hands) [] ends desks desks_after at b e h k low = absurd h
+  each_worker_part before later n worker (x ∷ hands) (m ∷ mids) [] desks desks_after at b e h k low = absurd h
+  each_worker_part before later n worker (x ∷ hands) (m ∷ mids) (y ∷ ends) [] desks_after at b e h k low = absurd h
+  each_worker_part before later n worker (x ∷ hands) (m ∷ mids) (y ∷ ends) (d ∷ desks) [] at b e h k low = absurd h
+  each_worker_part before later n worker (x ∷ hands) (m ∷ mids) (y ∷ ends) (d ∷ desks) (f ∷ desks_after) at b e h zero low =
+      subst (λ (i : ℕ). WorkerPart before later i (layers_of queue x.list)) (omega arith)
+      (worker_part before later worker (layers_of queue x.list) m y (listings d) (faults d) (listings f) (faults f) (b.0 ∙ at) b.1 e.0 b.2 e.1 h.0)
+  each_worker_part before later n worker (x ∷ hands) (m ∷ mids) (y ∷ ends) (d ∷ desks) (f ∷ desks_after) at b e h (suc k) low =
+      subst (λ (i : ℕ). WorkerPart before later i (layers_of queue (get_or (lists_of hands) k []))) (omega arith)
+      (each_worker_part before later (n + 1) (worker + 1) hands mids ends desks desks_after (omega (arith, at)) b.3 e.2 h.1 k (omega (arith, low)))
 
-  pub desks_told : (before later : List Submission) (others : List Entry) (taken : List Taken) (n worker : ℕ) (hands : List HandState) (mids ends : List SeatView) (desks desks_after : List D)
+  pub desks_counted : (before later : List Submission) (others : List Entry) (taken : List Taken) (n worker : ℕ) (hands : List HandState) (mids ends : List SeatView) (desks desks_after : List D)
       → n ≡ 8 + worker → AreBegun before n mids → AreEnded (before ++ later) ends → WorkersDid listings faults queue worker hands mids ends desks desks_after
       → events_of others ≡ entries_from (length before + 1) later → AllByRecursion (λ (p : Placed). FitsSeat p.event.seat p.event.by) (placed_from (length before + 1) later)
-      → DesksTold listings faults worker desks desks_after (refusals taken ++ others)
-  desks_told before later others taken n worker [] [] [] [] [] at b e h events fits = tt
-  desks_told before later others taken n worker [] [] [] [] (f ∷ desks_after) at b e h events fits = absurd h
-  desks_told before later others taken n worker [] [] [] (d ∷ desks) desks_after at b e h events fits = absurd h
-  desks_told before later others taken n worker [] [] (y ∷ ends) desks desks_after at b e h events fits = absurd h
-  desks_told before later others taken n worker [] (m ∷ mids) ends desks desks_after at b e h events fits = absurd h
-  desks_told before later others taken n worker (x ∷ hands) [] ends desks desks_after at b e h events fits = absurd h
-  desks_told before later others taken n worker (x ∷ hands) (m ∷ mids) [] desks desks_after at b e h events fits = absurd h
-  desks_told before later others taken n worker (x ∷ hands) (m ∷ mids) (y ∷ ends) [] desks_after at b e h events fits = absurd h
-  desks_told before later others taken n worker (x ∷ hands) (m ∷ mids) (y ∷ ends) (d ∷ desks) [] at b e h events fits = absurd h
-  desks_told before later others taken n worker (x ∷ hands) (m ∷ mids) (y ∷ ends) (d ∷ desks) (f ∷ desks_after) at b e h events fits =
+      → DesksCounted listings faults worker desks desks_after (refusals taken ++ others)
+  desks_counted before later others taken n worker [] [] [] [] [] at b e h events fits = tt
+  desks_counted before later others taken n worker [] [] [] [] (f ∷ desks_after) at b e h events fits = absurd h
+  desks_counted before later others taken n worker [] [] [] (d ∷ desks) desks_after at b e h events fits = absurd h
+  desks_counted before later others taken n worker [] [] (y ∷ ends) desks desks_after at b e h events fits = absurd h
+  desks_counted before later others taken n worker [] (m ∷ mids) ends desks desks_after at b e h events fits = absurd h
+  desks_counted before later others taken n worker (x ∷ hands) [] ends desks desks_after at b e h events fits = absurd h
+  desks_counted before later others taken n worker (x ∷ hands) (m ∷ mids) [] desks desks_after at b e h events fits = absurd h
+  desks_counted before later others taken n worker (x ∷ hands) (m ∷ mids) (y ∷ ends) [] desks_after at b e h events fits = absurd h
+  desks_counted before later others taken n worker (x ∷ hands) (m ∷ mids) (y ∷ ends) (d ∷ desks) [] at b e h events fits = absurd h
+  desks_counted before later others taken n worker (x ∷ hands) (m ∷ mids) (y ∷ ends) (d ∷ desks) (f ∷ desks_after) at b e h events fits =
       let one = desk_rose before later worker (layers_of queue x.list) m y (listings d) (faults d) (listings f) (faults f) others taken (b.0 ∙ at) b.1 e.0 b.2 e.1 h.0 events fits in
-      (one.0, one.1, desks_told before later others taken (n + 1) (worker + 1) hands mids ends desks desks_after (omega (arith, at)) b.3 e.2 h.1 events fits)
+      (one.0, one.1, desks_counted before later others taken (n + 1) (worker + 1) hands mids ends desks desks_after (omega (arith, at)) b.3 e.2 h.1 events fits)

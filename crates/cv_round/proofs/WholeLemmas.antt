@@ -1,4 +1,4 @@
--- A round, from what its calls told.
+-- A round, from what its calls ensure.
 use Rattle.std.specs.Prelude.{IfOk, OnOk}
 use Rattle.std.proofs.Common.{◌≡◌, ℕ, zero, suc, ◌+◌, ◌<◌, ◌≤◌, ◌⊎◌, inl, inr, Result, Ok, Err, List, [], ◌∷◌, ◌++◌, drop, get_or, length, map, take, refl, ap, sym, subst, ◌∙◌, arith}
 use Rattle.std.specs.List.{AllByRecursion, AllZip}
@@ -18,10 +18,10 @@ use Rattle.cv_machine.specs.declared.limits.Limits.{Limits}
 use Rattle.cv_legal.specs.Round.{IsLegalRound}
 use Rattle.cv_legal.specs.Taken.{IsTaken, refusals, requests}
 use Rattle.cv_legal.specs.code.Segment.{lane_requests}
-use Rattle.cv_legal.specs.code.Served.{LinesRise}
+use Rattle.cv_legal.specs.Served.{LinesAscend}
 use Rattle.cv_legal.specs.declared.taken.Requested.{Requested}
 use Rattle.cv_legal.specs.declared.taken.Taken.{Taken}
-use Rattle.cv_legal.proofs.Assembled.{AsksRise, asks_rise}
+use Rattle.cv_legal.proofs.Assembled.{RequestsAscend, requests_ascend}
 use Rattle.cv_pool.specs.Hands.{HandState, lists_of}
 use Rattle.cv_pool.specs.Jobs.{lists_weigh, weigh_below}
 use Rattle.cv_dealing.specs.Sound.{IsSoundRequest}
@@ -34,13 +34,13 @@ use Rattle.cv_workers.specs.code.Own.{Submission}
 use Rattle.cv_workers.specs.code.Lane.{LanesDid}
 use Rattle.cv_workers.specs.code.Refreshed.{AreRefreshed}
 use Rattle.cv_workers.specs.code.Worker.{WorkersDid, layers_of}
-use Rattle.cv_round.specs.Round.{DesksTold, moment_of}
+use Rattle.cv_round.specs.Round.{DesksCounted, moment_of}
 use Rattle.cv_round.specs.code.Ran.{RoundRan}
 use Rattle.cv_round.specs.code.Begun.{AreEnded}
-use Rattle.cv_round.specs.code.Told.{LaneTold, WorkerTold}
+use Rattle.cv_round.specs.code.Parts.{LanePart, WorkerPart}
 use Rattle.cv_round.proofs.LaneLineLemmas.{asks_of_lane, reads_in_lane}
 use Rattle.cv_round.proofs.LegalRoundLemmas.{round_fits, round_legal}
-use Rattle.cv_round.proofs.WalkLemmas.{begun, begun_drop, begun_take, desks_told, each_lane_told, each_worker_told, ended, ended_drop, ended_take, numbered_all, numbered_lanes, numbered_workers}
+use Rattle.cv_round.proofs.WalkLemmas.{begun, begun_drop, begun_take, desks_counted, each_lane_part, each_worker_part, ended, ended_drop, ended_take, numbered_all, numbered_lanes, numbered_workers}
 
 -- ---- lists
 
@@ -75,7 +75,7 @@ front_is (suc n) (x ∷ xs) ys is = ap (λ zs. x ∷ zs) (front_is n xs ys (omeg
 -- ---- the lanes and the workers
 
 module _ {D : Type 0} (listings faults : D → ℕ) (tree : DeskTrees) (limits : Limits) (before : List Submission) (asked : List Requested) (queue : List (List ℕ)) (olds mids ends : List SeatView) (lanes lanes_after : List Lane) (hands : List HandState) (ds es : List D) where
-  -- what the calls told up to the taking of the events
+  -- what the calls up to the taking of the events ensure
   pub record Worked : Type 0 where
     pub seats : length olds ≡ 8 + length ds
     pub numbered : AreNumbered 0 olds
@@ -90,7 +90,7 @@ module _ {D : Type 0} (listings faults : D → ℕ) (tree : DeskTrees) (limits :
     pub workers_did : WorkersDid listings faults queue 0 hands (drop (length lanes) mids) (drop (length lanes) ends) ds es
     pub hands_many : length hands ≡ length ds
 
-  -- as the calls told it of the slice of the lanes
+  -- the same, from what they ensure of the slice of the lanes
   pub worked_by : (slice : List Lane) → slice ≡ lanes → length olds ≡ 8 + length ds → AreNumbered 0 olds → AreAllReceipts before olds → AreRefreshed before olds mids → length mids ≡ length olds
       → length ends ≡ length mids → length lanes ≡ 8 → AreDealt 0 asked lanes → length lanes_after ≡ length slice → LanesDid tree limits (take (length slice) mids) (take (length slice) ends) slice lanes_after
       → WorkersDid listings faults queue 0 hands (drop (length slice) mids) (drop (length slice) ends) ds es → length hands ≡ length ds → Worked
@@ -137,42 +137,42 @@ module _ {D : Type 0} (listings faults : D → ℕ) (tree : DeskTrees) (limits :
       let low : AllByRecursion (λ (e : Submission). e.seat < 8 + length ds) later =
       subst (λ (n : ℕ). AllByRecursion (λ (e : Submission). e.seat < n) later) seats_are
       (all_behind (λ (e : Submission). e.seat < length ends) before later (subst (AllByRecursion (λ (e : Submission). e.seat < length ends)) is below)) in
-      let lanes_at = each_lane_told tree limits before later asked 0 (take k mids) (take k ends) lanes lanes_after (begun_take before k 0 mids start) (ended_take (before ++ later) k ends end) w.dealt
+      let lanes_at = each_lane_part tree limits before later asked 0 (take k mids) (take k ends) lanes lanes_after (begun_take before k 0 mids start) (ended_take (before ++ later) k ends end) w.dealt
       (took_many k (length ds) ends ends_are) (took_many k (length ds) mids mids_are) w.lanes_many w.lanes_did in
-      let lanes_told : (lane : ℕ) → lane < 8 → LaneTold tree limits before later asked lane (get_or (map (λ (l : Lane). l.reads.items) lanes_after) lane []) =
-      λ lane less. subst (λ (i : ℕ). LaneTold tree limits before later asked i (get_or (map (λ (l : Lane). l.reads.items) lanes_after) lane [])) (omega arith) (lanes_at lane (omega (arith, less, eight))) in
-      let workers_at = each_worker_told listings faults queue before later (0 + k) 0 hands (drop k mids) (drop k ends) ds es place (begun_drop before k 0 mids start) (ended_drop (before ++ later) k ends end) w.workers_did in
-      let workers_told : (worker : ℕ) → worker < length ds → WorkerTold before later worker (layers_of queue (get_or jobs worker [])) =
-      λ worker less. subst (λ (js : List (List ℕ)). WorkerTold before later worker (layers_of queue (get_or js worker []))) (sym jobs_are)
-      (subst (λ (i : ℕ). WorkerTold before later i (layers_of queue (get_or (lists_of hands) worker []))) (omega arith) (workers_at worker (let many = w.hands_many in omega (arith, less, many)))) in
-      let fits = round_fits tree limits before later asked (length ds) (λ lane. get_or (map (λ (l : Lane). l.reads.items) lanes_after) lane []) (λ worker. layers_of queue (get_or jobs worker [])) low lanes_told workers_told in
+      let lane_parts : (lane : ℕ) → lane < 8 → LanePart tree limits before later asked lane (get_or (map (λ (l : Lane). l.reads.items) lanes_after) lane []) =
+      λ lane less. subst (λ (i : ℕ). LanePart tree limits before later asked i (get_or (map (λ (l : Lane). l.reads.items) lanes_after) lane [])) (omega arith) (lanes_at lane (omega (arith, less, eight))) in
+      let workers_at = each_worker_part listings faults queue before later (0 + k) 0 hands (drop k mids) (drop k ends) ds es place (begun_drop before k 0 mids start) (ended_drop (before ++ later) k ends end) w.workers_did in
+      let worker_parts : (worker : ℕ) → worker < length ds → WorkerPart before later worker (layers_of queue (get_or jobs worker [])) =
+      λ worker less. subst (λ (js : List (List ℕ)). WorkerPart before later worker (layers_of queue (get_or js worker []))) (sym jobs_are)
+      (subst (λ (i : ℕ). WorkerPart before later i (layers_of queue (get_or (lists_of hands) worker []))) (omega arith) (workers_at worker (let many = w.hands_many in omega (arith, less, many)))) in
+      let fits = round_fits tree limits before later asked (length ds) (λ lane. get_or (map (λ (l : Lane). l.reads.items) lanes_after) lane []) (λ worker. layers_of queue (get_or jobs worker [])) low lane_parts worker_parts in
       record {
         later = later;
         whole_is = is;
         replayed = subst (IsReplayed tree limits) is replayed;
         below = low;
-        lanes_told = lanes_told;
+        lane_parts = lane_parts;
         eight = w.lanes_many ∙ eight;
         jobs = jobs;
-        workers_told = workers_told;
+        worker_parts = worker_parts;
         many = ap length jobs_are ∙ (many_of (λ (h : HandState). h.list) hands ∙ w.hands_many);
         weights = weights;
         events_are = events_are;
-        desks_told = λ others taken is_events.
-            desks_told listings faults queue before later others taken (0 + k) 0 hands (drop k mids) (drop k ends) ds es place (begun_drop before k 0 mids start) (ended_drop (before ++ later) k ends end)
+        desks_counted = λ others taken is_events.
+            desks_counted listings faults queue before later others taken (0 + k) 0 hands (drop k mids) (drop k ends) ds es place (begun_drop before k 0 mids start) (ended_drop (before ++ later) k ends end)
             w.workers_did is_events fits;
       }
 
 -- ---- the entries
 
 -- the lanes' reads, by lane
-reads_by_lane : (tree : DeskTrees) (limits : Limits) (before later : List Submission) (asked : List Requested) (reads : List (List ReadEntry)) → AsksRise asked → length reads ≡ 8
-    → ((lane : ℕ) → lane < 8 → LaneTold tree limits before later asked lane (get_or reads lane [])) → AreByLane reads
-reads_by_lane tree limits before later asked reads rise eight lanes lane = by_order (cases_lt lane 8) where
+reads_by_lane : (tree : DeskTrees) (limits : Limits) (before later : List Submission) (asked : List Requested) (reads : List (List ReadEntry)) → RequestsAscend asked → length reads ≡ 8
+    → ((lane : ℕ) → lane < 8 → LanePart tree limits before later asked lane (get_or reads lane [])) → AreByLane reads
+reads_by_lane tree limits before later asked reads ascend eight lanes lane = by_order (cases_lt lane 8) where
   by_order : (lane < 8) ⊎ (8 ≤ lane) → AreOfLane lane (get_or reads lane [])
   by_order (inl low) =
-      let told = lanes lane low in
-      subst (AreOfLane lane) (sym told.reads_are) (reads_in_lane lane tree limits (before ++ later) (lane_requests lane asked) told.steps (asks_of_lane lane asked rise) told.answers told.in_turn)
+      let part = lanes lane low in
+      subst (AreOfLane lane) (sym part.reads_are) (reads_in_lane lane tree limits (before ++ later) (lane_requests lane asked) part.steps (asks_of_lane lane asked ascend) part.answers part.in_turn)
   by_order (inr high) = subst (AreOfLane lane) (sym (get_or_past reads lane [] (omega (arith, eight, high)))) (record { lanes = tt; ascending = tt })
 
 numbers_above : (first : EventEntry) (m : ℕ) (list : List Submission) → first.number < m → AllByRecursion (Precedes (entry.Event first)) (map entry.Event (entries_from m list))
@@ -185,7 +185,7 @@ events_ascend m [] = tt
 events_ascend m (e ∷ list) = (tt, numbers_above (event_entry m e.by e.act e.reply) (m + 1) list (omega arith), events_ascend (m + 1) list)
 
 module _ {D : Type 0} (listings faults : D → ℕ) (tree : DeskTrees) (limits : Limits) (before whole : List Submission) (taken : List Taken) (asked : List Requested) (queue : List (List ℕ)) (ds es : List D) (events : List EventEntry) (lanes : List Lane) (reads : List (List ReadEntry)) (refused others all : List Entry) where
-  -- what the calls told of a round
+  -- what the calls of a round ensure
   pub record Joined : Type 0 where
     pub ran : RoundRan tree limits listings faults before whole asked queue ds es events lanes
     pub asked_is : asked ≡ requests taken
@@ -201,24 +201,24 @@ module _ {D : Type 0} (listings faults : D → ℕ) (tree : DeskTrees) (limits :
   joined_is : Joined → all ≡ refusals taken ++ others
   joined_is j = j.all_is ∙ ap (λ rs. rs ++ others) j.refused_is
 
-  pub joined_desks : Joined → DesksTold listings faults 0 ds es all
-  joined_desks j = subst (DesksTold listings faults 0 ds es) (sym (joined_is j)) (j.ran.desks_told others taken (j.events_are ∙ j.ran.events_are))
+  pub joined_desks : Joined → DesksCounted listings faults 0 ds es all
+  joined_desks j = subst (DesksCounted listings faults 0 ds es) (sym (joined_is j)) (j.ran.desks_counted others taken (j.events_are ∙ j.ran.events_are))
 
-  pub joined_legal : Joined → IsKnown tree → (lines : List Line) (last : ℕ) → AllZip IsTaken lines taken → LinesRise lines last
+  pub joined_legal : Joined → IsKnown tree → (lines : List Line) (last : ℕ) → AllZip IsTaken lines taken → LinesAscend lines last
       → IsLegalRound (trees_of tree) (length ds) (moment_of (trees_of tree) limits before) lines all (moment_of (trees_of tree) limits whole)
-  joined_legal j known lines last read rise =
+  joined_legal j known lines last read ascend =
       let ran = j.ran in
       let later = ran.later in
       let eight : length reads ≡ 8 = ap length j.reads_are ∙ (many_of (λ (l : Lane). l.reads.items) lanes ∙ ran.eight) in
       let few : AllByRecursion (λ (r : Requested). r.request.lane < 8) (requests taken) = subst (AllByRecursion (λ (r : Requested). r.request.lane < 8)) j.asked_is (low_lanes asked j.sound) in
-      let lanes_told : (lane : ℕ) → lane < 8 → LaneTold tree limits before later (requests taken) lane (get_or reads lane []) =
-      λ lane low. subst (λ (rs : List (List ReadEntry)). LaneTold tree limits before later (requests taken) lane (get_or rs lane [])) (sym j.reads_are)
-      (subst (λ (qs : List Requested). LaneTold tree limits before later qs lane (get_or (map (λ (l : Lane). l.reads.items) lanes) lane [])) j.asked_is (ran.lanes_told lane low)) in
-      let by = reads_by_lane tree limits before later (requests taken) reads (asks_rise lines last taken read rise) eight lanes_told in
+      let lane_parts : (lane : ℕ) → lane < 8 → LanePart tree limits before later (requests taken) lane (get_or reads lane []) =
+      λ lane low. subst (λ (rs : List (List ReadEntry)). LanePart tree limits before later (requests taken) lane (get_or rs lane [])) (sym j.reads_are)
+      (subst (λ (qs : List Requested). LanePart tree limits before later qs lane (get_or (map (λ (l : Lane). l.reads.items) lanes) lane [])) j.asked_is (ran.lane_parts lane low)) in
+      let by = reads_by_lane tree limits before later (requests taken) reads (requests_ascend lines last taken read ascend) eight lane_parts in
       let order = j.order (subst (λ (vs : List EventEntry). AreAscending (map entry.Event vs)) (sym ran.events_are) (events_ascend (length before + 1) later)) by in
       subst (λ (es : List Entry). IsLegalRound (trees_of tree) (length ds) (moment_of (trees_of tree) limits before) lines es (moment_of (trees_of tree) limits whole)) (sym (joined_is j))
       (subst (λ (list : List Submission). IsLegalRound (trees_of tree) (length ds) (moment_of (trees_of tree) limits before) lines (refusals taken ++ others) (moment_of (trees_of tree) limits list)) (sym ran.whole_is)
-      (round_legal tree limits before later lines last taken others (length ds) reads queue ran.jobs known read rise few ran.replayed ran.below lanes_told eight ran.workers_told ran.many ran.weights (j.queue_is known)
+      (round_legal tree limits before later lines last taken others (length ds) reads queue ran.jobs known read ascend few ran.replayed ran.below lane_parts eight ran.worker_parts ran.many ran.weights (j.queue_is known)
       (j.events_are ∙ ran.events_are) (j.by_lane by) order))
 
 -- ---- answers

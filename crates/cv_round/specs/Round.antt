@@ -8,8 +8,7 @@ use Rattle.cv_legal.specs.Parts.{events_by}
 use Rattle.cv_legal.specs.Replay.{Moment}
 pub use Rattle.cv_dealing.specs.Sound.{IsSoundAnswer, IsSoundRequest, IsSoundTaken}
 use Rattle.cv_workers.specs.Events.{state_of}
-use Rattle.cv_workers.specs.Seats.{AreAllReceipts, AreNumbered, SeatView}
-use Rattle.cv_workers.specs.code.Own.{Submission}
+use Rattle.cv_workers.specs.Seats.{AreAllReceipts, AreNumbered, SeatView, Submission}
 pub use Rattle.cv_workers.specs.Counts.{RoseBy, fault_count, grant_count, is_fault}
 
 -- the moment after the events of a list
@@ -18,13 +17,13 @@ moment_of trees limits list = record { count = length list; state = state_of tre
 
 -- Of each desk in turn, from that of this worker on: it listed a layer for each claim of its worker that was granted, and failed at
 -- least once for each `fault` line of its worker.
-abbrev pub DesksTold : {D : Type 0} → (D → ℕ) → (D → ℕ) → ℕ → List D → List D → List Entry → Type 0
-DesksTold listings faults worker [] [] entries = ⊤
-DesksTold listings faults worker (desk ∷ desks) (desk_after ∷ desks_after) entries =
+abbrev pub DesksCounted : {D : Type 0} → (D → ℕ) → (D → ℕ) → ℕ → List D → List D → List Entry → Type 0
+DesksCounted listings faults worker [] [] entries = ⊤
+DesksCounted listings faults worker (desk ∷ desks) (desk_after ∷ desks_after) entries =
     (listings desk_after ≡ listings desk + grant_count (events_by worker (events_of entries)))
     × RoseBy (fault_count (events_by worker (events_of entries))) (faults desk) (faults desk_after)
-    × DesksTold listings faults (worker + 1) desks desks_after entries
-DesksTold listings faults worker _ _ entries = ⊥
+    × DesksCounted listings faults (worker + 1) desks desks_after entries
+DesksCounted listings faults worker _ _ entries = ⊥
 
 -- the seats of a round: those of eight lanes, and one of each worker
 pub record AreRoundSeats (parts workers : ℕ) (list : List Submission) (seats : List SeatView) : Type 0 where

@@ -1,3 +1,3 @@
 pub mod Begun
 pub mod Ran
-pub mod Told
+pub mod Parts

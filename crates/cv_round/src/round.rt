@@ -1,9 +1,9 @@
 ghost use Rattle.std.specs.Prelude.{◌≡◌, ◌+◌, ◌<◌, ◌^◌, length, take, drop, OnOk};
 ghost use Rattle.std.specs.List.{AllByRecursion};
 ghost use Rattle.cv_pool.specs.Hands.{AreSameHands};
-ghost use Rattle.cv_dealing.specs.code.Dealt.{IsLaneReady};
+ghost use Rattle.cv_dealing.specs.code.Dealt.{IsLanePrepared};
 ghost use Rattle.cv_workers.specs.code.Lane.{LanesDid};
-ghost use Rattle.cv_workers.specs.code.Worker.{AreDone, AreHandsReady, HaveRoom, WorkersDid};
+ghost use Rattle.cv_workers.specs.code.Worker.{AreDone, AreHandsPrepared, HaveRoom, WorkersDid};
 
 use cv_base::Digest;
 use cv_crew::run_sides;
@@ -28,10 +28,10 @@ pub fn run_all<D: Desk + Drop + Send + Sync, L: Identity + Send + Sync, W: Threa
     seats: &mut [Seat<D, L>],
     desks: &mut [D],
 ) -> Result<(), NoMemory>
-    requires few { length desks.old < 2 ^ 32 }
+    requires in_range { length desks.old < 2 ^ 32 }
     requires same { (length hands.old ≡ length desks.old) × (length seats.old ≡ length lanes.old + length desks.old) }
-    requires lanes { AllByRecursion IsLaneReady lanes.old }
-    requires hands { AreHandsReady (length queue.now) hands.old }
+    requires lanes { AllByRecursion IsLanePrepared lanes.old }
+    requires hands { AreHandsPrepared (length queue.now) hands.old }
     requires room { HaveRoom D.listings (drop (length lanes.old) seats.old) desks.old }
     ensures lanes { OnOk result (LanesDid D.tree L.limits (take (length lanes.old) seats.old) (take (length lanes.old) seats.new) lanes.old lanes.new) }
     ensures workers { OnOk result (WorkersDid D.listings D.faults queue.now 0 hands.new (drop (length lanes.old) seats.old) (drop (length lanes.old) seats.new) desks.old desks.new) }

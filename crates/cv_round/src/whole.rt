@@ -4,10 +4,10 @@ ghost use Rattle.cv_machine.specs.Scans.{IsKnown, trees_of};
 ghost use Rattle.cv_base.specs.Lines.{Line};
 ghost use Rattle.cv_legal.specs.Round.{IsLegalRound};
 ghost use Rattle.cv_legal.specs.Taken.{IsTaken};
-ghost use Rattle.cv_legal.specs.code.Served.{LinesRise};
+ghost use Rattle.cv_legal.specs.Served.{LinesAscend};
 ghost use Rattle.cv_pool.specs.Hands.{IsNewFill};
 ghost use Rattle.cv_dealing.specs.Sound.{IsSoundRequest, IsSoundTaken};
-ghost use Rattle.cv_round.specs.Round.{AreRoundSeats, DesksTold, moment_of};
+ghost use Rattle.cv_round.specs.Round.{AreRoundSeats, DesksCounted, moment_of};
 ghost use Rattle.cv_round.specs.code.Ran.{RoundRan};
 
 use crate::round::run_all;
@@ -40,9 +40,9 @@ pub fn run_round<D: Desk + Drop + Send + Sync, L: Identity + Send + Sync, W: Thr
     requires seats { AreRoundSeats L.parts (length desks.old) hub.old seats.old }
     requires sound { AllByRecursion IsSoundTaken taken.items }
     requires room { AllByRecursion (λ desk. D.listings desk ≤ 2 ^ 62 + length hub.old) desks.old }
-    ensures legal { IsKnown D.tree → (lines : List Line) (last : ℕ) → AllZip IsTaken lines taken.items → LinesRise lines last
+    ensures legal { IsKnown D.tree → (lines : List Line) (last : ℕ) → AllZip IsTaken lines taken.items → LinesAscend lines last
         → IfOk result (λ entries. IsLegalRound (trees_of D.tree) (length desks.old) (moment_of (trees_of D.tree) L.limits hub.old) lines entries.items (moment_of (trees_of D.tree) L.limits hub.new)) }
-    ensures desks { IfOk result (λ entries. DesksTold D.listings D.faults 0 desks.old desks.new entries.items) }
+    ensures desks { IfOk result (λ entries. DesksCounted D.listings D.faults 0 desks.old desks.new entries.items) }
     ensures seats { OnOk result (AreRoundSeats L.parts (length desks.new) hub.new seats.new) }
     ensures room { OnOk result (AllByRecursion (λ desk. D.listings desk ≤ 2 ^ 62 + length hub.new) desks.new) }
 {

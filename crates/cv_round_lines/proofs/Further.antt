@@ -14,15 +14,15 @@ use Rattle.cv_machine.specs.Scans.{Trees}
 use Rattle.cv_legal.specs.Replay.{Moment}
 use Rattle.cv_legal.specs.Rounds.{Cut, cut_line, end_before, end_full, end_round, put_line, round_limits, size_of}
 use Rattle.cv_legal.specs.Taken.{IsTaken}
-use Rattle.cv_legal.specs.code.Served.{Served}
+use Rattle.cv_legal.specs.Served.{Served}
 use Rattle.cv_legal.specs.declared.limits.TheConstants.{MAX_ROUND_BYTES, MAX_ROUND_LINES}
 use Rattle.cv_legal.specs.declared.taken.Taken.{Taken}
 use Rattle.cv_legal.proofs.Serving.{ends_round, takes_line}
-use Rattle.cv_round.specs.Round.{DesksTold}
+use Rattle.cv_round.specs.Round.{DesksCounted}
 use Rattle.cv_round_lines.specs.Further.{Further}
 use Rattle.cv_round_lines.specs.code.Parts.{RoundRun}
 use Rattle.cv_round_lines.specs.Printed.{HasTag}
-use Rattle.cv_round_lines.proofs.Told.{told_both, told_none}
+use Rattle.cv_round_lines.proofs.Counts.{counts_both, counts_none}
 
 pub tags_both : (xs ys : List Entry) → AllByRecursion HasTag xs → AllByRecursion HasTag ys → AllByRecursion HasTag (xs ++ ys)
 tags_both [] ys h k = k
@@ -40,7 +40,7 @@ stays trees workers listings faults cut last taken bytes entries now w l h = rec
   served = subst (λ es. Served trees workers cut last taken bytes es now) (sym (append-nil entries)) h;
   lines = Appends-nil w;
   tags = tt;
-  told = told_none listings faults 0 l;
+  counts = counts_none listings faults 0 l;
 }
 
 -- a round was run
@@ -52,20 +52,20 @@ runs trees workers listings faults cut last taken bytes entries now after w v l 
   served = ends_round trees workers cut last taken bytes entries now r.entries after h r.legal;
   lines = r.appended;
   tags = r.tags;
-  told = r.told;
+  counts = r.counts;
 }
 
 -- one thing after the other
 pub both : {D : Type 0} (trees : Trees) (workers : ℕ) (listings faults : D → ℕ) (cut : Cut) (last : ℕ) (taken : List Taken) (bytes : ℕ) (entries first : List Entry) (now : Moment) (w m v : Option (List ℕ)) (l k n : List D)
-    → Appends w m (flat_map entry_text first) → AllByRecursion HasTag first → DesksTold listings faults 0 l k first
+    → Appends w m (flat_map entry_text first) → AllByRecursion HasTag first → DesksCounted listings faults 0 l k first
     → Further trees workers listings faults cut last taken bytes (entries ++ first) now m v k n
     → Further trees workers listings faults cut last taken bytes entries now w v l n
-both trees workers listings faults cut last taken bytes entries first now w m v l k n lines tags told g = record {
+both trees workers listings faults cut last taken bytes entries first now w m v l k n lines tags counts g = record {
   more = first ++ g.more;
   served = subst (λ es. Served trees workers cut last taken bytes es now) (append_assoc entries first g.more) g.served;
   lines = lines_both w m v first g.more lines g.lines;
   tags = tags_both first g.more tags g.tags;
-  told = told_both listings faults 0 l k n first g.more told g.told;
+  counts = counts_both listings faults 0 l k n first g.more counts g.counts;
 }
 
 -- a line came to the round that has begun
@@ -143,4 +143,4 @@ pub further : {D : Type 0} (trees : Trees) (workers : ℕ) (listings faults : D 
 further trees workers listings faults first next to last number at taken begun bytes more entries now after w m v l k n f g to_is number_is =
     subst (λ c. Further trees workers listings faults c number begun more entries after w v l n) (sym to_is)
     (subst (λ i. Further trees workers listings faults next i begun more entries after w v l n) (sym number_is)
-    (both trees workers listings faults next at begun more entries f.more after w m v l k n f.lines f.tags f.told g))
+    (both trees workers listings faults next at begun more entries f.more after w m v l k n f.lines f.tags f.counts g))

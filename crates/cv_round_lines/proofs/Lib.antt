@@ -1,5 +1,5 @@
 pub mod Further
 mod Queued
 mod Seats
-pub mod Told
+pub mod Counts
 mod Written

@@ -10,7 +10,7 @@ use Rattle.cv_legal.specs.Legal.{AreLast}
 use Rattle.cv_legal.specs.Replay.{Moment}
 use Rattle.cv_round_lines.specs.Further.{LastRun}
 use Rattle.cv_round_lines.specs.code.Parts.{RoundRun}
-use Rattle.cv_round_lines.proofs.Told.{told_none}
+use Rattle.cv_round_lines.proofs.Counts.{counts_none}
 
 pub no_layers : (layers : List (List ℕ)) → is_cons layers ≡ false → layers ≡ []
 no_layers [] none = refl
@@ -23,7 +23,7 @@ none_queued trees workers listings faults now w l none = record {
   last = subst (λ layers. AreLast layers trees workers now [] now) (sym none) (refl, refl);
   appended = Appends-nil w;
   tags = tt;
-  told = told_none listings faults 0 l;
+  counts = counts_none listings faults 0 l;
 }
 
 -- one more round was run, as a layer was queued
@@ -34,7 +34,7 @@ some_queued trees workers listings faults now after w v l m some r = record {
   last = at_last (queued now.state.layers) some;
   appended = r.appended;
   tags = r.tags;
-  told = r.told;
+  counts = r.counts;
 }
   where
     at_last : (layers : List (List ℕ)) → is_cons layers ≡ true → AreLast layers trees workers now r.entries after

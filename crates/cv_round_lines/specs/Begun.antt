@@ -7,6 +7,7 @@ use Rattle.cv_seats.specs.declared.submission.Submission.{Submission}
 use Rattle.cv_legal.specs.declared.taken.Taken.{Taken}
 use Rattle.cv_round.specs.Round.{AreRoundSeats, IsSoundTaken}
 
+-- the line of this number
 abbrev pub line_at : ℕ → List ℕ → Line
 line_at number text = record { number = number; text = text }
 
@@ -16,7 +17,7 @@ IsSoundRound taken bytes = AllByRecursion IsSoundTaken taken × (taken ≡ [] �
 
 -- the seats of eight lanes and of one worker for each desk have receipts for the events of a list, and each desk can list more layers
 pub record IsPrepared {D : Type 0} (listings : D → ℕ) (parts : ℕ) (list : List Submission) (seats : List SeatView) (desks : List D) : Type 0 where
-  pub some : 1 ≤ length desks
+  pub has_desks : 1 ≤ length desks
   pub at_most_8 : length desks ≤ 8
   pub round_seats : AreRoundSeats parts (length desks) list seats
   pub room : AllByRecursion (λ desk. listings desk ≤ 2 ^ 62 + length list) desks

@@ -9,9 +9,9 @@ use Rattle.cv_machine.specs.Scans.{Trees}
 use Rattle.cv_legal.specs.Legal.{AreLast}
 use Rattle.cv_legal.specs.Replay.{Moment}
 use Rattle.cv_legal.specs.Rounds.{Cut}
-use Rattle.cv_legal.specs.code.Served.{Served}
+use Rattle.cv_legal.specs.Served.{Served}
 use Rattle.cv_legal.specs.declared.taken.Taken.{Taken}
-use Rattle.cv_round.specs.Round.{DesksTold}
+use Rattle.cv_round.specs.Round.{DesksCounted}
 use Rattle.cv_round_lines.specs.Printed.{HasTag}
 
 -- more entries came, whose lines were written, and the desks counted what they say
@@ -20,7 +20,7 @@ pub record Further {D : Type 0} (trees : Trees) (workers : ℕ) (listings faults
   pub served : Served trees workers cut last taken bytes (entries ++ more) now
   pub lines : Appends written written_now (flat_map entry_text more)
   pub tags : AllByRecursion HasTag more
-  pub told : DesksTold listings faults 0 desks desks_now more
+  pub counts : DesksCounted listings faults 0 desks desks_now more
 
 -- one more round was run exactly if a layer was queued, and its lines were written
 pub record LastRun {D : Type 0} (trees : Trees) (workers : ℕ) (listings faults : D → ℕ) (before after : Moment) (written written_now : Option (List ℕ)) (desks desks_now : List D) : Type 0 where
@@ -28,4 +28,4 @@ pub record LastRun {D : Type 0} (trees : Trees) (workers : ℕ) (listings faults
   pub last : AreLast (queued before.state.layers) trees workers before entries after
   pub appended : Appends written written_now (flat_map entry_text entries)
   pub tags : AllByRecursion HasTag entries
-  pub told : DesksTold listings faults 0 desks desks_now entries
+  pub counts : DesksCounted listings faults 0 desks desks_now entries

@@ -5,7 +5,7 @@ ghost use Rattle.cv_transcript.specs.declared.entry.Entry.{Entry};
 ghost use Rattle.cv_machine.specs.Scans.{IsKnown, trees_of};
 ghost use Rattle.cv_legal.specs.Rounds.{Cut, cut_line, round_limits};
 ghost use Rattle.cv_legal.specs.Taken.{IsTaken};
-ghost use Rattle.cv_legal.specs.code.Served.{Served};
+ghost use Rattle.cv_legal.specs.Served.{Served};
 ghost use Rattle.cv_round.specs.Round.{IsSoundTaken, moment_of};
 ghost use Rattle.cv_round_lines.specs.Begun.{IsPrepared, IsSoundRound, line_at};
 ghost use Rattle.cv_round_lines.specs.Further.{Further};

@@ -9,7 +9,7 @@ ghost use Rattle.cv_machine.specs.Scans.{IsKnown, trees_of};
 ghost use Rattle.cv_hub.specs.Events.{state_of};
 ghost use Rattle.cv_legal.specs.Rounds.{Cut, Round as Lines, end_round};
 ghost use Rattle.cv_legal.specs.Taken.{IsTaken};
-ghost use Rattle.cv_legal.specs.code.Served.{LinesRise, Served};
+ghost use Rattle.cv_legal.specs.Served.{LinesAscend, Served};
 ghost use Rattle.cv_round.specs.Round.{IsSoundTaken, moment_of};
 ghost use Rattle.cv_round_lines.specs.Begun.{IsPrepared, IsSoundRound};
 ghost use Rattle.cv_round_lines.specs.Further.{Further, LastRun};
@@ -116,7 +116,7 @@ pub fn write_round<
 ) -> Result<(), WriteError>
     requires sound { AllByRecursion IsSoundTaken round.old.taken.items }
     requires prepared { IsPrepared D.listings L.parts service.old.hub service.old.seats.items desks.old }
-    ensures ran { IsKnown D.tree → (workers : ℕ) → length desks.old ≡ workers → (lines : Lines) (last : ℕ) → AllZip IsTaken lines round.old.taken.items → LinesRise lines last
+    ensures ran { IsKnown D.tree → (workers : ℕ) → length desks.old ≡ workers → (lines : Lines) (last : ℕ) → AllZip IsTaken lines round.old.taken.items → LinesAscend lines last
         → OnOk result (RoundRun (trees_of D.tree) workers D.listings D.faults lines (moment_of (trees_of D.tree) L.limits service.old.hub) (moment_of (trees_of D.tree) L.limits service.new.hub)
         (K.contents output.old) (K.contents output.new) desks.old desks.new) }
     ensures begins { round.new.taken.items ≡ [] }
@@ -140,7 +140,7 @@ fn round_lines<D: Desk + Drop + Send + Sync, L: Identity + Send + Sync, W: Threa
 ) -> Result<Vec<String>, NoMemory>
     requires sound { AllByRecursion IsSoundTaken taken.items }
     requires prepared { IsPrepared D.listings L.parts service.old.hub service.old.seats.items desks.old }
-    ensures legal { IsKnown D.tree → (workers : ℕ) → length desks.old ≡ workers → (lines : Lines) (last : ℕ) → AllZip IsTaken lines taken.items → LinesRise lines last
+    ensures legal { IsKnown D.tree → (workers : ℕ) → length desks.old ≡ workers → (lines : Lines) (last : ℕ) → AllZip IsTaken lines taken.items → LinesAscend lines last
         → IfOk result (λ texts. LegalTexts (trees_of D.tree) workers D.listings D.faults lines (moment_of (trees_of D.tree) L.limits service.old.hub) desks.old (map (λ text. string_bytes text) texts.items) (moment_of (trees_of D.tree) L.limits service.new.hub) desks.new) }
     ensures prepared { OnOk result (IsPrepared D.listings L.parts service.new.hub service.new.seats.items desks.new) }
 {

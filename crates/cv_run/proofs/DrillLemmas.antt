@@ -10,7 +10,7 @@ use Rattle.cv_io.specs.Lines.{Finished}
 use Rattle.cv_legal.specs.Parts.{events_by}
 use Rattle.cv_legal.specs.Replay.{beginning}
 use Rattle.cv_machine.specs.Scans.{Trees}
-use Rattle.cv_serve.specs.Round.{DesksTold, RoseBy, fault_count}
+use Rattle.cv_serve.specs.Round.{DesksCounted, RoseBy, fault_count}
 use Rattle.cv_scan_input.specs.Request.{input_of}
 use Rattle.cv_seq.specs.Cause.{Rose}
 use Rattle.cv_serve.specs.Served.{FitsInput, IsServed}
@@ -37,15 +37,15 @@ no_rise times h = omega (arith, h)
 
 module _ {D : Type 0} (listings : D → ℕ) (entries : List Entry) where
   -- desks whose counts of faults are always 0 leave no `fault` line to their workers
-  told_none : (first : ℕ) (desks desks_now : List D) → DesksTold listings (λ desk. 0) first desks desks_now entries
+  counts_none : (first : ℕ) (desks desks_now : List D) → DesksCounted listings (λ desk. 0) first desks desks_now entries
       → (worker : ℕ) → first ≤ worker → worker < first + length desks → fault_count (events_by worker (events_of entries)) ≡ 0
-  told_none first [] desks_now told worker le lt = absurd (omega (arith, le, lt))
-  told_none first (desk ∷ desks) [] told worker le lt = absurd told
-  told_none first (desk ∷ desks) (now ∷ desks_now) told worker le lt =
-      go (eq-or-lt_of_le le) (λ later. told_none (first + 1) desks desks_now told.2 worker later (omega (arith, lt)))
+  counts_none first [] desks_now counts worker le lt = absurd (omega (arith, le, lt))
+  counts_none first (desk ∷ desks) [] counts worker le lt = absurd counts
+  counts_none first (desk ∷ desks) (now ∷ desks_now) counts worker le lt =
+      go (eq-or-lt_of_le le) (λ later. counts_none (first + 1) desks desks_now counts.2 worker later (omega (arith, lt)))
     where
       go : (first ≡ worker) ⊎ (first < worker) → (first + 1 ≤ worker → fault_count (events_by worker (events_of entries)) ≡ 0) → fault_count (events_by worker (events_of entries)) ≡ 0
-      go (inl same) more = ap (λ w. fault_count (events_by w (events_of entries))) (sym same) ∙ no_rise _ told.1
+      go (inl same) more = ap (λ w. fault_count (events_by w (events_of entries))) (sym same) ∙ no_rise _ counts.1
       go (inr later) more = more (omega (arith, later))
 
 -- what was served from an empty output, over desks that never fail
@@ -59,10 +59,10 @@ drilled listings seed input written output desks desks_now is empty four served 
       state = same.state;
       legal = same.legal;
       no_fault = no_faults 4 generated beginning _ same.legal.entries same.legal.after same.legal.legal
-          (λ worker lt. told_none listings same.legal.entries 0 (take 4 desks) (take 4 desks_now) same.told worker (omega arith) (omega (arith, lt, count)));
+          (λ worker lt. counts_none listings same.legal.entries 0 (take 4 desks) (take 4 desks_now) same.counts worker (omega arith) (omega (arith, lt, count)));
     })
 
--- the service ends only for want of memory, if it is not done
+-- the service ends only if memory ran out, if it is not done
 pub only_memory : (ended : ServeEnd) (bytes : List ℕ) → ended ≢ end.Done → length bytes ≤ 2 ^ 26 → (ended ≡ end.ReadFault → Rose 0 0) → (ended ≡ end.WriteFault → Rose 0 0)
     → FitsInput (Some bytes) ended → status_of ended ≡ status.NoMemory
 only_memory end.Done bytes other short read write fits = absurd (other refl)

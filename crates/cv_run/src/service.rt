@@ -48,7 +48,7 @@ fn serve_by<S: Source, K: Sink, D: Desk + Drop + Send + Sync, W: Threads + Wait 
     output: &mut K,
     desks: &mut Vec<D>,
 ) -> Status
-    requires some { 1 ≤ workers }
+    requires at_least_one_worker { 1 ≤ workers }
     requires at_most_one_for_each_desk { workers ≤ length desks.old.items }
     requires at_most_8_desks { length desks.old.items ≤ 8 }
     requires room { All (λ desk. D.listings desk < 2 ^ 62) desks.old.items }
@@ -67,7 +67,7 @@ fn worker_count(workers: Option<u32>, desks: usize) -> Option<u32>
     requires has_desks { 1 ≤ desks }
     requires at_most_8_desks { desks ≤ 8 }
     ensures value { result ≡ worker_count workers desks }
-    ensures some { IfSome result (λ count. 1 ≤ count) }
+    ensures at_least_one { IfSome result (λ count. 1 ≤ count) }
     ensures within { IfSome result (λ count. count ≤ desks) }
 {
     let desks = desks as u32;

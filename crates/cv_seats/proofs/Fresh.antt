@@ -8,6 +8,6 @@ fresh_from index (first ∷ seats) seat fresh is =
     let e : index + length {A = SeatView} (first ∷ seats) ≡ (index + 1) + length seats = omega arith in
     (fresh.0, fresh_from (index + 1) seats seat fresh.1 (is ∙ ap (λ (n : ℕ). seat_of n [] 0) e))
 
--- one more behind the others
+-- one more after the others
 pub fresh_more : (seats : List SeatView) (seat : SeatView) → AreFresh 0 seats → seat ≡ seat_of (length seats) [] 0 → AreFresh 0 (seats ++ seat ∷ [])
 fresh_more seats seat fresh is = let e : length seats ≡ 0 + length seats = omega arith in fresh_from 0 seats seat fresh (is ∙ ap (λ (n : ℕ). seat_of n [] 0) e)

@@ -14,7 +14,7 @@ pub made_few : (index : ℕ) (list : List Submission) → made_by index list ≤
 made_few index [] = omega arith
 made_few index (event ∷ list) = omega (arith, one_by (event.seat == index), made_few index list)
 
--- those of two lists, one behind the other
+-- those of two lists, one after the other
 pub made_both : (index : ℕ) (xs ys : List Submission) → made_by index (xs ++ ys) ≡ made_by index xs + made_by index ys
 made_both index [] ys = omega arith
 made_both index (event ∷ xs) ys = let e = made_both index xs ys in omega (arith, e)
@@ -26,6 +26,6 @@ made_begins index xs ys begins = omega (arith, made_both index xs begins.0, sym 
 by_one : (index : ℕ) (event : Submission) → event.seat ≡ index → made_by index (event ∷ []) ≡ 1
 by_one index event is = let same : (event.seat == index) ≡ true = grind (arith, nat_tests) in omega (arith, ap one_if same)
 
--- one more behind a list of which a seat has seen a beginning
+-- one more after a list of which a seat has seen a beginning
 pub made_more : (index : ℕ) (xs ys : List Submission) (event : Submission) → IsPrefix xs ys → event.seat ≡ index → made_by index xs + 1 ≤ made_by index (ys ++ event ∷ [])
 made_more index xs ys event begins is = omega (arith, made_begins index xs ys begins, made_both index ys (event ∷ []), by_one index event is)

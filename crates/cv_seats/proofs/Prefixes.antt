@@ -11,7 +11,7 @@ prefix_same xs = ([], append-nil xs)
 pub prefix_chain : {A : Type 0} (xs ys zs : List A) → IsPrefix xs ys → IsPrefix ys zs → IsPrefix xs zs
 prefix_chain xs ys zs first second = (first.0 ++ second.0, sym (append_assoc xs first.0 second.0) ∙ (ap (λ front. front ++ second.0) first.1 ∙ second.1))
 
--- a list with more behind it
+-- a list with more after it
 pub prefix_more : {A : Type 0} (xs more : List A) → IsPrefix xs (xs ++ more)
 prefix_more xs more = (more, refl)
 

@@ -9,7 +9,7 @@ use Rattle.cv_machine.specs.Step.{step}
 use Rattle.cv_machine.specs.declared.act.WholeAct.{WholeAct}
 use Rattle.cv_machine.specs.declared.limits.Limits.{Limits}
 use Rattle.cv_seats.specs.Events.{DeskTrees, state_of}
-use Rattle.cv_seats.specs.declared.submission.Submission.{Submission}
+pub use Rattle.cv_seats.specs.declared.submission.Submission.{Submission}
 
 -- the number of a seat, from 0; what it has seen of the list; how many receipts it got
 pub record SeatView : Type 0 where
@@ -17,6 +17,7 @@ pub record SeatView : Type 0 where
   pub list : List Submission
   pub count : ℕ
 
+-- the seat with these parts
 abbrev pub seat_of : ℕ → List Submission → ℕ → SeatView
 seat_of index list count = record { index = index; list = list; count = count }
 
@@ -34,7 +35,7 @@ made_by index (event ∷ events) = one_if (event.seat == index) + made_by index 
 -- its seat has then seen. The seat had seen a beginning of that list. No number is above 2^63.
 pub record IsApplied (tree : DeskTrees) (limits : Limits) (list : List Submission) (before : SeatView) (by : By) (act : WholeAct) (number : ℕ) (reply : Reply) (note : List Submission) (after : SeatView) : Type 0 where
   pub number_is : number ≡ length list + 1
-  pub few : number ≤ 2 ^ 63
+  pub at_most_2_63 : number ≤ 2 ^ 63
   pub reply_is : IsKnown tree → reply ≡ (step (trees_of tree) (state_of (trees_of tree) limits list) act).1
   pub note_is : note ≡ list ++ record { seat = before.index; by = by; act = act; reply = reply } ∷ []
   pub seat_is : after ≡ seat_of before.index note (before.count + 1)

@@ -38,7 +38,7 @@ pub fn counted<D: Desk, L: Identity>(
 
 /// A share without parts, of the ledger of the seats.
 pub fn empty_share<D: Desk, L: Identity>(seats: &mut [Seat<D, L>]) -> Share<L>
-    requires some { 0 < length seats.old }
+    requires has_seats { 0 < length seats.old }
     ensures parts { result.parts ≡ 0 }
     ensures amount { result.amount ≡ 0 }
     ensures seats { seats.new ≡ seats.old }

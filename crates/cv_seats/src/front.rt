@@ -59,7 +59,7 @@ impl<D: Desk, L: Identity> Front<D, L> {
     /// How many events it has.
     pub fn len(&self) -> u64
         ensures length { result ≡ length self.now }
-        ensures few { length self.now ≤ 2 ^ 63 }
+        ensures at_most_2_63_events { length self.now ≤ 2 ^ 63 }
         ensures seats { AllByRecursion (λ event. event.seat < L.parts) self.now }
         ensures replayed { IsReplayed D.tree L.limits self.now }
     {
@@ -77,7 +77,7 @@ impl<D: Desk, L: Identity> Front<D, L> {
         }
     }
 
-    /// Whether the other one has at least as many events, and so begins with all of these. If not, these begin with the other's.
+    /// Whether the other one begins with all of these events. If not, these begin with the other's.
     pub fn begins(&self, other: &Front<D, L>) -> bool
         ensures { MatchBool result (IsPrefix self.now other.now) (IsPrefix other.now self.now) }
     {
@@ -86,7 +86,7 @@ impl<D: Desk, L: Identity> Front<D, L> {
         self.number <= other.number
     }
 
-    /// The longer of two, which begins with the other.
+    /// One of two, which begins with the other.
     pub fn longer(&self, other: &Front<D, L>) -> Front<D, L>
         ensures this { IsPrefix self.now result }
         ensures that { IsPrefix other.now result }
@@ -98,7 +98,7 @@ impl<D: Desk, L: Identity> Front<D, L> {
         }
     }
 
-    /// With one more event, unless the list has others after these.
+    /// With one more event. `None` says that the list may have others after these.
     pub fn add(&self, head: &Head<L>, deed: &Deed<D>) -> Option<Front<D, L>>
         requires room { length self.now < 2 ^ 63 }
         requires seat { deed.now.seat < L.parts }

@@ -90,7 +90,7 @@ impl<D: Desk, L: Identity> Seat<D, L> {
         self.front = front.again();
     }
 
-    /// Takes in that its next event stands in the list.
+    /// Records a receipt: the list has one more event of this seat.
     pub fn receive(&mut self, book: &mut Book<L>, front: &Front<D, L>)
         requires { made_by self.old.index self.old.list + 1 ≤ made_by self.old.index front.now }
         ensures seat { self.new ≡ seat_of self.old.index front.now (self.old.count + 1) }

@@ -9,7 +9,7 @@ use cv_seq::NoMemory;
 use std::alloc::Global;
 use std::sync::ledger::Share;
 
-/// Whether each seat has seen no more than a beginning of the list.
+/// If true, each seat has seen no more than a beginning of the list.
 pub fn have_seen<D: Desk, L: Identity>(front: &Front<D, L>, seats: &[Seat<D, L>]) -> bool
     ensures { result ≡ true → HaveSeen front.now seats.now }
 {

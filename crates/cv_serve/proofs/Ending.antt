@@ -15,13 +15,13 @@ use Rattle.cv_legal.specs.Rounds.{Cut, counted, cut_lines, end_round, round_limi
 use Rattle.cv_legal.specs.Taken.{IsTaken}
 use Rattle.cv_legal.specs.declared.taken.Taken.{Taken}
 use Rattle.cv_legal.proofs.Serving.{counted_none, counted_some}
-use Rattle.cv_round_lines.specs.Round.{DesksTold}
+use Rattle.cv_round_lines.specs.Round.{DesksCounted}
 use Rattle.cv_serve.specs.Served.{IsServed}
 use Rattle.cv_round_lines.specs.Further.{Further, LastRun}
 use Rattle.cv_serve.specs.code.Reading.{Done}
 use Rattle.cv_round_lines.proofs.Further.{lines_both, same_cons, tags_both}
 use Rattle.cv_serve.proofs.Quiet.{Laws, complete_of}
-use Rattle.cv_round_lines.proofs.Told.{told_both}
+use Rattle.cv_round_lines.proofs.Counts.{counts_both}
 
 nothing : (lines : List Line) → is_cons lines ≡ false → lines ≡ []
 nothing [] e = refl
@@ -54,7 +54,7 @@ all_served laws trees workers listings faults input texts last bytes size taken 
       input = subst (λ lines. AreLegalRounds trees workers beginning (counted true (cut_lines round_limits (numbered 1 lines))) first between) (sym e) rounds;
       further = g.last;
     } in
-    let told : DesksTold listings faults 0 l n entries = told_both listings faults 0 l i n first g.entries (told_both listings faults 0 l k i d.more f.more d.told f.told) g.told in
+    let counts : DesksCounted listings faults 0 l n entries = counts_both listings faults 0 l i n first g.entries (counts_both listings faults 0 l k i d.more f.more d.counts f.counts) g.counts in
     record {
       output = flat_map entry_text entries;
       appended = lines_both w u v first g.entries (lines_both w m u d.more f.more d.lines f.lines) g.appended;
@@ -66,6 +66,6 @@ all_served laws trees workers listings faults input texts last bytes size taken 
         legal = legal;
         reached = refl;
       };
-      told = told;
-      complete = complete_of laws trees workers listings faults l n (rounds_of round_limits input true) entries after legal told many;
+      counts = counts;
+      complete = complete_of laws trees workers listings faults l n (rounds_of round_limits input true) entries after legal counts many;
     }

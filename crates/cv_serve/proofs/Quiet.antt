@@ -33,25 +33,25 @@ use Rattle.cv_legal.specs.declared.taken.Requested.{Requested}
 use Rattle.cv_legal.specs.declared.taken.Taken.{Taken}
 use Rattle.cv_complete.specs.Complete.{AreAllIndexed, AreDivided, ArePendingRecent, HasNoFault, gives_back}
 use Rattle.cv_complete.specs.Complete as complete
-use Rattle.cv_round_lines.specs.Round.{DesksTold, RoseBy, fault_count, is_fault}
+use Rattle.cv_round_lines.specs.Round.{DesksCounted, RoseBy, fault_count, is_fault}
 use Rattle.cv_serve.specs.Quiet.{AreQuiet, HasNoMemoryLine, IsComplete, is_memory, is_memory_line}
-use Rattle.cv_round_lines.proofs.Told.{faults_both}
+use Rattle.cv_round_lines.proofs.Counts.{faults_both}
 
 -- ---- a desk that did not fail
 
 none_rose : (times before now : ℕ) → RoseBy times before now → now ≡ before → before < 2 ^ 64 - 1 → times ≡ 0
 none_rose times before now rose same low = omega (arith, rose, same, low)
 
-told_quiet : {D : Type 0} (listings faults : D → ℕ) (first : ℕ) (ds es : List D) (entries : List Entry) → DesksTold listings faults first ds es entries → AreQuiet faults ds es
+counts_quiet : {D : Type 0} (listings faults : D → ℕ) (first : ℕ) (ds es : List D) (entries : List Entry) → DesksCounted listings faults first ds es entries → AreQuiet faults ds es
     → (n : ℕ) → n < length ds → fault_count (events_by (first + n) (events_of entries)) ≡ 0
-told_quiet listings faults first [] es entries told quiet n high = absurd (omega (arith, high))
-told_quiet listings faults first (d ∷ ds) [] entries told quiet n high = absurd told
-told_quiet listings faults first (d ∷ ds) (e ∷ es) entries told quiet zero high =
+counts_quiet listings faults first [] es entries counts quiet n high = absurd (omega (arith, high))
+counts_quiet listings faults first (d ∷ ds) [] entries counts quiet n high = absurd counts
+counts_quiet listings faults first (d ∷ ds) (e ∷ es) entries counts quiet zero high =
     let here : first ≡ first + 0 = omega arith in
-    subst (λ w. fault_count (events_by w (events_of entries)) ≡ 0) here (none_rose _ (faults d) (faults e) told.1 quiet.0 quiet.1)
-told_quiet listings faults first (d ∷ ds) (e ∷ es) entries told quiet (suc n) high =
+    subst (λ w. fault_count (events_by w (events_of entries)) ≡ 0) here (none_rose _ (faults d) (faults e) counts.1 quiet.0 quiet.1)
+counts_quiet listings faults first (d ∷ ds) (e ∷ es) entries counts quiet (suc n) high =
     let next : (first + 1) + n ≡ first + suc n = omega arith in
-    subst (λ w. fault_count (events_by w (events_of entries)) ≡ 0) next (told_quiet listings faults (first + 1) ds es entries told.2 quiet.2 n (omega (arith, high)))
+    subst (λ w. fault_count (events_by w (events_of entries)) ≡ 0) next (counts_quiet listings faults (first + 1) ds es entries counts.2 quiet.2 n (omega (arith, high)))
 
 -- ---- a worker without a desk
 
@@ -239,12 +239,12 @@ legal_quiet trees workers before rounds entries after h free none =
 -- ---- the whole service
 
 all_free : {D : Type 0} (trees : Trees) (workers : ℕ) (listings faults : D → ℕ) (ds es : List D) (rounds : List Round) (entries : List Entry) (after : Moment)
-    → AreLegal trees workers beginning rounds entries after → DesksTold listings faults 0 ds es entries → length ds ≡ workers → AreQuiet faults ds es → AreFree entries
-all_free trees workers listings faults ds es rounds entries after h told many quiet worker = by_number (cases_lt worker workers) where
+    → AreLegal trees workers beginning rounds entries after → DesksCounted listings faults 0 ds es entries → length ds ≡ workers → AreQuiet faults ds es → AreFree entries
+all_free trees workers listings faults ds es rounds entries after h counts many quiet worker = by_number (cases_lt worker workers) where
   by_number : (worker < workers) ⊎ (workers ≤ worker) → fault_count (events_by worker (events_of entries)) ≡ 0
   by_number (inl low) =
       let same : 0 + worker ≡ worker = omega arith in
-      subst (λ w. fault_count (events_by w (events_of entries)) ≡ 0) same (told_quiet listings faults 0 ds es entries told quiet worker (omega (arith, low, many)))
+      subst (λ w. fault_count (events_by w (events_of entries)) ≡ 0) same (counts_quiet listings faults 0 ds es entries counts quiet worker (omega (arith, low, many)))
   by_number (inr high) = idle trees workers worker beginning rounds entries after h high
 
 -- what holds of legal rounds without a `fault` and a `memory`
@@ -257,10 +257,10 @@ pub record Laws : Type 0 where
       → HasNoFault entries → ArePendingRecent [] division.parts
 
 pub complete_of : {D : Type 0} (laws : Laws) (trees : Trees) (workers : ℕ) (listings faults : D → ℕ) (ds es : List D) (rounds : List Round) (entries : List Entry) (after : Moment)
-    → AreLegal trees workers beginning rounds entries after → DesksTold listings faults 0 ds es entries → length ds ≡ workers → AreQuiet faults ds es → HasNoMemoryLine entries
+    → AreLegal trees workers beginning rounds entries after → DesksCounted listings faults 0 ds es entries → length ds ≡ workers → AreQuiet faults ds es → HasNoMemoryLine entries
     → IsComplete trees workers rounds entries after
-complete_of laws trees workers listings faults ds es rounds entries after h told many quiet none =
-    let kept : HasNoFault entries = legal_quiet trees workers beginning rounds entries after h (all_free trees workers listings faults ds es rounds entries after h told many quiet) none in
+complete_of laws trees workers listings faults ds es rounds entries after h counts many quiet none =
+    let kept : HasNoFault entries = legal_quiet trees workers beginning rounds entries after h (all_free trees workers listings faults ds es rounds entries after h counts many quiet) none in
     record {
       indexed = laws.indexed trees workers rounds entries after h kept;
       divided = laws.divided trees workers beginning rounds entries after h;

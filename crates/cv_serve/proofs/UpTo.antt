@@ -14,7 +14,7 @@ use Rattle.cv_io.specs.declared.line.LineError.TheVariants as line
 use Rattle.cv_io.proofs.Lines.{reading_of-last, reading_of-line, reading_of-long_input, reading_of-long_line, reading_of-nil}
 use Rattle.cv_io.proofs.Takes.{Consumes-more}
 use Rattle.cv_scan_input.specs.Unrefused.{IsPiece, ended_lines}
-use Rattle.cv_serve.specs.Ends.{end_of}
+use Rattle.cv_serve.specs.code.Ends.{end_of}
 use Rattle.cv_serve.specs.Served.{IsTakenUpTo, TakesUpTo}
 use Rattle.cv_serve.specs.code.Reading.{AreTaken, IsTakenLines}
 use Rattle.cv_serve.specs.declared.end.Stop.{Stop as Stopped}

@@ -1,5 +1,4 @@
 pub use Rattle.cv_round_lines.specs.Round
-pub mod Ends
 pub mod Quiet
 pub mod Served
 pub mod code

@@ -7,7 +7,7 @@ use Rattle.cv_machine.specs.Scans.{Trees}
 use Rattle.cv_machine.specs.State.{State}
 use Rattle.cv_legal.specs.Legal.{IsLegal}
 use Rattle.cv_legal.specs.Rounds.{round_limits, rounds_of}
-use Rattle.cv_round_lines.specs.Round.{DesksTold}
+use Rattle.cv_round_lines.specs.Round.{DesksCounted}
 use Rattle.cv_scan_input.specs.Request.{input_of}
 use Rattle.cv_serve.specs.Quiet.{AreQuiet, HasNoMemoryLine, IsComplete}
 use Rattle.cv_serve.specs.declared.end.ServeEnd.{ServeEnd}
@@ -20,7 +20,7 @@ pub record IsServed {D : Type 0} (trees : Trees) (workers : ℕ) (listings fault
   pub appended : Appends written written_now output
   pub state : State
   pub legal : IsLegal trees input output workers state
-  pub told : DesksTold listings faults 0 desks desks_now legal.entries
+  pub counts : DesksCounted listings faults 0 desks desks_now legal.entries
   pub complete : AreQuiet faults desks desks_now → HasNoMemoryLine legal.entries → IsComplete trees workers (rounds_of round_limits input true) legal.entries legal.after
 
 -- what an end says of how the lines of the input stop

@@ -1,2 +1,3 @@
 -- Definitions that only restate private functions.
+pub mod Ends
 pub mod Reading

@@ -1,5 +1,5 @@
 ghost use Rattle.std.specs.Prelude.{◌≡◌};
-ghost use Rattle.cv_serve.specs.Ends.{end_of, input_end};
+ghost use Rattle.cv_serve.specs.code.Ends.{end_of, input_end};
 
 use cv_io::{LineError, WriteError};
 use cv_seq::NoMemory;

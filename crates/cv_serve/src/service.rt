@@ -10,7 +10,7 @@ ghost use Rattle.cv_scan_input.specs.Taken.{IsTaken, IsTakenWithin};
 ghost use Rattle.cv_scan_input.specs.code.TakenParts.{IsTakenFrom, IsTakenTo};
 ghost use Rattle.cv_round_lines.specs.Core.{opened};
 ghost use Rattle.cv_round_lines.specs.Round.{moment_of};
-ghost use Rattle.cv_serve.specs.Ends.{end_of, is_read_stop, is_write_stop};
+ghost use Rattle.cv_serve.specs.code.Ends.{end_of, is_read_stop, is_write_stop};
 ghost use Rattle.cv_serve.specs.Served.{FitsInput, IsServed, TakesUpTo};
 ghost use Rattle.cv_round_lines.specs.Begun.{IsPrepared, IsSoundRound};
 ghost use Rattle.cv_serve.specs.code.Reading.{Done, HasReadAll, StopsLines};
@@ -41,7 +41,7 @@ pub fn serve<S: Source, K: Sink, D: Desk + Drop + Send + Sync, W: Threads + Wait
     desks: &mut Vec<D>,
     workers: u32,
 ) -> ServeEnd
-    requires some { 1 ≤ workers }
+    requires at_least_one_worker { 1 ≤ workers }
     requires at_most_one_for_each_desk { workers ≤ length desks.old.items }
     requires at_most_8_desks { length desks.old.items ≤ 8 }
     requires room { All (λ desk. D.listings desk < 2 ^ 62) desks.old.items }

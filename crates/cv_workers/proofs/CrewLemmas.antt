@@ -2,21 +2,21 @@
 use Rattle.std.proofs.Common.{◌≡◌, ℕ, ◌+◌, List, [], ◌∷◌, drop, length, arith}
 use Rattle.std.proofs.lemmas.List.{length-drop}
 use Rattle.cv_pool.specs.Hands.{AreSameHands, HandState}
-use Rattle.cv_crew.specs.code.Team.{AreReadyFrom, EachDidFrom}
+use Rattle.cv_crew.specs.code.Team.{ArePreparedFrom, EachDidFrom}
 use Rattle.cv_lanes.specs.Seats.{SeatView}
-use Rattle.cv_workers.specs.code.Worker.{AreDone, AreHandsReady, HandDid, HasRoom, HaveRoom, IsHandReady, WorkersDid}
+use Rattle.cv_workers.specs.code.Worker.{AreDone, AreHandsPrepared, HandDid, HasRoom, HaveRoom, IsHandPrepared, WorkersDid}
 
 -- the seats past the first ones
 pub seats_past : {S : Type 0} (n m : ℕ) (seats : List S) → length seats ≡ n + m → length (drop n seats) ≡ m
 seats_past n m seats all = let past = length-drop n seats in omega (arith, past, all)
 
 module _ {D : Type 0} (listings faults : D → ℕ) (queue : List (List ℕ)) where
-  pub workers_ready : (worker : ℕ) (hands : List HandState) (seats : List SeatView) (desks : List D) → AreHandsReady (length queue) hands → HaveRoom listings seats desks
-      → AreReadyFrom (λ _ hand seat desk. IsHandReady (length queue) hand × HasRoom listings seat desk) worker hands seats desks
-  workers_ready worker [] seats desks hand room = tt
-  workers_ready worker (h ∷ hands) [] desks hand room = tt
-  workers_ready worker (h ∷ hands) (s ∷ seats) [] hand room = tt
-  workers_ready worker (h ∷ hands) (s ∷ seats) (d ∷ desks) hand room = ((hand.0, room.0), workers_ready (worker + 1) hands seats desks hand.1 room.1)
+  pub workers_prepared : (worker : ℕ) (hands : List HandState) (seats : List SeatView) (desks : List D) → AreHandsPrepared (length queue) hands → HaveRoom listings seats desks
+      → ArePreparedFrom (λ _ hand seat desk. IsHandPrepared (length queue) hand × HasRoom listings seat desk) worker hands seats desks
+  workers_prepared worker [] seats desks hand room = tt
+  workers_prepared worker (h ∷ hands) [] desks hand room = tt
+  workers_prepared worker (h ∷ hands) (s ∷ seats) [] hand room = tt
+  workers_prepared worker (h ∷ hands) (s ∷ seats) (d ∷ desks) hand room = ((hand.0, room.0), workers_prepared (worker + 1) hands seats desks hand.1 room.1)
 
   -- what all workers did
   abbrev pub CrewDid : ℕ → List HandState → List HandState → List SeatView → List SeatView → List D → List D → Type 0

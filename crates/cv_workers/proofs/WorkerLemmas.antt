@@ -22,7 +22,7 @@ use Rattle.cv_lanes.specs.code.Own.{Submission, entry_of}
 use Rattle.cv_lanes.proofs.Prefixes.{prefix_length}
 use Rattle.cv_lanes.proofs.OwnLemmas.{made_longer, made_none, made_then}
 use Rattle.cv_workers.specs.Counts.{RoseBy, fault_count, grant_count, is_fault}
-use Rattle.cv_workers.specs.code.Worker.{Claimed, EndsWork, IsByWorker, IsHandReady, Settled, WorkerDid, claim_at, fault_of, layers_of}
+use Rattle.cv_workers.specs.code.Worker.{Claimed, EndsWork, IsByWorker, IsHandPrepared, Settled, WorkerDid, claim_at, fault_of, layers_of}
 
 -- ---- lists
 
@@ -188,7 +188,7 @@ pub applied_length : (tree : DeskTrees) (limits : Limits) (list : List Submissio
     → IsApplied tree limits list before source act number reply note after → (length before.list < length after.list) × (length after.list ≤ 2 ^ 63)
 applied_length tree limits list before after source act number reply note h =
     let size : length after.list ≡ length list + 1 = ap (λ s. length s.list) h.seat_is ∙ (ap length h.note_is ∙ length-append list (record { seat = before.index; by = source; act = act; reply = reply } ∷ [])) in
-    (omega (arith, size, prefix_length before.list list h.seen), omega (arith, size, h.number_is, h.few))
+    (omega (arith, size, prefix_length before.list list h.seen), omega (arith, size, h.number_is, h.at_most_2_63))
 
 -- a listing follows a claim
 pub settled_room : (worker : ℕ) (layer : List ℕ) (granted : Bool) (act : WholeAct) (a b c : SeatView) (l m : ℕ)
@@ -203,10 +203,10 @@ pub layers_more : (queue : List (List ℕ)) (jobs : List ℕ) (job : ℕ) → la
 layers_more queue jobs job = map-append (λ j. get_or queue j []) jobs (job ∷ [])
 
 -- the layer of a job that a hand took
-pub job_layer : (queue : List (List ℕ)) (first hand : HandState) (job : ℕ) (layer : List ℕ) → IsHandReady (length queue) first → IsSameHand first hand → job < hand.fill.jobs
+pub job_layer : (queue : List (List ℕ)) (first hand : HandState) (job : ℕ) (layer : List ℕ) → IsHandPrepared (length queue) first → IsSameHand first hand → job < hand.fill.jobs
     → layer ≡ get_or queue job layer → layer ≡ get_or queue job []
-job_layer queue first hand job layer ready same below at =
-    let jobs : hand.fill.jobs ≡ length queue = ap (λ (fill : Fill). fill.jobs) same.0 ∙ ready.0 in
+job_layer queue first hand job layer prepared same below at =
+    let jobs : hand.fill.jobs ≡ length queue = ap (λ (fill : Fill). fill.jobs) same.0 ∙ prepared.0 in
     at ∙ get_or_default queue job layer [] (subst (λ n. job < n) jobs below)
 
 -- one more job was taken and worked at

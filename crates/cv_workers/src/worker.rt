@@ -2,7 +2,7 @@ ghost use Rattle.std.specs.Prelude.{◌≡◌, ℕ, List, length, IfOk, OnOk};
 ghost use Rattle.cv_records.specs.declared.event.Act.TheVariants as name;
 ghost use Rattle.cv_legal.specs.Parts.{is_grant};
 ghost use Rattle.cv_lanes.specs.Core.{IsSound, act_of};
-ghost use Rattle.cv_workers.specs.code.Worker.{Claimed, HandDid, HasRoom, IsHandReady, Settled};
+ghost use Rattle.cv_workers.specs.code.Worker.{Claimed, HandDid, HasRoom, IsHandPrepared, Settled};
 
 use crate::index::index;
 use cv_base::Digest;
@@ -26,7 +26,7 @@ pub fn run_worker<D: Desk + Drop, L: Identity, W: Wait>(
     seat: &mut Seat<D, L>,
     desk: &mut D,
 ) -> Result<(), NoMemory>
-    requires hand { IsHandReady (length queue.now) hand.old }
+    requires hand { IsHandPrepared (length queue.now) hand.old }
     requires desk { HasRoom D.listings seat.old desk.old }
     ensures did { OnOk result (HandDid D.listings D.faults queue.now worker hand.old hand.new seat.old seat.new desk.old desk.new) }
 {

@@ -1,5 +1,5 @@
 ghost use Rattle.std.specs.Prelude.{length};
-ghost use Rattle.cv_workers.specs.code.Worker.{HandDid, HasRoom, IsHandReady};
+ghost use Rattle.cv_workers.specs.code.Worker.{HandDid, HasRoom, IsHandPrepared};
 
 use crate::worker::run_worker;
 use cv_base::Digest;
@@ -22,7 +22,7 @@ pub struct WorkerCrew<'a, D: Desk + Drop, L: Identity, W: Wait> {
 
 impl<'a, D: Desk + Drop, L: Identity, W: Wait> Crew<Hand, Seat<D, L>, D>
     for WorkerCrew<'a, D, L, W> {
-    ghost ready = { λ crew _ hand seat desk. IsHandReady (length crew.queue.now) hand × HasRoom D.listings seat desk };
+    ghost prepared = { λ crew _ hand seat desk. IsHandPrepared (length crew.queue.now) hand × HasRoom D.listings seat desk };
 
     ghost did = { λ crew worker hand hand_after seat seat_after desk desk_after. HandDid D.listings D.faults crew.queue.now worker hand hand_after seat seat_after desk desk_after };
 

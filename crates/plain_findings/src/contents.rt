@@ -1,4 +1,4 @@
-/// A version of an installed package, with a number that rises as the versions of the package do.
+/// A version of an installed package, with a number that grows as the versions of the package do.
 #[derive(Clone, Copy)]
 pub struct Version {
     pub package: &'static str,

@@ -51,7 +51,7 @@ impl Lines {
         }
     }
 
-    /// A word, and a number behind it.
+    /// A word, and a number after it.
     pub fn number(&mut self, word: &str, number: u64) {
         match format!(in self.alloc; "{word}{number}") {
             Ok(text) => self.word(text.as_str()),
@@ -59,7 +59,7 @@ impl Lines {
         }
     }
 
-    /// A word, and a letter behind it.
+    /// A word, and a letter after it.
     pub fn letter(&mut self, word: &str, letter: u8) {
         self.word(word);
         if self.text.push(char::from(letter)).is_err() {

@@ -11,7 +11,7 @@ pub const BASE: u32 = 8;
 /// How many such numbers there are.
 pub const CODES: u64 = 8 * 8 * 8 * 8 * 8;
 
-/// A version that has a fix, with a number that rises as the versions of its package do.
+/// A version that has a fix, with a number that grows as the versions of its package do.
 #[derive(Clone, Copy)]
 pub struct Fix {
     pub text: &'static str,

@@ -6,7 +6,7 @@
 //! let mut machine = Machine::new(alloc, limits)?;
 //! let mut draws = Draws::new(seed);
 //! let step = draws.step(&machine);
-//! machine.tell(alloc, step, &mut lines)?;
+//! machine.report_step(alloc, step, &mut lines)?;
 //! ```
 #![tactic(auto)]
 

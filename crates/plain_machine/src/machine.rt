@@ -81,8 +81,8 @@ impl Machine {
         Ok(())
     }
 
-    /// Does an event, and writes the reply and what is left.
-    pub fn tell(
+    /// Does an event, and writes the reply and the state after it.
+    pub fn report_step(
         &mut self,
         alloc: Global,
         step: Step<'static>,
@@ -258,7 +258,7 @@ impl Machine {
         count
     }
 
-    /// What is left after an event.
+    /// The state after an event.
     fn show(&self, alloc: Global, out: &mut Lines) {
         out.number(" | events ", self.count);
         self.show_queued(out);

@@ -3,7 +3,7 @@
 //!
 //! ```text
 //! restart(alloc, &mut core, limits)?;
-//! let word = tell(alloc, &mut core, Step::DropImage(b'A'), &mut lines);
+//! let word = report_step(alloc, &mut core, Step::DropImage(b'A'), &mut lines);
 //! ```
 #![tactic(auto)]
 
@@ -12,6 +12,6 @@ mod replies;
 mod show;
 mod step;
 
-pub use replies::tell;
+pub use replies::report_step;
 pub use show::{show_heads, show_page, show_queued, show_report};
 pub use step::{Service, restart};

@@ -39,7 +39,7 @@ fn apply_counted<L: Ledger>(
 ) -> Result<Option<Reply>, NoMemory>
     requires name { blank.name ≡ L.name }
     requires parts { blank.parts ≡ L.parts }
-    requires some { 0 < L.parts }
+    requires has_parts { 0 < L.parts }
 {
     if core.count() >= MOST_EVENTS || !is_sound(&event) {
         return Ok(None);

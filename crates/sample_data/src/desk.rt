@@ -149,7 +149,7 @@ impl SampleDesk {
     }
 }
 
-/// Adds an entry as a listing gives it. A text that is no path makes no entry.
+/// Adds an entry as a listing gives it. A text that is not a valid path makes no entry.
 fn add_listed(
     alloc: Global,
     listing: &mut Vec<ListEntry>,

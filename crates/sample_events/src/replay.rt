@@ -31,7 +31,7 @@ pub fn replayed<S: Ledger>(
 ) -> Result<Option<String>, NoMemory>
     requires name { blank.name ≡ S.name }
     requires parts { blank.parts ≡ S.parts }
-    requires some { 0 < S.parts }
+    requires has_parts { 0 < S.parts }
 {
     let mut steps = Steps::<S>::open(blank);
     let mut core = new_core(alloc)?;

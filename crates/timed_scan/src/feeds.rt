@@ -51,7 +51,7 @@ fn count_findings<L: Ledger>(
 ) -> Result<u64, NoMemory>
     requires name { blank.name ≡ L.name }
     requires parts { blank.parts ≡ L.parts }
-    requires some { 0 < L.parts }
+    requires has_parts { 0 < L.parts }
 {
     let mut steps = Steps::<L>::open(blank);
     let mut found = 0;

@@ -41,7 +41,7 @@ fn count_hits<L: Ledger>(
 ) -> u64
     requires name { blank.name ≡ L.name }
     requires parts { blank.parts ≡ L.parts }
-    requires some { 0 < L.parts }
+    requires has_parts { 0 < L.parts }
     requires kind { prepared.now.kind ≡ installed.now.kind }
     ensures { result ≤ pairs }
 {

@@ -2,9 +2,9 @@
 use Rattle.std.specs.Prelude.{⊤, ℕ, ◌+◌, List, ◌∷◌}
 
 -- each place can be worked at
-abbrev pub AreReady : {S P : Type 0} → (S → P → Type 0) → List S → List P → Type 0
-AreReady ready (seat ∷ seats) (part ∷ parts) = ready seat part × AreReady ready seats parts
-AreReady ready _ _ = ⊤
+abbrev pub ArePrepared : {S P : Type 0} → (S → P → Type 0) → List S → List P → Type 0
+ArePrepared prepared (seat ∷ seats) (part ∷ parts) = prepared seat part × ArePrepared prepared seats parts
+ArePrepared prepared _ _ = ⊤
 
 -- each place was worked at, as far as both slices go
 abbrev pub EachDid : {S P : Type 0} → (S → S → P → P → Type 0) → List S → List S → List P → List P → Type 0
@@ -13,9 +13,9 @@ EachDid did (seat ∷ seats) (seat_after ∷ seats_after) (part ∷ parts) (part
 EachDid did _ _ _ _ = ⊤
 
 -- the same for three slices, whose places have numbers from one on
-abbrev pub AreReadyFrom : {H S K : Type 0} → (ℕ → H → S → K → Type 0) → ℕ → List H → List S → List K → Type 0
-AreReadyFrom ready number (hand ∷ hands) (seat ∷ seats) (desk ∷ desks) = ready number hand seat desk × AreReadyFrom ready (number + 1) hands seats desks
-AreReadyFrom ready number _ _ _ = ⊤
+abbrev pub ArePreparedFrom : {H S K : Type 0} → (ℕ → H → S → K → Type 0) → ℕ → List H → List S → List K → Type 0
+ArePreparedFrom prepared number (hand ∷ hands) (seat ∷ seats) (desk ∷ desks) = prepared number hand seat desk × ArePreparedFrom prepared (number + 1) hands seats desks
+ArePreparedFrom prepared number _ _ _ = ⊤
 
 abbrev pub EachDidFrom : {H S K : Type 0} → (ℕ → H → H → S → S → K → K → Type 0) → ℕ → List H → List H → List S → List S → List K → List K → Type 0
 EachDidFrom did number (hand ∷ hands) (hand_after ∷ hands_after) (seat ∷ seats) (seat_after ∷ seats_after) (desk ∷ desks) (desk_after ∷ desks_after) =

@@ -6,6 +6,7 @@ use Rattle.cv_legal.specs.code.Segment.{lane_requests}
 use Rattle.cv_legal.specs.declared.taken.Requested.{Requested}
 use Rattle.cv_dealing.specs.declared.lane.Lane.{Lane}
 
+-- the request is of another lane
 abbrev pub of_other_lane : ℕ → Requested → Bool
 of_other_lane lane asked = not (asked.request.lane == lane)
 
@@ -19,6 +20,6 @@ AreDealt number asked [] = ⊤
 AreDealt number asked (lane ∷ lanes) = IsDealt number asked lane × AreDealt (number + 1) asked lanes
 
 -- the requests of a lane are within the limits of requests; it has answered none
-pub record IsLaneReady (lane : Lane) : Type 0 where
+pub record IsLanePrepared (lane : Lane) : Type 0 where
   pub within_limits : AllByRecursion (λ (asked : Requested). IsWithinLimits asked.request.act) lane.asked.items
   pub no_reads : lane.reads.items ≡ []

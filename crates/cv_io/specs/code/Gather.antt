@@ -43,5 +43,5 @@ pub record SameCounts (before now : Gather) : Type 0 where
   pub ended : now.ended ≡ before.ended
 
 -- how many reads there can still be
-abbrev pub reads_left : Gather → ℕ
-reads_left g = cond g.ended 0 1 + (g.max_input - g.taken)
+abbrev pub reads_remaining : Gather → ℕ
+reads_remaining g = cond g.ended 0 1 + (g.max_input - g.taken)

@@ -19,19 +19,20 @@ use Rattle.cv_lanes.specs.code.Own.{Made, Placed, Submission, entry_of}
 -- what a request led to: an event in the list, or a read, which may also say that memory ran out
 pub data Step : Type 0 where
   Submitted : Placed → Step
-  Looked : ReadEntry → Step
+  Answered : ReadEntry → Step
 
+-- the entry of a step, the event that it submitted, and its read
 abbrev pub entry_in : Step → Entry
 entry_in (Submitted p) = entry.Event (entry_of p)
-entry_in (Looked read) = entry.Read read
+entry_in (Answered read) = entry.Read read
 
 abbrev pub placed_in : Step → Option Placed
 placed_in (Submitted p) = Some p
-placed_in (Looked read) = None
+placed_in (Answered read) = None
 
 abbrev pub read_in : Step → Option ReadEntry
 read_in (Submitted p) = None
-read_in (Looked read) = Some read
+read_in (Answered read) = Some read
 
 -- the events of steps
 abbrev pub placed_of : List Step → List Placed
@@ -49,24 +50,24 @@ IsAnswered tree limits list asked read =
 -- a step answers a request
 abbrev pub Answers : DeskTrees → Limits → List Submission → Requested → Step → Type 0
 Answers tree limits list asked (Submitted p) = (p.event.by ≡ by.Lane asked.request.lane asked.line) × (event_of asked.request.act ≡ Some p.event.act)
-Answers tree limits list asked (Looked read) = (read.lane ≡ asked.request.lane) × (read.line ≡ asked.line) × IsAnswered tree limits list asked read
+Answers tree limits list asked (Answered read) = (read.lane ≡ asked.request.lane) × (read.line ≡ asked.line) × IsAnswered tree limits list asked read
 
 -- a step stands after so many events
 abbrev pub IsFrom : ℕ → Step → Type 0
 IsFrom number (Submitted p) = number < p.number
-IsFrom number (Looked read) = number ≤ read.front
+IsFrom number (Answered read) = number ≤ read.front
 
 -- a step stands within so many events
 abbrev pub IsWithin : ℕ → Step → Type 0
 IsWithin number (Submitted p) = p.number ≤ number
-IsWithin number (Looked read) = read.front ≤ number
+IsWithin number (Answered read) = read.front ≤ number
 
 -- of two steps the second stands after no fewer events, and an event after more
 abbrev pub Follows : Step → Step → Type 0
 Follows (Submitted p) (Submitted q) = p.number < q.number
-Follows (Submitted p) (Looked read) = p.number ≤ read.front
-Follows (Looked read) (Submitted q) = read.front < q.number
-Follows (Looked read) (Looked later) = read.front ≤ later.front
+Follows (Submitted p) (Answered read) = p.number ≤ read.front
+Follows (Answered read) (Submitted q) = read.front < q.number
+Follows (Answered read) (Answered later) = read.front ≤ later.front
 
 -- each step follows all before it
 abbrev pub AreInTurn : List Step → Type 0
@@ -90,12 +91,12 @@ pub record LaneDid (tree : DeskTrees) (limits : Limits) (asked : List Requested)
   pub within : AllByRecursion (IsWithin (length after.list)) steps
   pub in_turn : AreInTurn steps
 
--- requests of one lane on rising lines
-abbrev pub AreAsksOf : ℕ → List Requested → Type 0
-AreAsksOf lane [] = ⊤
-AreAsksOf lane (asked ∷ later) = (asked.request.lane ≡ lane) × AllByRecursion (λ (other : Requested). asked.line < other.line) later × AreAsksOf lane later
+-- requests of one lane on ascending lines
+abbrev pub AreRequestsOf : ℕ → List Requested → Type 0
+AreRequestsOf lane [] = ⊤
+AreRequestsOf lane (asked ∷ later) = (asked.request.lane ≡ lane) × AllByRecursion (λ (other : Requested). asked.line < other.line) later × AreRequestsOf lane later
 
--- a lane did its requests, and has none left
+-- a lane did its requests, and none remains
 abbrev pub LaneAt : DeskTrees → Limits → SeatView → SeatView → Lane → Lane → Type 0
 LaneAt tree limits before after lane lane_after = (lane_after.number ≡ lane.number) × LaneDid tree limits lane.asked.items before lane.reads.items after lane_after.reads.items
 

@@ -10,6 +10,7 @@ pub record Placed : Type 0 where
   pub number : ℕ
   pub event : Submission
 
+-- the event with this number
 abbrev pub placed : ℕ → Submission → Placed
 placed number event = record { number = number; event = event }
 

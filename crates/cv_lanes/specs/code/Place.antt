@@ -12,6 +12,7 @@ use Rattle.cv_lanes.specs.declared.request.Look.{Look}
 use Rattle.cv_lanes.specs.declared.request.Look.TheVariants as look
 use Rattle.cv_lanes.specs.declared.request.Place.{Place}
 
+-- the request at a place
 abbrev pub requested : Place → Act → Requested
 requested place act = record { line = place.line; request = record { lane = place.lane; act = act } }
 
@@ -27,5 +28,5 @@ answer_of (Ok found) = found
 answer_of (Err error) = answer.NoMemory
 
 -- the entry of a read after the events of a list
-abbrev pub looked_at : Place → List Submission → Result Answer NoMemory → ReadEntry
-looked_at place list found = record { front = length list; lane = place.lane; line = place.line; answer = answer_of found }
+abbrev pub answered_read : Place → List Submission → Result Answer NoMemory → ReadEntry
+answered_read place list found = record { front = length list; lane = place.lane; line = place.line; answer = answer_of found }

@@ -25,6 +25,7 @@ pub record Address : Type 0 where
   pub lane : ℕ
   pub line : ℕ
 
+-- the lane and the line of an event, or of an entry
 abbrev pub address_by : By → Option Address
 address_by (by.Lane lane line) = Some (record { lane = lane; line = line })
 address_by (by.Worker worker) = None

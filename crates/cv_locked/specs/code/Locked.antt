@@ -36,7 +36,7 @@ pub record IsAfter (tree : DeskTrees) (limits : Limits) (list : List Submission)
   pub state_is : IsKnown tree → core.state ≡ state_of (trees_of tree) limits list
 
 -- an event of a core is planned, and named and replied to as the plan says
-pub record IsReady (tree : DeskTrees) (core : CoreView) (act : WholeAct) (plan : PlannedView) (name : Act) (reply : Reply) : Type 0 where
+pub record IsEventPrepared (tree : DeskTrees) (core : CoreView) (act : WholeAct) (plan : PlannedView) (name : Act) (reply : Reply) : Type 0 where
   pub name_is : name ≡ act_name act
   pub reply_is : reply ≡ plan.reply
   pub before_is : plan.before ≡ core

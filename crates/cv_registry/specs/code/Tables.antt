@@ -5,7 +5,7 @@ use Rattle.cv_machine.specs.State.{Layers, value_at, without_value}
 use Rattle.cv_registry.specs.code.Users.{Users, is_used}
 
 -- the table without those of these layers that no image uses and that are not Claimed
-abbrev pub left : Layers → List (List ℕ) → Users → Layers
-left table [] users = table
-left table (layer ∷ layers) users =
-    left (if is_used users layer || is_claimed (value_at table layer) then table else without_value table layer) layers users
+abbrev pub without_unused : Layers → List (List ℕ) → Users → Layers
+without_unused table [] users = table
+without_unused table (layer ∷ layers) users =
+    without_unused (if is_used users layer || is_claimed (value_at table layer) then table else without_value table layer) layers users

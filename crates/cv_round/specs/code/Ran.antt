@@ -1,4 +1,4 @@
--- What the lanes and the workers of a round left, before its entries are merged.
+-- What the lanes and the workers of a round wrote, before its entries are merged.
 use Rattle.std.specs.Prelude.{◌≡◌, ℕ, ◌+◌, ◌<◌, List, [], ◌++◌, get_or, length, map}
 use Rattle.std.specs.List.{AllByRecursion}
 use Rattle.cv_records.specs.declared.event.EventEntry.{EventEntry}
@@ -13,8 +13,8 @@ use Rattle.cv_dealing.specs.declared.lane.Lane.{Lane}
 use Rattle.cv_workers.specs.Events.{DeskTrees, IsReplayed, entries_from}
 use Rattle.cv_workers.specs.code.Own.{Submission}
 use Rattle.cv_workers.specs.code.Worker.{layers_of}
-use Rattle.cv_round.specs.Round.{DesksTold}
-use Rattle.cv_round.specs.code.Told.{LaneTold, WorkerTold}
+use Rattle.cv_round.specs.Round.{DesksCounted}
+use Rattle.cv_round.specs.code.Parts.{LanePart, WorkerPart}
 
 -- what is known of each lane and of each worker by its number, of the jobs that the workers took, and of the events
 pub record RoundRan {D : Type 0} (tree : DeskTrees) (limits : Limits) (listings faults : D → ℕ) (before whole : List Submission) (asked : List Requested) (queue : List (List ℕ)) (desks desks_after : List D) (events : List EventEntry) (lanes : List Lane) : Type 0 where
@@ -22,11 +22,11 @@ pub record RoundRan {D : Type 0} (tree : DeskTrees) (limits : Limits) (listings 
   pub whole_is : whole ≡ before ++ later
   pub replayed : IsReplayed tree limits (before ++ later)
   pub below : AllByRecursion (λ (e : Submission). e.seat < 8 + length desks) later
-  pub lanes_told : (lane : ℕ) → lane < 8 → LaneTold tree limits before later asked lane (get_or (map (λ (l : Lane). l.reads.items) lanes) lane [])
+  pub lane_parts : (lane : ℕ) → lane < 8 → LanePart tree limits before later asked lane (get_or (map (λ (l : Lane). l.reads.items) lanes) lane [])
   pub eight : length lanes ≡ 8
   pub jobs : List (List ℕ)
-  pub workers_told : (worker : ℕ) → worker < length desks → WorkerTold before later worker (layers_of queue (get_or jobs worker []))
+  pub worker_parts : (worker : ℕ) → worker < length desks → WorkerPart before later worker (layers_of queue (get_or jobs worker []))
   pub many : length jobs ≡ length desks
   pub weights : (h : ℕ → ℕ) → lists_weigh h jobs ≡ weigh_below h (length queue)
   pub events_are : events ≡ entries_from (length before + 1) later
-  pub desks_told : (others : List Entry) (taken : List Taken) → events_of others ≡ entries_from (length before + 1) later → DesksTold listings faults 0 desks desks_after (refusals taken ++ others)
+  pub desks_counted : (others : List Entry) (taken : List Taken) → events_of others ≡ entries_from (length before + 1) later → DesksCounted listings faults 0 desks desks_after (refusals taken ++ others)

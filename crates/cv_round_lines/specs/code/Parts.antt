@@ -9,7 +9,7 @@ use Rattle.cv_legal.specs.Replay.{Moment}
 use Rattle.cv_legal.specs.Round.{IsLegalRound}
 use Rattle.cv_legal.specs.Rounds.{Round}
 use Rattle.cv_legal.specs.declared.limits.TheConstants.{MAX_ROUND_BYTES}
-use Rattle.cv_round.specs.Round.{DesksTold}
+use Rattle.cv_round.specs.Round.{DesksCounted}
 use Rattle.cv_round_lines.specs.Printed.{HasTag}
 
 -- so many bytes more fit into a round, or it has none yet
@@ -22,7 +22,7 @@ pub record LegalTexts {D : Type 0} (trees : Trees) (workers : ℕ) (listings fau
   pub legal : IsLegalRound trees workers before lines entries after
   pub printed : texts ≡ map (λ entry. entry_text entry) entries
   pub tags : AllByRecursion HasTag entries
-  pub told : DesksTold listings faults 0 desks desks_after entries
+  pub counts : DesksCounted listings faults 0 desks desks_after entries
 
 -- a round was run, and its lines were written
 pub record RoundRun {D : Type 0} (trees : Trees) (workers : ℕ) (listings faults : D → ℕ) (lines : Round) (before after : Moment) (written written_now : Option (List ℕ)) (desks desks_now : List D) : Type 0 where
@@ -30,4 +30,4 @@ pub record RoundRun {D : Type 0} (trees : Trees) (workers : ℕ) (listings fault
   pub legal : IsLegalRound trees workers before lines entries after
   pub appended : Appends written written_now (flat_map entry_text entries)
   pub tags : AllByRecursion HasTag entries
-  pub told : DesksTold listings faults 0 desks desks_now entries
+  pub counts : DesksCounted listings faults 0 desks desks_now entries

@@ -1,4 +1,4 @@
--- The rule of the book that keeps the list of events, and what the step that adds one tells.
+-- The rule of the book that keeps the list of events, and what the step that adds one says.
 use Rattle.std.specs.Prelude.{◌≡◌, ℕ, ◌+◌, ◌≤◌, ◌<◌, ◌^◌, ◌==◌, true, List, [], ◌∷◌, ◌++◌, length, MatchBool}
 use Rattle.std.specs.List.{AllByRecursion}
 use Rattle.logbook.specs.Pages.{Book, Cell, Named, Step, View}
@@ -26,7 +26,7 @@ Adds s before found after = MatchBool (found == s.old) (after.0 ≡ before.0 ++ 
 pub record IsFront (tree : DeskTrees) (limits : Limits) (parts : ℕ) (named : Book) (number : ℕ) (book : Book) (list : List Submission) : Type 0 where
   pub length_is : number ≡ length list
   pub book_is : book ≡ named
-  pub few : length list ≤ 2 ^ 63
+  pub at_most_2_63_events : length list ≤ 2 ^ 63
   pub seats : AllByRecursion (λ (event : Submission). event.seat < parts) list
   pub replayed : IsReplayed tree limits list
 

@@ -64,7 +64,7 @@ pub record Claimed (worker : ℕ) (layer : List ℕ) (granted : Bool) (before af
   pub made : Made before after (claim_at number before.index worker layer reply ∷ [])
   pub granted_is : granted ≡ is_grant (name.Claim layer) reply
   pub longer : length before.list < length after.list
-  pub few : length after.list ≤ 2 ^ 63
+  pub at_most_2_63_events : length after.list ≤ 2 ^ 63
 
 -- a worker said by an event what became of a layer
 pub record Settled (worker : ℕ) (act : WholeAct) (before after : SeatView) : Type 0 where
@@ -74,14 +74,15 @@ pub record Settled (worker : ℕ) (act : WholeAct) (before after : SeatView) : T
   pub act_is : placed.event.act ≡ act
 
 -- a hand of a fill of so many jobs that has taken none
-abbrev pub IsHandReady : ℕ → HandState → Type 0
-IsHandReady jobs hand = (hand.fill.jobs ≡ jobs) × (hand.list ≡ [])
+abbrev pub IsHandPrepared : ℕ → HandState → Type 0
+IsHandPrepared jobs hand = (hand.fill.jobs ≡ jobs) × (hand.list ≡ [])
 
-abbrev pub AreHandsReady : ℕ → List HandState → Type 0
-AreHandsReady jobs [] = ⊤
-AreHandsReady jobs (hand ∷ hands) = IsHandReady jobs hand × AreHandsReady jobs hands
+-- all hands are
+abbrev pub AreHandsPrepared : ℕ → List HandState → Type 0
+AreHandsPrepared jobs [] = ⊤
+AreHandsPrepared jobs (hand ∷ hands) = IsHandPrepared jobs hand × AreHandsPrepared jobs hands
 
--- each hand was told that no job is left
+-- each hand knows that no job remains
 abbrev pub AreDone : List HandState → Type 0
 AreDone [] = ⊤
 AreDone (hand ∷ hands) = (hand.done ≡ true) × AreDone hands
@@ -90,6 +91,7 @@ AreDone (hand ∷ hands) = (hand.done ≡ true) × AreDone hands
 abbrev pub HasRoom : {D : Type 0} → (D → ℕ) → SeatView → D → Type 0
 HasRoom listings seat desk = listings desk ≤ 2 ^ 62 + length seat.list
 
+-- each worker has room
 abbrev pub HaveRoom : {D : Type 0} → (D → ℕ) → List SeatView → List D → Type 0
 HaveRoom listings [] [] = ⊤
 HaveRoom listings (seat ∷ seats) (desk ∷ desks) = HasRoom listings seat desk × HaveRoom listings seats desks

@@ -2,7 +2,7 @@ use Rattle.std.proofs.Common.{◌≡◌, List, rules, subst, sym, ◌∙◌}
 use Rattle.std.proofs.lemmas.List.{append-nil}
 use Rattle.std.proofs.IntoIterSteps.{All-taken}
 use Rattle.cv_legal.specs.declared.taken.Requested.{Requested}
-use Rattle.cv_lanes.specs.code.Lane.{LaneDid, Looked, Submitted}
+use Rattle.cv_lanes.specs.code.Lane.{LaneDid, Answered, Submitted}
 use Rattle.cv_lanes.proofs.LaneLemmas.{lane_more}
 use Rattle.cv_lanes.proofs.lanes.run_lane.Goals as goal
 
@@ -10,7 +10,7 @@ pub loop-requested-preserved-in-Continue-1 : goal.loop-requested-preserved-in-Co
 loop-requested-preserved-in-Continue-1 g c = (
   c.loop-requested.invariant.0,
   lane_more g.D.Desk.tree g.L.Identity.limits c.loop-requested.yielded c.in-Some.requested c.args.seat.now c.loop-requested.seat c.carry_out.new.seat c.args.lane.now.reads.items c.loop-requested.lane.reads.items c.push.new.self.items
-      (Looked c.in-Some-carry_out.read) c.loop-requested.invariant.1 c.in-Some-carry_out.ensures.read c.in_ok-push.ensures.items,
+      (Answered c.in-Some-carry_out.read) c.loop-requested.invariant.1 c.in-Some-carry_out.ensures.read c.in_ok-push.ensures.items,
 )
 
 pub loop-requested-preserved : goal.loop-requested-preserved

@@ -1,8 +1,8 @@
 use Rattle.std.proofs.Common.{ap, ◌≡◌, ◌∷◌, map, length, refl, ◌∙◌, arith}
 use Rattle.std.proofs.lemmas.List.{length-map}
-use Rattle.cv_pool.specs.Owners.{owner_deque}
+use Rattle.cv_pool.specs.code.Owners.{owner_deque}
 use Rattle.cv_pool.specs.Hands.{deal, new_hand, new_hands}
-use Rattle.cv_pool.specs.Filling.{fill_of}
+use Rattle.cv_pool.specs.code.Filling.{fill_of}
 use Rattle.cv_pool.proofs.FillLemmas.{new_is_seen, new_fill}
 use Rattle.cv_pool.proofs.filling.fill.Goals as goal
 

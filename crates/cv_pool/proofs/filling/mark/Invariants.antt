@@ -1,6 +1,6 @@
 use Rattle.std.proofs.Common.{◌≡◌}
-use Rattle.cv_pool.specs.Owners.{IsOwner}
-use Rattle.cv_pool.specs.Filling.{owner_jobs}
+use Rattle.cv_pool.specs.code.Owners.{IsOwner}
+use Rattle.cv_pool.specs.code.Filling.{owner_jobs}
 use Rattle.cv_pool.proofs.filling.mark.Given as goal
 
 -- so many marks were added, and no job

@@ -1,6 +1,6 @@
 use Rattle.std.proofs.Common.{◌≡◌, ◌++◌, ◌∷◌, [], length, sym, ap, ◌∙◌, subst, arith}
 use Rattle.std.proofs.lemmas.List.{length-append}
-use Rattle.cv_pool.specs.Filling.{AreOwners}
+use Rattle.cv_pool.specs.code.Filling.{AreOwners}
 use Rattle.cv_pool.proofs.FillLemmas.{owners_opened}
 use Rattle.cv_pool.proofs.filling.open_all.Goals as goal
 

@@ -1,5 +1,5 @@
 use Rattle.std.proofs.Common.{◌≡◌, length}
-use Rattle.cv_pool.specs.Filling.{AreOwners}
+use Rattle.cv_pool.specs.code.Filling.{AreOwners}
 use Rattle.cv_pool.proofs.filling.open_all.Given as goal
 
 -- so many deques were made, all empty

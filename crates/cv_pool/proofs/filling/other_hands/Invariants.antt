@@ -1,6 +1,6 @@
 use Rattle.std.proofs.Common.{◌≡◌, ◌+◌, ℕ}
 use Rattle.cv_pool.specs.Hands.{new_hands}
-use Rattle.cv_pool.specs.Filling.{AreOwners, fill_of}
+use Rattle.cv_pool.specs.code.Filling.{AreOwners, fill_of}
 use Rattle.cv_pool.proofs.filling.other_hands.Given as goal
 
 -- the hands from 1 up to this one are made, and each has a share

@@ -1,6 +1,6 @@
 use Rattle.std.proofs.Common.{◌≡◌, ◌++◌, None, Some, sym, ◌∙◌, subst}
 use Rattle.std.specs.List.{AllByRecursion}
-use Rattle.cv_pool.specs.Seats.{IsSeated, SeatsTook}
+use Rattle.cv_pool.specs.code.Seats.{IsSeated, SeatsTook}
 use Rattle.cv_pool.proofs.SeatLemmas.{took_later, took_earlier, each_of_first, same_length, take_written}
 use Rattle.cv_pool.proofs.seat.take_from.Goals as goal
 

@@ -1,7 +1,7 @@
 use Rattle.std.proofs.Common.{◌≡◌, ◌∷◌, [], map, length, rules, sym, ap, subst, arith}
 use Rattle.cv_pool.specs.Hands.{HandState}
-use Rattle.cv_pool.specs.Owners.{owner_deque}
-use Rattle.cv_pool.specs.Gathering.{AreOfDeques, Gathered}
+use Rattle.cv_pool.specs.code.Owners.{owner_deque}
+use Rattle.cv_pool.specs.code.Gathering.{AreOfDeques, Gathered}
 use Rattle.cv_pool.proofs.GatherLemmas.{gathered_more}
 use Rattle.cv_pool.proofs.taken.+gather_hands.Goals as goal
 

@@ -1,8 +1,8 @@
 use Rattle.std.proofs.Common.{◌≡◌, ◌∷◌, List, map, length, sym, ap, ◌∙◌, subst, arith}
 use Rattle.std.specs.List.{AllByRecursion}
 use Rattle.cv_pool.specs.Hands.{AreHandsOf}
-use Rattle.cv_pool.specs.Owners.{Owner, owner_deque, IsOwner}
-use Rattle.cv_pool.specs.Gathering.{AreOfDeques}
+use Rattle.cv_pool.specs.code.Owners.{Owner, owner_deque, IsOwner}
+use Rattle.cv_pool.specs.code.Gathering.{AreOfDeques}
 use Rattle.cv_pool.proofs.GatherLemmas.{opened}
 use Rattle.cv_pool.proofs.taken.gather.Goals as goal
 

@@ -1,7 +1,7 @@
 use Rattle.std.proofs.Common.{sym, subst, arith}
 use Rattle.std.specs.List.{AllByRecursion}
-use Rattle.cv_pool.specs.Owners.{HasShares}
-use Rattle.cv_pool.specs.Gathering.{AreOfDeques}
+use Rattle.cv_pool.specs.code.Owners.{HasShares}
+use Rattle.cv_pool.specs.code.Gathering.{AreOfDeques}
 use Rattle.cv_pool.proofs.GatherLemmas.{owners_shares, owners_share, gathered_more, gathered_within, gathered_all}
 use Rattle.cv_pool.proofs.taken.gather_all.Goals as goal
 

@@ -1,6 +1,6 @@
 use Rattle.std.proofs.Common.{List, sym, subst}
 use Rattle.cv_pool.specs.declared.seat.Seat.{Seat}
-use Rattle.cv_pool.specs.Gathering.{AreSeatsOf, Absorbed}
+use Rattle.cv_pool.specs.code.Gathering.{AreSeatsOf, Absorbed}
 use Rattle.cv_pool.proofs.GatherLemmas.{seats_of, gathered_one}
 use Rattle.cv_pool.proofs.taken.gather_hand.Goals as goal
 

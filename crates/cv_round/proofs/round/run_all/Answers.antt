@@ -5,8 +5,8 @@ use Rattle.std.proofs.Common.{drop, length, take, ◌∙◌}
 use Rattle.cv_workers.proofs.Crossing.{hub_sync}
 use Rattle.cv_workers.proofs.CrewCrossing.{crew_sync}
 use Rattle.cv_workers.proofs.TeamCrossing.{seat_send, team_sync}
-use Rattle.cv_workers.proofs.CrewLemmas.{seats_past, workers_did, workers_ready}
-use Rattle.cv_workers.proofs.TeamLemmas.{lanes_did, lanes_ready}
+use Rattle.cv_workers.proofs.CrewLemmas.{seats_past, workers_did, workers_prepared}
+use Rattle.cv_workers.proofs.TeamLemmas.{lanes_did, lanes_prepared}
 use Rattle.cv_workers.proofs.WorkerLemmas.{on_ok}
 use Rattle.cv_round.proofs.round.run_all.Goals as goal
 
@@ -23,11 +23,11 @@ run_sides-requires-send-S g c κs within =
     param_send _ _ (arg_send _ no _ (seat_send (param 0 g.row.D) (param 1 g.row.L) g.D.Desk g.L.Identity g.L.Ledger c.type_bounds.send-D c.type_bounds.sync-D c.type_bounds.send-L c.type_bounds.sync-L))
 
 pub run_sides-requires-clause-team : goal.run_sides-requires-clause-team
-run_sides-requires-clause-team g c κs within = lanes_ready (take (length c.args.lanes.now) c.args.seats.now) c.args.lanes.now c.requires.lanes
+run_sides-requires-clause-team g c κs within = lanes_prepared (take (length c.args.lanes.now) c.args.seats.now) c.args.lanes.now c.requires.lanes
 
 pub run_sides-requires-clause-crew : goal.run_sides-requires-clause-crew
 run_sides-requires-clause-crew g c κs within =
-    workers_ready g.D.Desk.listings g.D.Desk.faults c.args.queue.now 0 c.args.hands.now (drop (length c.args.lanes.now) c.args.seats.now) c.args.desks.now c.requires.hands c.requires.room
+    workers_prepared g.D.Desk.listings g.D.Desk.faults c.args.queue.now 0 c.args.hands.now (drop (length c.args.lanes.now) c.args.seats.now) c.args.desks.now c.requires.hands c.requires.room
 
 pub returns-clause-lanes : goal.returns-clause-lanes
 returns-clause-lanes g c =

@@ -2,11 +2,11 @@ use Rattle.std.proofs.Common.{◌≡◌, ◌+◌, ◌++◌, List, drop, length, 
 use Rattle.std.specs.List.{AllByRecursion}
 use Rattle.cv_pool.specs.Hands.{AreHandsOf, AreSameHands, HandState, any_done, lists_of}
 use Rattle.cv_pool.specs.Jobs.{weigh_below}
-use Rattle.cv_dealing.specs.code.Dealt.{IsLaneReady}
-use Rattle.cv_dealing.proofs.DealLemmas.{dealt_ready}
-use Rattle.cv_workers.specs.code.Worker.{AreHandsReady}
+use Rattle.cv_dealing.specs.code.Dealt.{IsLanePrepared}
+use Rattle.cv_dealing.proofs.DealLemmas.{dealt_prepared}
+use Rattle.cv_workers.specs.code.Worker.{AreHandsPrepared}
 use Rattle.cv_workers.proofs.CrewLemmas.{seats_past}
-use Rattle.cv_round.proofs.WalkLemmas.{begun, begun_drop, done_any, ended, ended_drop, new_many, new_ready, room_begun, room_ended}
+use Rattle.cv_round.proofs.WalkLemmas.{begun, begun_drop, done_any, ended, ended_drop, new_many, new_prepared, room_begun, room_ended}
 use Rattle.cv_round.proofs.WholeLemmas.{ends_numbered, front_is, ran_of, worked_by}
 use Rattle.cv_round.proofs.whole.run_parts.Goals as goal
 
@@ -20,12 +20,12 @@ run_all-requires-clause-same g c κs within =
 
 pub run_all-requires-clause-lanes : goal.run_all-requires-clause-lanes
 run_all-requires-clause-lanes g c κs within =
-    subst (AllByRecursion IsLaneReady) (sym c.as_mut_slice.ensures.value) (dealt_ready 0 c.args.asked.items c.in_ok-lanes.lanes.items c.requires.sound c.in_ok-lanes.ensures.dealt)
+    subst (AllByRecursion IsLanePrepared) (sym c.as_mut_slice.ensures.value) (dealt_prepared 0 c.args.asked.items c.in_ok-lanes.lanes.items c.requires.sound c.in_ok-lanes.ensures.dealt)
 
 pub run_all-requires-clause-hands : goal.run_all-requires-clause-hands
 run_all-requires-clause-hands g c κs within =
     let new = c.in_ok-hands.ensures in
-    subst (AreHandsReady (length c.args.queue.now)) (sym (c.as_mut_slice-2.ensures.value ∙ new.new)) (new_ready new.fill (length c.args.queue.now) 0 (length c.args.desks.now) new.jobs_below)
+    subst (AreHandsPrepared (length c.args.queue.now)) (sym (c.as_mut_slice-2.ensures.value ∙ new.new)) (new_prepared new.fill (length c.args.queue.now) 0 (length c.args.desks.now) new.jobs_below)
 
 pub run_all-requires-clause-room : goal.run_all-requires-clause-room
 run_all-requires-clause-room g c κs within =

@@ -7,7 +7,7 @@ use Rattle.cv_round.proofs.WholeLemmas.{Joined, if_ok, joined_desks, joined_lega
 use Rattle.cv_round.proofs.whole.run_round.Goals as goal
 
 pub returns-clause-legal : goal.returns-clause-legal
-returns-clause-legal g c = λ known lines last read rise. if_ok c.joined.result c.joined.ensures (λ all is.
+returns-clause-legal g c = λ known lines last read ascend. if_ok c.joined.result c.joined.ensures (λ all is.
     let joined : Joined g.D.Desk.listings g.D.Desk.faults g.D.Desk.tree g.L.Identity.limits c.args.hub.now c.run_parts.new.hub c.args.taken.items c.in_ok-refused.asked.items c.as_slice.result.now c.args.desks.now c.run_parts.new.desks c.in_ok-events.events.items c.in_ok-events.lanes.items c.in_ok-reads.reads c.in_ok-refused.refused.items c.in_ok-others.others all.items = record {
       ran = c.in_ok-events.ensures.ran;
       asked_is = c.in_ok-refused.ensures.asked;
@@ -20,7 +20,7 @@ returns-clause-legal g c = λ known lines last read rise. if_ok c.joined.result 
       refused_is = c.in_ok-refused.ensures.refused;
       all_is = is ∙ ap (λ (others : List Entry). c.in_ok-refused.refused.items ++ others) c.into_vec.ensures;
     } in
-    joined_legal g.D.Desk.listings g.D.Desk.faults g.D.Desk.tree g.L.Identity.limits c.args.hub.now c.run_parts.new.hub c.args.taken.items c.in_ok-refused.asked.items c.as_slice.result.now c.args.desks.now c.run_parts.new.desks c.in_ok-events.events.items c.in_ok-events.lanes.items c.in_ok-reads.reads c.in_ok-refused.refused.items c.in_ok-others.others all.items joined known lines last read rise)
+    joined_legal g.D.Desk.listings g.D.Desk.faults g.D.Desk.tree g.L.Identity.limits c.args.hub.now c.run_parts.new.hub c.args.taken.items c.in_ok-refused.asked.items c.as_slice.result.now c.args.desks.now c.run_parts.new.desks c.in_ok-events.events.items c.in_ok-events.lanes.items c.in_ok-reads.reads c.in_ok-refused.refused.items c.in_ok-others.others all.items joined known lines last read ascend)
 
 pub returns-clause-desks : goal.returns-clause-desks
 returns-clause-desks g c = if_ok c.joined.result c.joined.ensures (λ all is.

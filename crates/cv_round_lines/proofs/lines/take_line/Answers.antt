@@ -31,7 +31,7 @@ returns-then-is_blank-clause-further g c = λ known workers many cut last entrie
     (λ ran. runs_to (trees_of g.D.Desk.tree) workers g.D.Desk.listings g.D.Desk.faults cut (cut_line round_limits cut (line_at c.args.number c.args.text.now)) c.args.number c.args.round.now.taken.items _ c.args.round.now.bytes _ entries _ _ _ _ _ _ here ran
     (blank cut (line_at c.args.number c.args.text.now) (sym c.is_blank.ensures ∙ c.if-is_blank.true))
     c.write_round.ensures.begins c.write_round.ensures.bytes)
-    (c.write_round.ensures.ran known workers many cut.begun c.args.number here.begun here.rise)
+    (c.write_round.ensures.ran known workers many cut.begun c.args.number here.begun here.ascend)
 
 pub returns-clause-further : goal.returns-clause-further
 returns-clause-further g c = λ known workers many cut last entries number served.

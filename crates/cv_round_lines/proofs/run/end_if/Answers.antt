@@ -10,7 +10,7 @@ returns-then-ends-clause-further g c = λ known workers many cut last entries se
     on_ok c.write_round.result
     (λ ran. runs_to (trees_of g.D.Desk.tree) workers g.D.Desk.listings g.D.Desk.faults cut (if c.args.ends then end_round cut else cut) last c.args.round.now.taken.items _ c.args.round.now.bytes _ entries _ _ _ _ _ _ served ran
     (ap (λ b. if b then end_round cut else cut) c.if-ends.true) c.write_round.ensures.begins c.write_round.ensures.bytes)
-    (c.write_round.ensures.ran known workers many cut.begun last served.begun served.rise)
+    (c.write_round.ensures.ran known workers many cut.begun last served.begun served.ascend)
 
 pub returns-clause-further : goal.returns-clause-further
 returns-clause-further g c = λ known workers many cut last entries served.

@@ -8,8 +8,8 @@ use Rattle.cv_round_lines.proofs.Written.{same_bytes}
 use Rattle.cv_round_lines.proofs.run.write_round.Goals as goal
 
 pub returns-clause-ran : goal.returns-clause-ran
-returns-clause-ran g c = λ known workers many lines last read rise.
-    let texts = c.in_ok-lines.ensures.legal known workers many lines last (subst (λ taken. AllZip IsTaken lines taken.items) (sym c.replace-taken.ensures.value) read) rise in
+returns-clause-ran g c = λ known workers many lines last read ascend.
+    let texts = c.in_ok-lines.ensures.legal known workers many lines last (subst (λ taken. AllZip IsTaken lines taken.items) (sym c.replace-taken.ensures.value) read) ascend in
     let same = ap (λ all. flat_map (λ line. string_bytes line) all) c.as_slice.ensures.value ∙ same_bytes (λ line. string_bytes line) c.in_ok-lines.lines.items texts.entries texts.printed in
     on_ok c.write_lines.result
     (λ written. record {
@@ -17,6 +17,6 @@ returns-clause-ran g c = λ known workers many lines last read rise.
       legal = texts.legal;
       appended = subst (Appends (g.K.Sink.contents c.args.output.now) (g.K.Sink.contents c.write_lines.new.output)) same written;
       tags = texts.tags;
-      told = texts.told;
+      counts = texts.counts;
     })
     c.write_lines.ensures.ok

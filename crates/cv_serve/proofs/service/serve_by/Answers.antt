@@ -7,7 +7,7 @@ use Rattle.cv_base.specs.Lines.{numbered}
 use Rattle.cv_machine.specs.Scans.{trees_of}
 use Rattle.cv_legal.specs.Replay.{beginning}
 use Rattle.cv_legal.specs.Rounds.{cut_lines, round_limits}
-use Rattle.cv_legal.specs.code.Served.{Served}
+use Rattle.cv_legal.specs.Served.{Served}
 use Rattle.cv_legal.proofs.Serving.{begins}
 use Rattle.cv_round_lines.specs.Round.{moment_of}
 use Rattle.cv_serve.specs.Served.{IsServed}

@@ -15,6 +15,6 @@ returns g c =
         made = made_one g.D.Desk.tree g.L.Identity.limits applied.0 c.args.seat.now c.submit.new.seat (by.Worker c.args.worker) (whole.Claim c.args.layer c.args.worker) _ _ _ applied.2;
         granted_is = c.is_claimed.ensures c.args.layer;
         longer = size.0;
-        few = size.1;
+        at_most_2_63_events = size.1;
       };
     }

@@ -1,7 +1,7 @@
 use Rattle.std.proofs.Common.{◌≡◌, ◌≤◌, ◌⊎◌}
 use Rattle.cv_io.specs.Lines.{HasNoLineEnd}
 use Rattle.cv_io.specs.Takes.{Takes}
-use Rattle.cv_io.specs.code.Gather.{held_by, progress_by, SameLimits, reads_left}
+use Rattle.cv_io.specs.code.Gather.{held_by, progress_by, SameLimits, reads_remaining}
 use Rattle.cv_io.proofs.gather.Gather.gather.Given as goal
 
 abbrev pub invariant-pieces : goal.invariant-pieces
@@ -13,4 +13,4 @@ invariant-pieces g l = record {
 }
 
 abbrev pub decreases-pieces : goal.decreases-pieces
-decreases-pieces g l = reads_left l.self
+decreases-pieces g l = reads_remaining l.self

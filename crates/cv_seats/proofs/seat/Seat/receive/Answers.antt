@@ -7,4 +7,4 @@ pub overflow_add-self : goal.overflow_add-self
 overflow_add-self g c =
     let next : made_by c.self.inside.index c.self.inside.front + 1 ≤ made_by c.self.inside.index c.args.front.now =
     subst (λ (seat : SeatView). made_by seat.index seat.list + 1 ≤ made_by seat.index c.args.front.now) (sym c.self.view_is) c.requires in
-    omega (arith, next, made_few c.self.inside.index c.args.front.now, c.self.invariant.made, c.len-few.ensures.few)
+    omega (arith, next, made_few c.self.inside.index c.args.front.now, c.self.invariant.made, c.len-few.ensures.at_most_2_63_events)

@@ -7,8 +7,9 @@ use lib.ListN.{get_elem?}
 use Rattle.cv_pool.specs.declared.task.Task.{Task}
 use Rattle.cv_pool.specs.declared.account.Account.{Account}
 use Rattle.cv_pool.specs.Jobs.{weigh}
-use Rattle.cv_pool.specs.Tasks.{jobs, marks, AreMarksLast}
+use Rattle.cv_pool.specs.code.Tasks.{jobs, marks, AreMarksLast}
 
+-- the account with these parts
 abbrev pub account : ℕ → List Task → List ℕ → ℕ → Account
 account shares pushed taken ended = record { shares = shares; pushed = pushed; taken = taken; ended = ended }
 

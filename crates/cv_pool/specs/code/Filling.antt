@@ -5,10 +5,11 @@ use Rattle.std.specs.List.{AllByRecursion}
 use Rattle.cv_pool.specs.declared.seat.Seat.{Seat}
 use Rattle.cv_pool.specs.Jobs.{weigh_below}
 use Rattle.cv_pool.specs.Hands.{Fill, HandState, deal, new_hands}
-use Rattle.cv_pool.specs.Tasks.{jobs}
-use Rattle.cv_pool.specs.Seats.{seat_deque, seat_jobs, seat_account, IsSeated, seats_weigh, seats_dealt, any_more}
-use Rattle.cv_pool.specs.Owners.{Owner, EachSeat, owner_deque, owner_account, IsOwner, owners_dealt}
+use Rattle.cv_pool.specs.code.Tasks.{jobs}
+use Rattle.cv_pool.specs.code.Seats.{seat_deque, seat_jobs, seat_account, IsSeated, seats_weigh, seats_dealt, any_more}
+use Rattle.cv_pool.specs.code.Owners.{Owner, EachSeat, owner_deque, owner_account, IsOwner, owners_dealt}
 
+-- the jobs in the deque of an owner
 abbrev pub owner_jobs : Owner → List ℕ
 owner_jobs o = jobs (owner_account o).pushed
 
@@ -42,6 +43,7 @@ pub record AreNewSeats (jobs : ℕ) (deques : List ((ℕ × ℕ) × Global)) (li
   pub dealt : (h : ℕ → ℕ) → seats_dealt h ss ≡ weigh_below h jobs
   pub more : 0 < length deques → any_more ss ≡ true
 
+-- the fill of these owners
 abbrev pub fill_of : ℕ → List Owner → Fill
 fill_of jobs os = record { deques = map owner_deque os; jobs = jobs; dealt = map owner_jobs os }
 

@@ -1,6 +1,6 @@
 ghost use Rattle.std.specs.Prelude.{◌≡◌, ◌+◌, ◌≤◌, ◌<◌, ◌^◌, drop, length, IfOk, IfSome, OnErr};
 ghost use mathlib.Core.List.{IsPrefix};
-ghost use Rattle.cv_machine.specs.Answer.{heads, page_of, report_of};
+ghost use Rattle.cv_machine.specs.Answer.{heads, report_of};
 ghost use Rattle.cv_machine.specs.Layers.{queued};
 ghost use Rattle.cv_machine.specs.Scans.{IsKnown, trees_of};
 ghost use Rattle.cv_locked.specs.Core.{IsSound, act_of};
@@ -23,19 +23,19 @@ use std::sync::{MutexGuard, Wait};
 
 /// A view of a hub that holds its lock: the core after the events so far. Contracts see these events. Nobody else applies an event
 /// until it is dropped.
-pub struct Held<'a, D: Desk, L: Identity> {
+pub struct View<'a, D: Desk, L: Identity> {
     guard: MutexGuard<'a, Option<Locked<D, L>>>,
     front: Front<D, L>,
 }
 
 /// Written out, so that the crates above call it, and do not prove anew how each part is dropped.
-impl<'a, D: Desk + Drop, L: Identity> Drop for Held<'a, D, L> {
+impl<'a, D: Desk + Drop, L: Identity> Drop for View<'a, D, L> {
     fn drop(self) {
-        let Held { guard: _, front: _ } = self;
+        let View { guard: _, front: _ } = self;
     }
 }
 
-impl<'a, D: Desk, L: Identity> Model for Held<'a, D, L> {
+impl<'a, D: Desk, L: Identity> Model for View<'a, D, L> {
     ghost use Rattle.std.specs.Prelude.{◌≡◌, List, Some};
     ghost use Rattle.std.specs.Option.{option_map};
     ghost use Rattle.std.specs.Sync.Mutex.{mutex_guard_value};
@@ -48,14 +48,14 @@ impl<'a, D: Desk, L: Identity> Model for Held<'a, D, L> {
     ghost invariant = { λ h. option_map (λ locked. locked.list) (mutex_guard_value h.guard) ≡ Some h.front };
 }
 
-impl<'a, D: Desk + Drop, L: Identity> Held<'a, D, L> {
+impl<'a, D: Desk + Drop, L: Identity> View<'a, D, L> {
     /// The view of a guard, unless a hold ended before it gave back what lies under the lock.
-    pub(crate) fn of(guard: MutexGuard<'a, Option<Locked<D, L>>>) -> Option<Held<'a, D, L>> {
+    pub(crate) fn of(guard: MutexGuard<'a, Option<Locked<D, L>>>) -> Option<View<'a, D, L>> {
         let front = match &*guard {
             Some(locked) => locked.front().again(),
             None => return None,
         };
-        Some(Held { guard, front })
+        Some(View { guard, front })
     }
 
     /// How many events were applied. It takes no memory.
@@ -122,7 +122,7 @@ impl<'a, D: Desk + Drop, L: Identity> Held<'a, D, L> {
         event: Event<D>,
     ) -> Result<Receipt<D, L>, NoMemory>
         requires sound { IsSound (act_of event) }
-        requires few { length self.old < 2 ^ 63 }
+        requires below_2_63_events { length self.old < 2 ^ 63 }
         requires seen { IsPrefix seat.old.list self.old }
         ensures applied { IfOk result (λ receipt. IsApplied D.tree L.limits self.old seat.old by (act_of event) receipt.number receipt.reply receipt.note seat.new) }
         ensures seat { OnErr result (seat.new ≡ seat.old) }
@@ -139,7 +139,7 @@ impl<'a, D: Desk + Drop, L: Identity> Held<'a, D, L> {
     /// The entries since the last taking, by all seats of the hub, if so many events were taken before.
     pub(crate) fn take(&mut self, taken: u64, seats: &mut [Seat<D, L>]) -> Option<Vec<EventEntry>>
         requires all { length seats.old ≡ L.parts }
-        requires some { 0 < length seats.old }
+        requires has_seats { 0 < length seats.old }
         requires numbered { AreNumbered 0 seats.old }
         requires seen { HaveSeen self.old seats.old }
         ensures entries { IfSome result (λ entries. entries.items ≡ entries_from (taken + 1) (drop taken self.old)) }

@@ -8,9 +8,10 @@ use Rattle.cv_pool.specs.declared.task.Task.TheVariants.{Job, End}
 use Rattle.cv_pool.specs.declared.account.Account.{Account}
 use Rattle.cv_pool.specs.declared.seat.Seat.{Seat}
 use Rattle.cv_pool.specs.Jobs.{weigh, option_weigh}
-use Rattle.cv_pool.specs.Tasks.{jobs, marks}
-use Rattle.cv_pool.specs.Accounts.{IsWithin}
+use Rattle.cv_pool.specs.code.Tasks.{jobs, marks}
+use Rattle.cv_pool.specs.code.Accounts.{IsWithin}
 
+-- the deque of a seat, and its account
 abbrev pub seat_deque : Seat → (ℕ × ℕ) × Global
 seat_deque s = stealer_deque s.thief
 

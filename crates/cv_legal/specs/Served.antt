@@ -11,14 +11,14 @@ use Rattle.cv_legal.specs.Rounds.{Cut, size_of}
 use Rattle.cv_legal.specs.Taken.{IsTaken}
 use Rattle.cv_legal.specs.declared.taken.Taken.{Taken}
 
--- the numbers of lines rise, and the last one is at most this
-abbrev pub LinesRise : List Line → ℕ → Type 0
-LinesRise [] last = ⊤
-LinesRise (line ∷ lines) last = (line.number ≤ last) × (AllByRecursion (λ later. line.number < later.number) lines × LinesRise lines last)
+-- the numbers of lines ascend, and the last one is at most this
+abbrev pub LinesAscend : List Line → ℕ → Type 0
+LinesAscend [] last = ⊤
+LinesAscend (line ∷ lines) last = (line.number ≤ last) × (AllByRecursion (λ later. line.number < later.number) lines × LinesAscend lines last)
 
 -- the lines up to this number are cut so; what became of the lines of the round that has begun, and how many bytes they have
 pub record Served (trees : Trees) (workers : ℕ) (cut : Cut) (last : ℕ) (taken : List Taken) (bytes : ℕ) (entries : List Entry) (now : Moment) : Type 0 where
   pub rounds : AreLegalRounds trees workers beginning cut.rounds entries now
   pub begun : AllZip IsTaken cut.begun taken
-  pub rise : LinesRise cut.begun last
+  pub ascend : LinesAscend cut.begun last
   pub size : size_of cut.begun ≡ bytes

@@ -5,9 +5,9 @@ use Rattle.std.specs.List.{AllByRecursion}
 use Rattle.cv_pool.specs.declared.seat.Seat.{Seat}
 use Rattle.cv_pool.specs.Jobs.{lists_weigh}
 use Rattle.cv_pool.specs.Hands.{HandState, lists_of, any_done}
-use Rattle.cv_pool.specs.Accounts.{both, IsWithin, HasAll}
-use Rattle.cv_pool.specs.Seats.{seat_deque, seat_account, IsSeated}
-use Rattle.cv_pool.specs.Owners.{Owner, EachSeat, owner_deque, owner_account, HasShares, HasEnded, owners_weigh, owners_dealt}
+use Rattle.cv_pool.specs.code.Accounts.{both, IsWithin, HasAll}
+use Rattle.cv_pool.specs.code.Seats.{seat_deque, seat_account, IsSeated}
+use Rattle.cv_pool.specs.code.Owners.{Owner, EachSeat, owner_deque, owner_account, HasShares, HasEnded, owners_weigh, owners_dealt}
 
 -- an owner with a share, so that it knows what was added
 abbrev pub HasShare : Owner → Type 0

@@ -3,7 +3,7 @@ ghost use Rattle.cv_machine.specs.Scans.{IsKnown, trees_of};
 ghost use Rattle.cv_machine.specs.Step.{step};
 ghost use Rattle.cv_core.specs.Core.{IsSound, act_of, counted};
 ghost use Rattle.cv_core.specs.Planned.{plan_of};
-ghost use Rattle.cv_locked.specs.code.Locked.{IsReady};
+ghost use Rattle.cv_locked.specs.code.Locked.{IsEventPrepared};
 
 use cv_base::Steps;
 use cv_core::{Core, Event, Planned};
@@ -17,24 +17,24 @@ use std::sync::ledger::{Blank, Ledger};
 
 /// An event that took all the memory that its submission needs.
 #[derive(Drop)]
-pub struct Ready<D: Desk> {
+pub struct PreparedEvent<D: Desk> {
     pub planned: Planned<D>,
     pub event: Snapshot<Event<D>>,
     pub name: Act,
     pub reply: Reply,
 }
 
-impl<D: Desk + Drop> Ready<D> {
+impl<D: Desk + Drop> PreparedEvent<D> {
     /// Plans an event for a core. If memory runs out, the event is spent and the core comes back as it was.
     pub fn of(
         alloc: Global,
         core: Core<D>,
         event: Event<D>,
-    ) -> Result<Ready<D>, (Core<D>, NoMemory)>
+    ) -> Result<PreparedEvent<D>, (Core<D>, NoMemory)>
         requires room { core.count < 2 ^ 63 }
         requires sound { IsSound (act_of event) }
-        ensures ready { IfOk result (λ ready. IsReady D.tree core (act_of event) ready.planned ready.name ready.reply) }
-        ensures event { IfOk result (λ ready. ready.event.value ≡ event) }
+        ensures prepared { IfOk result (λ prepared. IsEventPrepared D.tree core (act_of event) prepared.planned prepared.name prepared.reply) }
+        ensures event { IfOk result (λ prepared. prepared.event.value ≡ event) }
         ensures err { IfErr result (λ refused. refused.0 ≡ core) }
     {
         let Ok(name) = event.name() else {
@@ -43,7 +43,7 @@ impl<D: Desk + Drop> Ready<D> {
         let snapshot = Snapshot::of(&event);
         let planned = plan_counted::<D, Brand>(alloc, Blank::new(1), core, event)?;
         match planned.reply().clone() {
-            Ok(reply) => Ok(Ready {
+            Ok(reply) => Ok(PreparedEvent {
                 planned,
                 event: snapshot,
                 name,
@@ -63,7 +63,7 @@ fn plan_counted<D: Desk + Drop, S: Ledger>(
 ) -> Result<Planned<D>, (Core<D>, NoMemory)>
     requires name { blank.name ≡ S.name }
     requires parts { blank.parts ≡ S.parts }
-    requires some { 0 < S.parts }
+    requires has_parts { 0 < S.parts }
     requires room { core.count < 2 ^ 63 }
     requires sound { IsSound (act_of event) }
     ensures stepped { IsKnown D.tree → IfOk result (λ planned. planned ≡ plan_of core (counted core (step (trees_of D.tree) core.state (act_of event)))) }

@@ -8,8 +8,9 @@ use Rattle.cv_pool.specs.declared.account.Account.{Account}
 use Rattle.cv_pool.specs.declared.account.EachOnce.{EachOnce}
 use Rattle.cv_pool.specs.declared.seat.Seat.{Seat}
 use Rattle.cv_pool.specs.Jobs.{weigh}
-use Rattle.cv_pool.specs.Tasks.{jobs, marks}
+use Rattle.cv_pool.specs.code.Tasks.{jobs, marks}
 
+-- a deque with its account
 abbrev pub Owner : Type 0
 Owner = Worker Task Global Account EachOnce
 

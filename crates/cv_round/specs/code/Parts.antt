@@ -1,4 +1,4 @@
--- What the hub, the lanes and the workers told of a round, as lists.
+-- The parts of the lanes and the workers in a round, as lists.
 use Rattle.std.specs.Prelude.{◌≡◌, ℕ, zero, suc, ◌+◌, ◌==◌, ◌<◌, ◌≤◌, ◌⊎◌, Bool, false, List, [], ◌∷◌, ◌++◌, length, map, take, None, Some, option_map}
 use Rattle.std.specs.List.{AllByRecursion, AllZip}
 use Rattle.cv_records.specs.declared.event.By.{By}
@@ -53,7 +53,7 @@ sum_seats weight first zero = 0
 sum_seats weight first (suc count) = weight first + sum_seats weight (first + 1) count
 
 -- what is known of a lane after a round: each of its requests led to a step, and its events are all of its seat
-pub record LaneTold (tree : DeskTrees) (limits : Limits) (before later : List Submission) (asked : List Requested) (lane : ℕ) (reads : List ReadEntry) : Type 0 where
+pub record LanePart (tree : DeskTrees) (limits : Limits) (before later : List Submission) (asked : List Requested) (lane : ℕ) (reads : List ReadEntry) : Type 0 where
   pub steps : List Step
   pub own : placed_of steps ≡ of_seat lane (length before + 1) later
   pub reads_are : reads ≡ reads_in steps
@@ -63,7 +63,7 @@ pub record LaneTold (tree : DeskTrees) (limits : Limits) (before later : List Su
   pub in_turn : AreInTurn steps
 
 -- what is known of a worker after a round: it worked at these layers, and its events are all of its seat
-pub record WorkerTold (before later : List Submission) (worker : ℕ) (layers : List (List ℕ)) : Type 0 where
+pub record WorkerPart (before later : List Submission) (worker : ℕ) (layers : List (List ℕ)) : Type 0 where
   pub own : List Placed
   pub own_is : own ≡ of_seat (8 + worker) (length before + 1) later
   pub by_worker : AllByRecursion (IsByWorker worker) own

@@ -1,4 +1,4 @@
-use Rattle.cv_locked.proofs.ready.Ready.of.Given as goal
+use Rattle.cv_locked.proofs.prepared.PreparedEvent.of.Given as goal
 
 -- the count of steps is of the ledger that was just made
 abbrev pub ghosts-plan_counted : goal.ghosts-plan_counted

@@ -7,9 +7,10 @@ use Rattle.cv_pool.specs.declared.chest.Chest.{Chest}
 use Rattle.cv_pool.specs.declared.seat.Seat.{Seat}
 use Rattle.cv_pool.specs.Jobs.{weigh, weigh_below}
 use Rattle.cv_pool.specs.Hands.{HandState}
-use Rattle.cv_pool.specs.Seats.{seat_deque, seat_jobs, IsSeated, seats_weigh, seats_dealt, any_more}
-use Rattle.cv_pool.specs.Owners.{owner_deque, IsOwner, owners_dealt}
+use Rattle.cv_pool.specs.code.Seats.{seat_deque, seat_jobs, IsSeated, seats_weigh, seats_dealt, any_more}
+use Rattle.cv_pool.specs.code.Owners.{owner_deque, IsOwner, owners_dealt}
 
+-- the state of a hand with these parts
 abbrev pub hand_state : ℕ → ℕ → List Seat → List ℕ → HandState
 hand_state jobs index seats list = record { fill = record { deques = map seat_deque seats; jobs = jobs; dealt = map seat_jobs seats }; index = index; list = list; done = not (any_more seats) }
 
@@ -23,6 +24,7 @@ pub record IsChest (jobs : ℕ) (deques : List ((ℕ × ℕ) × Global)) (kept :
   pub empty : c.lists.items ≡ []
   pub room : length deques ≤ vec_capacity c.lists
 
+-- the chest holds these deques, if there is one
 abbrev pub HasChest : ℕ → List ((ℕ × ℕ) × Global) → Option Chest → Type 0
 HasChest jobs deques None = ⊥
 HasChest jobs deques (Some c) = (kept : ℕ) × IsChest jobs deques kept c

@@ -1,0 +1,8 @@
+use Rattle.cv_hub_tests.proofs.tests.seats.a_learned_note_shows_in_the_next_view.Given as goal
+
+-- the ledger, the list and the limits of the hub that is started
+abbrev pub ghosts-learn_and_view-L-Ledger : goal.ghosts-learn_and_view-L-Ledger
+ghosts-learn_and_view-L-Ledger g a = record { name = a.blank.name; parts = a.blank.parts }
+
+abbrev pub ghosts-learn_and_view-L-Identity : goal.ghosts-learn_and_view-L-Identity
+ghosts-learn_and_view-L-Identity g a = record { book = a.blank.book; limits = a.core.state.limits }
