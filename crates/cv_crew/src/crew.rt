@@ -5,7 +5,7 @@ ghost use Rattle.cv_crew.specs.code.Team.{ArePreparedFrom, EachDidFrom};
 use cv_seq::NoMemory;
 use std::thread::{Threads, join_mut};
 
-/// Work that is done with a hand, a seat and a desk, by many threads with some of their own, each of a number.
+/// Work that threads do beside each other, each with a number, a hand, a seat and a desk of its own.
 pub trait Crew<H, S, K> {
     /// What has to hold before.
     ghost prepared: { Self → ℕ → H → S → K → Type 0 };

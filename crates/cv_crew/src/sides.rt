@@ -7,7 +7,8 @@ use crate::team::{Team, run_team};
 use cv_seq::NoMemory;
 use std::thread::{Threads, join_mut};
 
-/// Does the work of a team beside that of a crew, or before it, if the crew is idle. The first seats are the team's, as many as it has parts, and the others the crew's.
+/// Does the work of a team beside that of a crew, or before it, if the crew is idle. The first seats are the team's, as many as it has
+/// parts, and the others the crew's.
 pub fn run_sides<
     S: Send,
     P: Send,

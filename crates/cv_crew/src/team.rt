@@ -5,7 +5,7 @@ ghost use Rattle.cv_crew.specs.code.Team.{ArePrepared, EachDid};
 use cv_seq::NoMemory;
 use std::thread::{Threads, join_mut};
 
-/// Work that is done at a seat and a part, by many threads at seats and parts of their own.
+/// Work that threads do beside each other, each at a seat and a part of its own.
 pub trait Team<S, P> {
     /// What has to hold before.
     ghost prepared: { Self → S → P → Type 0 };

@@ -13,10 +13,10 @@ use cv_transcript::Entry;
 use std::alloc::Global;
 
 /// The entries of the refused lines, and the requests, each in input order.
-pub fn part(alloc: Global, taken: Vec<Taken>) -> Result<(Vec<Entry>, Vec<Requested>), NoMemory>
+pub fn divide(alloc: Global, taken: Vec<Taken>) -> Result<(Vec<Entry>, Vec<Requested>), NoMemory>
     requires sound { AllByRecursion IsSoundTaken taken.items }
     ensures refused { IfOk result (λ parts. parts.0.items ≡ refusals taken.items) }
-    ensures asked { IfOk result (λ parts. parts.1.items ≡ requests taken.items) }
+    ensures requests { IfOk result (λ parts. parts.1.items ≡ requests taken.items) }
     ensures sound { IfOk result (λ parts. AllByRecursion IsSoundRequest parts.1.items) }
 {
     let mut refused = Vec::new(alloc);

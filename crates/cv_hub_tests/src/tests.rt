@@ -211,7 +211,7 @@ fn are_numbered<L: Identity>(index: u64, seats: &[Seat<SampleDesk, L>]) -> bool
     match seats.split_first() {
         None => true,
         Some((first, rest)) => {
-            first.number() == index && index < u64::MAX && are_numbered(index + 1, rest)
+            first.index() == index && index < u64::MAX && are_numbered(index + 1, rest)
         }
     }
 }

@@ -142,7 +142,7 @@ fn added<W: Wait, D: Desk, L: Identity>(
     requires replayed { IsReplayed D.tree L.limits (front.now ++ submission_of deed.now ∷ []) }
     ensures { result ≡ front.now ++ submission_of deed.now ∷ [] }
 {
-    let _index = seat.number();
+    let _index = seat.index();
     for _ in rt.forever() {
         if let Some(next) = front.add(head, deed) {
             return next;

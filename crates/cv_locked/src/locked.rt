@@ -165,7 +165,7 @@ fn enter<W: Wait, D: Desk + Drop, L: Identity>(
     } = prepared;
     let _facts = events.front.len();
     let deed = Deed {
-        seat: seat.number(),
+        seat: seat.index(),
         by,
         event,
         reply: Snapshot::of(&reply),

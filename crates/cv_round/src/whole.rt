@@ -12,7 +12,7 @@ ghost use Rattle.cv_round.specs.code.Ran.{RoundRan};
 
 use crate::round::run_all;
 use cv_base::Digest;
-use cv_dealing::{Lane, joined, lanes_of, part, reads_of};
+use cv_dealing::{Lane, divide, joined, lanes_of, reads_of};
 use cv_desk::Desk;
 use cv_legal::{Requested, Taken};
 use cv_merge::merge;
@@ -47,7 +47,7 @@ pub fn run_round<D: Desk + Drop + Send + Sync, L: Identity + Send + Sync, W: Thr
     ensures room { OnOk result (AllByRecursion (λ desk. D.listings desk ≤ 2 ^ 62 + length hub.new) desks.new) }
 {
     let queue = hub.queued(rt, alloc)?;
-    let (refused, asked) = part(alloc, taken)?;
+    let (refused, asked) = divide(alloc, taken)?;
     let (events, lanes) = run_parts(rt, alloc, hub, queue.as_slice(), asked, seats, desks)?;
     let reads = reads_of(alloc, lanes)?;
     let others = merge(alloc, Seq::of(events), reads)?;

@@ -57,9 +57,9 @@ impl<D: Desk, L: Identity> Seat<D, L> {
         }
     }
 
-    /// Its number, from 0.
-    pub fn number(&self) -> u64
-        ensures number { result ≡ self.now.index }
+    /// Its index among the seats of its hub.
+    pub fn index(&self) -> u64
+        ensures index { result ≡ self.now.index }
         ensures numbered { self.now.index < L.parts }
     {
         self.index

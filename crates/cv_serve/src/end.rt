@@ -12,13 +12,13 @@ pub enum ServeEnd {
     Done,
     /// The input could not be read. The round that had begun was not run.
     ReadFault,
-    /// The output could not be written. Lines of a round may be missing.
+    /// The output could not be written. Lines of the last round may be missing.
     WriteFault,
-    /// A line of the input is longer than 67,108,864 bytes.
+    /// A line of the input is longer than 67,108,864 bytes. The round that had begun was not run.
     LineTooLong,
-    /// The input has 2^36 bytes or more.
+    /// The input has 2^36 bytes or more. The round that had begun was not run.
     InputTooLong,
-    /// Memory ran out. Lines of a round, or all of them, may be missing.
+    /// Memory ran out. Some lines of the last round, or all of them, may be missing.
     NoMemory,
 }
 

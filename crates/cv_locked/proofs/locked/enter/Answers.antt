@@ -9,7 +9,7 @@ use Rattle.cv_locked.proofs.locked.enter.Goals as goal
 
 pub add-requires-clause-replayed : goal.add-requires-clause-replayed
 add-requires-clause-replayed g c =
-    let event : Submission = record { seat = c.number.result; by = c.args.by; act = act_of c.args.prepared.event.value; reply = c.of.result.value } in
+    let event : Submission = record { seat = c.index.result; by = c.args.by; act = act_of c.args.prepared.event.value; reply = c.of.result.value } in
     let list = c.args.events.list in
     let before : IsReplayed g.D.Desk.tree g.L.Identity.limits list = subst (IsReplayed g.D.Desk.tree g.L.Identity.limits) (ap (λ s. s.list) c.events.view_is) c.len-facts.ensures.replayed in
     replayed_more g.D.Desk.tree g.L.Identity.limits list event before
@@ -17,7 +17,7 @@ add-requires-clause-replayed g c =
 
 pub invariant_of-result : goal.invariant_of-result
 invariant_of-result g c =
-    let event : Submission = record { seat = c.number.result; by = c.args.by; act = act_of c.args.prepared.event.value; reply = c.of.result.value } in
+    let event : Submission = record { seat = c.index.result; by = c.args.by; act = act_of c.args.prepared.event.value; reply = c.of.result.value } in
     let core = ap (λ end. end.0) c.commit-core.ensures in
     rw (c.add.ensures.list, core) (planned_after g.D.Desk.tree g.L.Identity.limits c.args.events.list c.args.prepared.planned.before event c.args.prepared.planned c.requires.after c.requires.prepared.count_is c.requires.prepared.stepped)
 
@@ -28,7 +28,7 @@ returns-clause-applied g c =
     let front : c.again-front.result ≡ c.add.new.self.list = c.again-front.ensures ∙ ap (λ s. s.list) c.events-2.view_is in
     let added : c.of-2.result ≡ c.add.new.self.list = c.of-2.ensures ∙ front in
     let event : Submission = record { seat = c.args.seat.now.index; by = c.args.by; act = act_of c.args.prepared.event.value; reply = c.commit-core.result.1 } in
-    let is : c.add.new.self.list ≡ list ++ event ∷ [] = cc (c.add.ensures.list, c.number.ensures.number, replied) in
+    let is : c.add.new.self.list ≡ list ++ event ∷ [] = cc (c.add.ensures.list, c.index.ensures.index, replied) in
     record {
       number_is = c.len.ensures.length ∙ (ap length (front ∙ is) ∙ length-append list (event ∷ []));
       at_most_2_63 = rw c.len.ensures.length c.len.ensures.at_most_2_63_events;

@@ -1,7 +1,7 @@
 -- Those taken so far, apart.
 use Rattle.std.specs.Prelude.{◌≡◌}
 use Rattle.cv_legal.specs.Taken.{refusals, requests}
-use Rattle.cv_dealing.proofs.dealing.part.Given as goal
+use Rattle.cv_dealing.proofs.dealing.divide.Given as goal
 
 abbrev pub invariant-loop-line : goal.invariant-loop-line
 invariant-loop-line l = record {

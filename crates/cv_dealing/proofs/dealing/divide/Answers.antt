@@ -3,7 +3,7 @@ use Rattle.std.proofs.Common.{ap, rules, ◌∙◌}
 use Rattle.std.proofs.IntoIterSteps.{All-taken}
 use Rattle.cv_legal.specs.Taken.{requests}
 use Rattle.cv_dealing.proofs.DealLemmas.{one_asked, one_refused, sound_asked}
-use Rattle.cv_dealing.proofs.dealing.part.Goals as goal
+use Rattle.cv_dealing.proofs.dealing.divide.Goals as goal
 
 pub loop-line-preserved-in-Continue-1 : goal.loop-line-preserved-in-Continue-1
 loop-line-preserved-in-Continue-1 c =
