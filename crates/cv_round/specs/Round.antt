@@ -8,7 +8,8 @@ use Rattle.cv_legal.specs.Parts.{events_by}
 use Rattle.cv_legal.specs.Replay.{Moment}
 pub use Rattle.cv_dealing.specs.Sound.{IsSoundAnswer, IsSoundRequest, IsSoundTaken}
 use Rattle.cv_workers.specs.Events.{state_of}
-use Rattle.cv_workers.specs.Seats.{AreAllReceipts, AreNumbered, SeatView, Submission}
+use Rattle.cv_workers.specs.Seats.{AreAllReceipts, AreNumbered, SeatView}
+use Rattle.cv_workers.specs.Submissions.{Submission}
 pub use Rattle.cv_workers.specs.Counts.{RoseBy, fault_count, grant_count, is_fault}
 
 -- the moment after the events of a list

@@ -9,7 +9,7 @@ use Rattle.cv_machine.specs.Step.{step}
 use Rattle.cv_machine.specs.declared.act.WholeAct.{WholeAct}
 use Rattle.cv_machine.specs.declared.limits.Limits.{Limits}
 use Rattle.cv_seats.specs.Events.{DeskTrees, state_of}
-pub use Rattle.cv_seats.specs.declared.submission.Submission.{Submission}
+use Rattle.cv_seats.specs.declared.submission.Submission.{Submission}
 
 -- the number of a seat, from 0; what it has seen of the list; how many receipts it got
 pub record SeatView : Type 0 where

@@ -91,7 +91,7 @@ fn viewed<L: Identity, W: Wait>(
 
 fn is_pending(report: &Result<Report<'_>, ReportRefusal<'_>>) -> bool {
     match report {
-        Err(ReportRefusal::Pending(found)) => *found == &layer(),
+        Err(ReportRefusal::Pending(found)) => *found == layer(),
         _ => false,
     }
 }

@@ -3,7 +3,7 @@ use Rattle.std.specs.Prelude.{◌≡◌, ℕ, ◌+◌, ◌==◌, ◌⊎◌, cond
 use Rattle.cv_records.specs.declared.event.EventEntry.{EventEntry}
 use Rattle.cv_machine.specs.History.{event_entry}
 use Rattle.cv_hub.specs.Seats.{SeatView}
-pub use Rattle.cv_seats.specs.declared.submission.Submission.{Submission}
+pub use Rattle.cv_lanes.specs.Submissions.{Submission}
 
 -- an event with its number in the list
 pub record Placed : Type 0 where
