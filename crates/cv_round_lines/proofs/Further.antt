@@ -19,6 +19,7 @@ use Rattle.cv_legal.specs.declared.limits.TheConstants.{MAX_ROUND_BYTES, MAX_ROU
 use Rattle.cv_legal.specs.declared.taken.Taken.{Taken}
 use Rattle.cv_legal.proofs.Serving.{ends_round, takes_line}
 use Rattle.cv_round.specs.Round.{DesksCounted}
+use Rattle.cv_round_lines.specs.Begun.{RoundView, no_lines}
 use Rattle.cv_round_lines.specs.Further.{Further}
 use Rattle.cv_round_lines.specs.code.Parts.{RoundRun}
 use Rattle.cv_round_lines.specs.Printed.{HasTag}
@@ -96,14 +97,13 @@ same_length [] (t ∷ ts) h = absurd h
 same_length (line ∷ lines) [] h = absurd h
 
 -- a round was run, and this is the one that has begun now
-pub runs_to : {D : Type 0} (trees : Trees) (workers : ℕ) (listings faults : D → ℕ) (cut to : Cut) (last : ℕ) (taken begun : List Taken) (bytes none : ℕ) (entries : List Entry) (now after : Moment) (w v : Option (List ℕ)) (l m : List D)
-    → Served trees workers cut last taken bytes entries now → RoundRun trees workers listings faults cut.begun now after w v l m → to ≡ end_round cut → begun ≡ [] → none ≡ 0
-    → Further trees workers listings faults to last begun none entries after w v l m
-runs_to trees workers listings faults cut to last taken begun bytes none entries now after w v l m h r to_is begun_is none_is =
-    subst (λ c. Further trees workers listings faults c last begun none entries after w v l m) (sym to_is)
-    (subst (λ ts. Further trees workers listings faults (end_round cut) last ts none entries after w v l m) (sym begun_is)
-    (subst (λ n. Further trees workers listings faults (end_round cut) last [] n entries after w v l m) (sym none_is)
-    (runs trees workers listings faults cut last taken bytes entries now after w v l m h r)))
+pub runs_to : {D : Type 0} (trees : Trees) (workers : ℕ) (listings faults : D → ℕ) (cut to : Cut) (last : ℕ) (taken : List Taken) (bytes : ℕ) (begun : RoundView) (entries : List Entry) (now after : Moment) (w v : Option (List ℕ)) (l m : List D)
+    → Served trees workers cut last taken bytes entries now → RoundRun trees workers listings faults cut.begun now after w v l m → to ≡ end_round cut → begun ≡ no_lines
+    → Further trees workers listings faults to last begun.taken begun.bytes entries after w v l m
+runs_to trees workers listings faults cut to last taken bytes begun entries now after w v l m h r to_is none =
+    subst (λ c. Further trees workers listings faults c last begun.taken begun.bytes entries after w v l m) (sym to_is)
+    (subst (λ (b : RoundView). Further trees workers listings faults (end_round cut) last b.taken b.bytes entries after w v l m) (sym none)
+    (runs trees workers listings faults cut last taken bytes entries now after w v l m h r))
 
 pub stays_at : {D : Type 0} (trees : Trees) (workers : ℕ) (listings faults : D → ℕ) (cut to : Cut) (last : ℕ) (taken : List Taken) (bytes : ℕ) (entries : List Entry) (now : Moment) (w : Option (List ℕ)) (l : List D)
     → Served trees workers cut last taken bytes entries now → to ≡ cut → Further trees workers listings faults to last taken bytes entries now w w l l

@@ -1,3 +1,4 @@
+mod Ending
 pub mod Further
 mod Queued
 mod Seats

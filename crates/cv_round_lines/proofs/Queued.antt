@@ -8,8 +8,7 @@ use Rattle.cv_machine.specs.Layers.{queued}
 use Rattle.cv_machine.specs.Scans.{Trees}
 use Rattle.cv_legal.specs.Legal.{AreLast}
 use Rattle.cv_legal.specs.Replay.{Moment}
-use Rattle.cv_round_lines.specs.Further.{LastRun}
-use Rattle.cv_round_lines.specs.code.Parts.{RoundRun}
+use Rattle.cv_round_lines.specs.code.Parts.{LastRun, RoundRun}
 use Rattle.cv_round_lines.proofs.Counts.{counts_none}
 
 pub no_layers : (layers : List (List ℕ)) → is_cons layers ≡ false → layers ≡ []

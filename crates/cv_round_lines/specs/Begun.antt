@@ -1,19 +1,24 @@
 -- The round that has begun, and what a service needs to run it.
-use Rattle.std.specs.Prelude.{◌≡◌, ℕ, ◌≤◌, ◌+◌, ◌^◌, List, [], length}
+use Rattle.std.specs.Prelude.{ℕ, ◌≤◌, ◌+◌, ◌^◌, List, [], length}
 use Rattle.std.specs.List.{AllByRecursion}
 use Rattle.cv_base.specs.Lines.{Line}
 use Rattle.cv_hub.specs.Seats.{SeatView}
 use Rattle.cv_seats.specs.declared.submission.Submission.{Submission}
 use Rattle.cv_legal.specs.declared.taken.Taken.{Taken}
-use Rattle.cv_round.specs.Round.{AreRoundSeats, IsSoundTaken}
+use Rattle.cv_round.specs.Round.{AreRoundSeats}
+
+-- what became of the lines of a round that has begun, and how many bytes these lines have
+pub record RoundView : Type 0 where
+  pub taken : List Taken
+  pub bytes : ℕ
+
+-- a round without lines
+abbrev pub no_lines : RoundView
+no_lines = record { taken = []; bytes = 0 }
 
 -- the line of this number
 abbrev pub line_at : ℕ → List ℕ → Line
 line_at number text = record { number = number; text = text }
-
--- a round that has begun: without lines it has no bytes
-abbrev pub IsSoundRound : List Taken → ℕ → Type 0
-IsSoundRound taken bytes = AllByRecursion IsSoundTaken taken × (taken ≡ [] → bytes ≡ 0)
 
 -- the seats of eight lanes and of one worker for each desk have receipts for the events of a list, and each desk can list more layers
 pub record IsPrepared {D : Type 0} (listings : D → ℕ) (parts : ℕ) (list : List Submission) (seats : List SeatView) (desks : List D) : Type 0 where

@@ -4,10 +4,13 @@
 //! ```text
 //! let core = new_core(alloc)?;
 //! let mut service = started::<D, L>(alloc, blank, core, desks.len())?;
+//! let mut round = Round::new(alloc);
 //! take_line(rt, alloc, &mut service, desks, output, &mut round, number, text)?;
+//! end_input(rt, alloc, &mut service, desks, output, round)?;
 //! ```
 #![tactic(auto)]
 
+mod end;
 mod lines;
 mod print;
 mod round;
@@ -16,7 +19,7 @@ mod start;
 
 pub use cv_core::Core;
 pub use cv_hub::{Blank, Identity};
+pub use end::end_input;
 pub use lines::take_line;
-pub use round::{Round, has_lines};
-pub use run::{end_if, end_queued};
+pub use round::Round;
 pub use start::{Service, new_core, started};

@@ -1,5 +1,6 @@
 ghost use Rattle.std.specs.Prelude.{◌≡◌, ℕ, List, ◌+◌, length, OnOk};
 ghost use Rattle.cv_seq.specs.Cause.{CausedBy};
+ghost use Rattle.cv_base.specs.Texts.{is_nil};
 ghost use Rattle.cv_io.specs.Fault.{is_write_fault};
 ghost use Rattle.cv_transcript.specs.declared.entry.Entry.{Entry};
 ghost use Rattle.cv_machine.specs.Scans.{IsKnown, trees_of};
@@ -7,10 +8,10 @@ ghost use Rattle.cv_legal.specs.Rounds.{Cut, cut_line, round_limits};
 ghost use Rattle.cv_legal.specs.Taken.{IsTaken};
 ghost use Rattle.cv_legal.specs.Served.{Served};
 ghost use Rattle.cv_round.specs.Round.{IsSoundTaken, moment_of};
-ghost use Rattle.cv_round_lines.specs.Begun.{IsPrepared, IsSoundRound, line_at};
+ghost use Rattle.cv_round_lines.specs.Begun.{IsPrepared, line_at};
 ghost use Rattle.cv_round_lines.specs.Further.{Further};
 
-use crate::round::{Round, is_blank, is_full, is_too_long, put};
+use crate::round::Round;
 use crate::run::{end_if, write_round};
 use crate::start::Service;
 use cv_desk::Desk;
@@ -39,13 +40,11 @@ pub fn take_line<
     number: u64,
     text: &[u8],
 ) -> Result<(), WriteError>
-    requires sound { IsSoundRound round.old.taken.items round.old.bytes }
     requires prepared { IsPrepared D.listings L.parts service.old.hub service.old.seats.items desks.old }
     ensures further { IsKnown D.tree → (workers : ℕ) → length desks.old ≡ workers → (cut : Cut) (last : ℕ) (entries : List Entry) → number ≡ last + 1
-        → Served (trees_of D.tree) workers cut last round.old.taken.items round.old.bytes entries (moment_of (trees_of D.tree) L.limits service.old.hub)
-        → OnOk result (Further (trees_of D.tree) workers D.listings D.faults (cut_line round_limits cut (line_at number text.now)) number round.new.taken.items round.new.bytes entries (moment_of (trees_of D.tree) L.limits service.new.hub)
+        → Served (trees_of D.tree) workers cut last round.old.taken round.old.bytes entries (moment_of (trees_of D.tree) L.limits service.old.hub)
+        → OnOk result (Further (trees_of D.tree) workers D.listings D.faults (cut_line round_limits cut (line_at number text.now)) number round.new.taken round.new.bytes entries (moment_of (trees_of D.tree) L.limits service.new.hub)
         (K.contents output.old) (K.contents output.new) desks.old desks.new) }
-    ensures sound { OnOk result (IsSoundRound round.new.taken.items round.new.bytes) }
     ensures prepared { OnOk result (IsPrepared D.listings L.parts service.new.hub service.new.seats.items desks.new) }
     ensures cause { CausedBy (K.faults output.old) (K.faults output.new) (is_write_fault result) }
 {
@@ -53,11 +52,18 @@ pub fn take_line<
         return write_round(rt, alloc, service, desks, output, round);
     }
     let bytes = text.len();
-    let long = is_too_long(round, bytes);
+    let long = round.is_too_long(bytes);
     end_if(rt, alloc, service, desks, output, round, long)?;
-    put(round, take(alloc, number, text), bytes)?;
-    let full = is_full(round);
+    round.put(take(alloc, number, text), bytes)?;
+    let full = round.is_full();
     end_if(rt, alloc, service, desks, output, round, full)
+}
+
+/// Whether a line is empty.
+fn is_blank(text: &[u8]) -> bool
+    ensures { result ≡ is_nil text.now }
+{
+    text.is_empty()
 }
 
 /// What becomes of the line of this number.

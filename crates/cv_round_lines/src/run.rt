@@ -1,31 +1,27 @@
-ghost use Rattle.std.specs.Prelude.{◌≡◌, ℕ, List, [], if◌then◌else◌, length, map, string_bytes, IfOk, OnOk};
+ghost use Rattle.std.specs.Prelude.{◌≡◌, ℕ, List, if◌then◌else◌, length, map, string_bytes, IfOk, OnOk};
 ghost use Rattle.std.specs.List.{AllByRecursion, AllZip};
 ghost use Rattle.cv_seq.specs.Cause.{CausedBy};
-ghost use Rattle.cv_base.specs.Texts.{is_cons};
 ghost use Rattle.cv_io.specs.Fault.{is_write_fault};
 ghost use Rattle.cv_transcript.specs.declared.entry.Entry.{Entry};
-ghost use Rattle.cv_machine.specs.Layers.{queued};
 ghost use Rattle.cv_machine.specs.Scans.{IsKnown, trees_of};
-ghost use Rattle.cv_hub.specs.Events.{state_of};
 ghost use Rattle.cv_legal.specs.Rounds.{Cut, Round as Lines, end_round};
 ghost use Rattle.cv_legal.specs.Taken.{IsTaken};
 ghost use Rattle.cv_legal.specs.Served.{LinesAscend, Served};
 ghost use Rattle.cv_round.specs.Round.{IsSoundTaken, moment_of};
-ghost use Rattle.cv_round_lines.specs.Begun.{IsPrepared, IsSoundRound};
-ghost use Rattle.cv_round_lines.specs.Further.{Further, LastRun};
+ghost use Rattle.cv_round_lines.specs.Begun.{IsPrepared, no_lines};
+ghost use Rattle.cv_round_lines.specs.Further.{Further};
 ghost use Rattle.cv_round_lines.specs.code.Parts.{LegalTexts, RoundRun};
 
 use crate::print::{lines_of, write_lines};
 use crate::round::Round;
 use crate::start::Service;
 use cv_desk::Desk;
-use cv_hub::{Hub, Identity};
+use cv_hub::Identity;
 use cv_io::{Sink, WriteError};
 use cv_legal::Taken;
 use cv_round::run_round;
 use cv_seq::NoMemory;
 use std::alloc::Global;
-use std::mem;
 use std::sync::Wait;
 use std::thread::Threads;
 
@@ -44,15 +40,12 @@ pub fn end_if<
     round: &mut Round,
     ends: bool,
 ) -> Result<(), WriteError>
-    requires sound { IsSoundRound round.old.taken.items round.old.bytes }
     requires prepared { IsPrepared D.listings L.parts service.old.hub service.old.seats.items desks.old }
     ensures further { IsKnown D.tree → (workers : ℕ) → length desks.old ≡ workers → (cut : Cut) (last : ℕ) (entries : List Entry)
-        → Served (trees_of D.tree) workers cut last round.old.taken.items round.old.bytes entries (moment_of (trees_of D.tree) L.limits service.old.hub)
-        → OnOk result (Further (trees_of D.tree) workers D.listings D.faults (if ends then end_round cut else cut) last round.new.taken.items round.new.bytes entries (moment_of (trees_of D.tree) L.limits service.new.hub)
+        → Served (trees_of D.tree) workers cut last round.old.taken round.old.bytes entries (moment_of (trees_of D.tree) L.limits service.old.hub)
+        → OnOk result (Further (trees_of D.tree) workers D.listings D.faults (if ends then end_round cut else cut) last round.new.taken round.new.bytes entries (moment_of (trees_of D.tree) L.limits service.new.hub)
         (K.contents output.old) (K.contents output.new) desks.old desks.new) }
-    ensures taken { OnOk result (round.new.taken.items ≡ (if ends then [] else round.old.taken.items)) }
-    ensures bytes { OnOk result (round.new.bytes ≡ (if ends then 0 else round.old.bytes)) }
-    ensures sound { OnOk result (IsSoundRound round.new.taken.items round.new.bytes) }
+    ensures begun { OnOk result (round.new ≡ (if ends then no_lines else round.old)) }
     ensures prepared { OnOk result (IsPrepared D.listings L.parts service.new.hub service.new.seats.items desks.new) }
     ensures cause { CausedBy (K.faults output.old) (K.faults output.new) (is_write_fault result) }
 {
@@ -60,44 +53,6 @@ pub fn end_if<
         return write_round(rt, alloc, service, desks, output, round);
     }
     Ok(())
-}
-
-/// Runs one more round without requests, if a layer is queued.
-pub fn end_queued<
-    K: Sink,
-    D: Desk + Drop + Send + Sync,
-    L: Identity + Send + Sync,
-    W: Threads + Wait + Sync,
->(
-    rt: &W,
-    alloc: Global,
-    service: &mut Service<D, L>,
-    desks: &mut [D],
-    output: &mut K,
-    round: &mut Round,
-) -> Result<(), WriteError>
-    requires none { round.old.taken.items ≡ [] }
-    requires prepared { IsPrepared D.listings L.parts service.old.hub service.old.seats.items desks.old }
-    ensures further { IsKnown D.tree → (workers : ℕ) → length desks.old ≡ workers → OnOk result (LastRun (trees_of D.tree) workers D.listings D.faults (moment_of (trees_of D.tree) L.limits service.old.hub) (moment_of (trees_of D.tree) L.limits service.new.hub)
-        (K.contents output.old) (K.contents output.new) desks.old desks.new) }
-    ensures cause { CausedBy (K.faults output.old) (K.faults output.new) (is_write_fault result) }
-{
-    if !is_some_queued(rt, alloc, &service.hub)? {
-        return Ok(());
-    }
-    write_round(rt, alloc, service, desks, output, round)
-}
-
-/// Whether a layer is queued.
-fn is_some_queued<D: Desk + Drop, L: Identity, W: Wait>(
-    rt: &W,
-    alloc: Global,
-    hub: &Hub<D, L>,
-) -> Result<bool, NoMemory>
-    ensures { IsKnown D.tree → IfOk result (λ found. found ≡ is_cons (queued (state_of (trees_of D.tree) L.limits hub.now).layers)) }
-{
-    let layers = hub.queued(rt, alloc)?;
-    Ok(!layers.as_slice().is_empty())
 }
 
 /// Runs the round that has begun, and writes its lines. The next round has no lines yet.
@@ -114,18 +69,15 @@ pub fn write_round<
     output: &mut K,
     round: &mut Round,
 ) -> Result<(), WriteError>
-    requires sound { AllByRecursion IsSoundTaken round.old.taken.items }
     requires prepared { IsPrepared D.listings L.parts service.old.hub service.old.seats.items desks.old }
-    ensures ran { IsKnown D.tree → (workers : ℕ) → length desks.old ≡ workers → (lines : Lines) (last : ℕ) → AllZip IsTaken lines round.old.taken.items → LinesAscend lines last
+    ensures ran { IsKnown D.tree → (workers : ℕ) → length desks.old ≡ workers → (lines : Lines) (last : ℕ) → AllZip IsTaken lines round.old.taken → LinesAscend lines last
         → OnOk result (RoundRun (trees_of D.tree) workers D.listings D.faults lines (moment_of (trees_of D.tree) L.limits service.old.hub) (moment_of (trees_of D.tree) L.limits service.new.hub)
         (K.contents output.old) (K.contents output.new) desks.old desks.new) }
-    ensures begins { round.new.taken.items ≡ [] }
-    ensures bytes { round.new.bytes ≡ 0 }
+    ensures begins { round.new ≡ no_lines }
     ensures prepared { OnOk result (IsPrepared D.listings L.parts service.new.hub service.new.seats.items desks.new) }
     ensures cause { CausedBy (K.faults output.old) (K.faults output.new) (is_write_fault result) }
 {
-    let taken = mem::replace(&mut round.taken, Vec::new(alloc));
-    round.bytes = 0;
+    let taken = round.take_all(alloc);
     let lines = round_lines(rt, alloc, service, desks, taken)?;
     write_lines(output, lines.as_slice())
 }

@@ -12,7 +12,7 @@ ghost use Rattle.cv_round_lines.specs.Core.{opened};
 ghost use Rattle.cv_round_lines.specs.Round.{moment_of};
 ghost use Rattle.cv_serve.specs.code.Ends.{end_of, is_read_stop, is_write_stop};
 ghost use Rattle.cv_serve.specs.Served.{FitsInput, IsServed, TakesUpTo};
-ghost use Rattle.cv_round_lines.specs.Begun.{IsPrepared, IsSoundRound};
+ghost use Rattle.cv_round_lines.specs.Begun.{IsPrepared};
 ghost use Rattle.cv_serve.specs.code.Reading.{Done, HasReadAll, StopsLines};
 ghost use Rattle.cv_serve.specs.declared.end.Stop.TheVariants as stop;
 
@@ -22,8 +22,7 @@ use cv_desk::Desk;
 use cv_io::{Line, LineReader, Sink, Source};
 use cv_request::MAX_LANES;
 use cv_round_lines::{
-    Blank, Core, Identity, Round, Service, end_if, end_queued, has_lines, new_core, started,
-    take_line,
+    Blank, Core, Identity, Round, Service, end_input, new_core, started, take_line,
 };
 use cv_scan_input::{MAX_INPUT, MAX_LINE};
 use std::alloc::Global;
@@ -153,15 +152,10 @@ fn serve_by<
 {
     completeness_laws();
     let mut reader = LineReader::new(alloc, MAX_LINE, MAX_INPUT)?;
-    let mut round = Round {
-        taken: Vec::new(alloc),
-        bytes: 0,
-    };
+    let mut round = Round::new(alloc);
     let lines = &mut reader;
     read_lines(rt, alloc, service, desks, input, output, lines, &mut round)?;
-    let begun = has_lines(&round);
-    end_if(rt, alloc, service, desks, output, &mut round, begun)?;
-    Ok(end_queued(rt, alloc, service, desks, output, &mut round)?)
+    Ok(end_input(rt, alloc, service, desks, output, round)?)
 }
 
 /// Reads all lines, and runs each round that ends before the end of the input.
@@ -186,18 +180,16 @@ fn read_lines<
     requires input { room_of reader.old ≤ 2 ^ 36 }
     requires limits { (reader.old.max_line ≡ 67108864) × (reader.old.max_input ≡ 2 ^ 36) }
     requires fresh { (reader.old.held ≡ []) × (reader.old.taken ≡ 0) }
-    requires sound { IsSoundRound round.old.taken.items round.old.bytes }
     requires prepared { IsPrepared D.listings L.parts service.old.hub service.old.seats.items desks.old }
     ensures lines { OnOk result ((texts : List (List ℕ)) × HasReadAll (reading reader.old (S.remaining input.old)) texts
         × (IsKnown D.tree → (workers : ℕ) → length desks.old ≡ workers
-        → Done (trees_of D.tree) workers D.listings D.faults [] round.old.taken.items round.old.bytes (moment_of (trees_of D.tree) L.limits service.old.hub) (K.contents output.old) (K.contents output.old) desks.old desks.old
-        → Done (trees_of D.tree) workers D.listings D.faults texts round.new.taken.items round.new.bytes (moment_of (trees_of D.tree) L.limits service.new.hub) (K.contents output.old) (K.contents output.new) desks.old desks.new)) }
+        → Done (trees_of D.tree) workers D.listings D.faults [] round.old.taken round.old.bytes (moment_of (trees_of D.tree) L.limits service.old.hub) (K.contents output.old) (K.contents output.old) desks.old desks.old
+        → Done (trees_of D.tree) workers D.listings D.faults texts round.new.taken round.new.bytes (moment_of (trees_of D.tree) L.limits service.new.hub) (K.contents output.old) (K.contents output.new) desks.old desks.new)) }
     ensures stops { IfSome (reading reader.old (S.remaining input.old)) (λ whole. StopsLines whole.stop result) }
     ensures front { TakesUpTo (S.remaining input.old) (S.remaining input.new) (end_of result) }
     ensures limit { IsTakenFrom reader.old.taken (S.remaining input.old) (S.remaining input.new) }
     ensures taken { IsErrOf result (stop.Input line.InputTooLong) → IsTakenTo reader.old.taken (2 ^ 36) (S.remaining input.old) (S.remaining input.new) }
     ensures ended { OnOk result (IsAtEnd (S.remaining input.new)) }
-    ensures sound { OnOk result (IsSoundRound round.new.taken.items round.new.bytes) }
     ensures prepared { OnOk result (IsPrepared D.listings L.parts service.new.hub service.new.seats.items desks.new) }
     ensures read_cause { CausedBy (S.faults input.old) (S.faults input.new) (is_read_stop result) }
     ensures write_cause { CausedBy (K.faults output.old) (K.faults output.new) (is_write_stop result) }

@@ -8,8 +8,8 @@ use Rattle.cv_round_lines.proofs.run.end_if.Goals as goal
 pub returns-then-ends-clause-further : goal.returns-then-ends-clause-further
 returns-then-ends-clause-further g c = λ known workers many cut last entries served.
     on_ok c.write_round.result
-    (λ ran. runs_to (trees_of g.D.Desk.tree) workers g.D.Desk.listings g.D.Desk.faults cut (if c.args.ends then end_round cut else cut) last c.args.round.now.taken.items _ c.args.round.now.bytes _ entries _ _ _ _ _ _ served ran
-    (ap (λ b. if b then end_round cut else cut) c.if-ends.true) c.write_round.ensures.begins c.write_round.ensures.bytes)
+    (λ ran. runs_to (trees_of g.D.Desk.tree) workers g.D.Desk.listings g.D.Desk.faults cut (if c.args.ends then end_round cut else cut) last c.args.round.now.taken c.args.round.now.bytes _ entries _ _ _ _ _ _ served ran
+    (ap (λ b. if b then end_round cut else cut) c.if-ends.true) c.write_round.ensures.begins)
     (c.write_round.ensures.ran known workers many cut.begun last served.begun served.ascend)
 
 pub returns-clause-further : goal.returns-clause-further

@@ -9,7 +9,7 @@ use Rattle.cv_round_lines.proofs.run.write_round.Goals as goal
 
 pub returns-clause-ran : goal.returns-clause-ran
 returns-clause-ran g c = λ known workers many lines last read ascend.
-    let texts = c.in_ok-lines.ensures.legal known workers many lines last (subst (λ taken. AllZip IsTaken lines taken.items) (sym c.replace-taken.ensures.value) read) ascend in
+    let texts = c.in_ok-lines.ensures.legal known workers many lines last (subst (AllZip IsTaken lines) (sym c.take_all-taken.ensures.taken) read) ascend in
     let same = ap (λ all. flat_map (λ line. string_bytes line) all) c.as_slice.ensures.value ∙ same_bytes (λ line. string_bytes line) c.in_ok-lines.lines.items texts.entries texts.printed in
     on_ok c.write_lines.result
     (λ written. record {

@@ -5,7 +5,7 @@ use Rattle.cv_io.specs.Reader.{reading, room_of}
 use Rattle.cv_scan_input.specs.code.TakenParts.{IsTakenTo}
 use Rattle.cv_machine.specs.Scans.{IsKnown, trees_of}
 use Rattle.cv_round_lines.specs.Round.{moment_of}
-use Rattle.cv_round_lines.specs.Begun.{IsPrepared, IsSoundRound}
+use Rattle.cv_round_lines.specs.Begun.{IsPrepared}
 use Rattle.cv_serve.specs.code.Reading.{AreTaken, Done, HasRead}
 use Rattle.cv_serve.proofs.service.read_lines.Given as goal
 
@@ -14,12 +14,11 @@ invariant-loop-text g l = record {
   going : l.reader.spent ≡ false;
   lines : (texts : List (List ℕ)) × (length texts ≡ l.number) × HasRead (reading l.fn.reader (g.S.Source.remaining l.fn.input)) (reading l.reader (g.S.Source.remaining l.input)) texts
       × (IsKnown g.D.Desk.tree → (workers : ℕ) → length l.fn.desks ≡ workers
-      → Done (trees_of g.D.Desk.tree) workers g.D.Desk.listings g.D.Desk.faults [] l.fn.round.taken.items l.fn.round.bytes (moment_of (trees_of g.D.Desk.tree) g.L.Identity.limits l.fn.service.hub) (g.K.Sink.contents l.fn.output) (g.K.Sink.contents l.fn.output) l.fn.desks l.fn.desks
-      → Done (trees_of g.D.Desk.tree) workers g.D.Desk.listings g.D.Desk.faults texts l.round.taken.items l.round.bytes (moment_of (trees_of g.D.Desk.tree) g.L.Identity.limits l.service.hub) (g.K.Sink.contents l.fn.output) (g.K.Sink.contents l.output) l.fn.desks l.desks);
+      → Done (trees_of g.D.Desk.tree) workers g.D.Desk.listings g.D.Desk.faults [] l.fn.round.taken l.fn.round.bytes (moment_of (trees_of g.D.Desk.tree) g.L.Identity.limits l.fn.service.hub) (g.K.Sink.contents l.fn.output) (g.K.Sink.contents l.fn.output) l.fn.desks l.fn.desks
+      → Done (trees_of g.D.Desk.tree) workers g.D.Desk.listings g.D.Desk.faults texts l.round.taken l.round.bytes (moment_of (trees_of g.D.Desk.tree) g.L.Identity.limits l.service.hub) (g.K.Sink.contents l.fn.output) (g.K.Sink.contents l.output) l.fn.desks l.desks);
   seen : l.reader.ended ≡ true → IsAtEnd (g.S.Source.remaining l.input);
   limits : (l.reader.max_line ≡ 67108864) × (l.reader.max_input ≡ 2 ^ 36);
   taken : IsTakenTo l.fn.reader.taken l.reader.taken (g.S.Source.remaining l.fn.input) (g.S.Source.remaining l.input);
-  sound : IsSoundRound l.round.taken.items l.round.bytes;
   prepared : IsPrepared g.D.Desk.listings g.L.Ledger.parts l.service.hub l.service.seats.items l.desks;
   count : length l.desks ≡ length l.fn.desks;
   given : AreTaken l.reader (g.S.Source.remaining l.fn.input) (g.S.Source.remaining l.input);

@@ -9,6 +9,7 @@ use Rattle.cv_legal.specs.Replay.{beginning}
 use Rattle.cv_legal.specs.Rounds.{cut_lines, round_limits}
 use Rattle.cv_legal.specs.Served.{Served}
 use Rattle.cv_legal.proofs.Serving.{begins}
+use Rattle.cv_round_lines.specs.Begun.{RoundView}
 use Rattle.cv_round_lines.specs.Round.{moment_of}
 use Rattle.cv_serve.specs.Served.{IsServed}
 use Rattle.cv_serve.specs.code.Reading.{Done, HasReadAll}
@@ -34,18 +35,17 @@ returns-clause-done g c = λ known.
     let start : Done trees workers listings faults [] [] 0 now written written desks desks =
     stays trees workers listings faults (cut_lines round_limits []) 0 [] 0 [] now written desks
     (subst (λ m. Served trees workers (cut_lines round_limits []) 0 [] 0 [] m) (sym begin) (begins trees workers round_limits)) in
-    let first = subst (λ taken. Done trees workers listings faults [] taken 0 now written written desks desks) (sym c.new-2.ensures.items) start in
+    let first = subst (λ (r : RoundView). Done trees workers listings faults [] r.taken r.bytes now written written desks desks) (sym c.new-round.ensures) start in
     let done = lines.2 known workers refl first in
-    let ended = c.in_ok-end_if.ensures.further known workers c.read_lines.auto.desks (cut_lines round_limits (numbered 1 texts)) (length texts) done.more done.served in
+    let ended = c.in_ok-end_input.ensures.legal known workers c.read_lines.auto.desks (cut_lines round_limits (numbered 1 texts)) (length texts) done.more done.served in
     let all = subst (λ r. HasReadAll (reading r remaining) texts) c.in_ok-reader.ensures.value lines.1 in
     let laws : Laws = record {
       indexed = c.completeness_laws.ensures.indexed;
       divided = c.completeness_laws.ensures.divided;
       pending = c.completeness_laws.ensures.pending;
     } in
-    let last = c.in_ok-end_queued.ensures.further known workers (c.end_if.auto.desks ∙ c.read_lines.auto.desks) in
-    reads_input (λ bytes. IsServed trees workers listings faults bytes written (g.K.Sink.contents c.end_queued.new.output) desks c.end_queued.new.desks) remaining texts all
-    (λ bytes e. all_served laws trees workers listings faults bytes texts (length texts) _ _ _ _ c.has_lines-begun.result _ _ _ written _ _ _ desks _ _ _ e refl done c.has_lines-begun.ensures ended last)
+    reads_input (λ bytes. IsServed trees workers listings faults bytes written (g.K.Sink.contents c.end_input.new.output) desks c.end_input.new.desks) remaining texts all
+    (λ bytes e. all_served laws trees workers listings faults bytes texts _ _ _ _ written _ _ desks _ _ e refl done ended)
 
 pub returns-clause-input : goal.returns-clause-input
 returns-clause-input g c =
