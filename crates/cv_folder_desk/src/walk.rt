@@ -1,5 +1,5 @@
-ghost use Rattle.std.specs.Prelude.{◌≡◌, ◌≢◌, ◌≤◌, ◌<◌, ◌+◌, ◌++◌, ◌∷◌, [], true, false, length, string_bytes, IfOk, IfErr, IfSome, IsErr, OnOk, Ok, Some, None};
-ghost use Rattle.std.specs.Fs.{IsDir, IsFile, file_type, metadata_len};
+ghost use Rattle.std.specs.Prelude.{◌≡◌, ◌≢◌, ◌≤◌, ◌<◌, ◌+◌, ◌++◌, ◌∷◌, [], true, false, is_some, length, string_bytes, IfOk, IfErr, IfSome, IsErr, OnOk, Ok, Some, None};
+ghost use Rattle.std.specs.Fs.{IsDir, IsFile, dir_entry_name, file_type, metadata_len};
 ghost use Rattle.std.specs.List.{join_with_byte};
 ghost use Rattle.std.specs.List.Sorted.{IsPermutation, IsSortedByKey};
 ghost use Rattle.std.specs.IoError.{error_kind};
@@ -13,7 +13,7 @@ use cv_base::{Digest, Kind, ListEntry, MAX_ENTRIES, PathError, RelPath};
 use cv_desk::FileRead;
 use cv_seq::{NoMemory, Seq};
 use std::alloc::Global;
-use std::fs::{self, DirEntry, Metadata};
+use std::fs::{self, DirEntry, Metadata, ReadDir};
 use std::io::{self, ErrorKind};
 use std::rt::Files;
 
@@ -31,10 +31,27 @@ pub fn list_folder<R: Files + AllocGlobal + Clone + Drop>(
 {
     let folder = folder_of(alloc, layer)?;
     let found = rt.symlink_metadata(folder.as_str());
-    if !is_layer(alloc, folder.as_str(), found)? {
+    list_found(rt, alloc, folder.as_str(), found)
+}
+
+/// Lists the entries below a layer's folder, by the system's answer about it.
+fn list_found<R: Files + AllocGlobal + Clone + Drop>(
+    rt: &R,
+    alloc: Global,
+    folder: &str,
+    found: io::Result<Metadata>,
+) -> Result<Option<Seq<ListEntry>>, FolderError>
+    ensures folder { IfOk found (λ at. IsDir (file_type at) → IfOk result (λ entries. is_some entries ≡ true)) }
+    ensures no_folder { IfOk found (λ at. ¬ IsDir (file_type at) → IsErr result) }
+    ensures absent { IfErr found (λ error. error_kind error ≡ ErrorKind.NotFound → result ≡ Ok None) }
+    ensures error { IfErr found (λ error. error_kind error ≢ ErrorKind.NotFound → IsErr result) }
+    ensures sorted { IfOk result (λ found. IfSome found (λ entries. IsSortedByKey (λ entry. entry.path) path_cmp entries)) }
+    ensures at_most { IfOk result (λ found. IfSome found (λ entries. length entries ≤ most_entries)) }
+{
+    if !is_layer(alloc, folder, found)? {
         return Ok(None);
     }
-    let mut entries = walk(rt, alloc, folder.as_str())?;
+    let mut entries = walk(rt, alloc, folder)?;
     sort(&mut entries);
     Ok(Some(Seq::of(entries)))
 }
@@ -117,8 +134,8 @@ fn list_all<R: Files + AllocGlobal + Clone + Drop>(
     Ok(())
 }
 
-/// Adds the entries right in one folder, and its folders to those that remain to be listed. Returns whether all were added;
-/// else the walk has all the entries that it may have.
+/// Adds the entries right in one folder of a layer, and its folders to those that remain to be listed. Returns whether all were
+/// added; else the walk has all the entries that it may have.
 fn list_one<R: Files + AllocGlobal + Clone + Drop>(
     rt: &R,
     alloc: Global,
@@ -134,15 +151,31 @@ fn list_one<R: Files + AllocGlobal + Clone + Drop>(
     ensures full { IfOk result (λ whole. whole ≡ false → length entries.new.items ≡ most_entries) }
 {
     let place = joined(alloc, folder, path.text())?;
-    let found = match fs::read_dir(rt, place.as_str()) {
-        Ok(found) => found,
-        Err(error) => return Err(failure(alloc, place.as_str(), error)),
-    };
-    for entry in found {
+    let found = fs::read_dir(rt, place.as_str());
+    add_found(alloc, place.as_str(), path, found, entries, folders)
+}
+
+/// The same, by the system's answer about the folder at `place`.
+fn add_found<R: Files + Clone + Drop>(
+    alloc: Global,
+    place: &str,
+    path: &RelPath,
+    found: io::Result<ReadDir<R>>,
+    entries: &mut Vec<ListEntry>,
+    folders: &mut Vec<RelPath>,
+) -> Result<bool, FolderError>
+    requires within { length entries.old.items ≤ most_entries }
+    ensures error { IfErr found (λ error. IsErr result) }
+    ensures at_most { OnOk result (length entries.new.items ≤ most_entries) }
+    ensures more { OnOk result (length entries.old.items ≤ length entries.new.items) }
+    ensures folders { OnOk result (length folders.new.items + length entries.old.items ≤ length folders.old.items + length entries.new.items) }
+    ensures full { IfOk result (λ whole. whole ≡ false → length entries.new.items ≡ most_entries) }
+{
+    for entry in answer_at(alloc, place, found)? {
         if entries.len() >= MOST_ENTRIES {
             return Ok(false);
         }
-        let entry = read_entry(alloc, place.as_str(), path, entry)?;
+        let entry = read_entry(alloc, place, path, entry)?;
         add(entries, folders, entry)?;
     }
     Ok(true)
@@ -167,22 +200,21 @@ fn add(
     Ok(())
 }
 
-/// The entry of a layer at what the system found in a folder.
+/// The entry of a layer at what the system found in the folder at a path of the layer. `place` names the folder in a failure.
 fn read_entry<R: Files + Drop>(
     alloc: Global,
     place: &str,
     path: &RelPath,
     found: io::Result<DirEntry<R>>,
-) -> Result<ListEntry, FolderError> {
-    let entry = match found {
-        Ok(entry) => entry,
-        Err(error) => return Err(failure(alloc, place, error)),
-    };
+) -> Result<ListEntry, FolderError>
+    ensures path { IfOk found (λ entry. IfOk result (λ listed. path_of (joined (join_with_byte 47 path.now) (dir_entry_name entry)) ≡ Ok listed.path)) }
+    ensures error { IfErr found (λ error. IsErr result) }
+{
+    let entry = answer_at(alloc, place, found)?;
     let name = joined(alloc, path.text(), entry.file_name())?;
-    match entry.metadata() {
-        Ok(at) => listed(alloc, entry.path().as_str(), name.as_str(), &at),
-        Err(error) => Err(failure(alloc, entry.path().as_str(), error)),
-    }
+    let place = entry.path().as_str();
+    let at = answer_at(alloc, place, entry.metadata())?;
+    listed(alloc, place, name.as_str(), &at)
 }
 
 /// The entry at a path of a layer, by the system's metadata. `place` names it in a failure.
@@ -222,17 +254,12 @@ pub fn read_file<R: Files + AllocGlobal + Clone + Drop>(
     ensures { IfOk result (λ read. IsWithin limit read) }
 {
     let place = place_of(alloc, layer, path)?;
-    let at = match rt.symlink_metadata(place.as_str()) {
-        Ok(at) => at,
-        Err(error) => return Err(failure(alloc, place.as_str(), error)),
-    };
-    if let Some(refused) = refused(&at, limit) {
+    let found = rt.symlink_metadata(place.as_str());
+    if let Some(refused) = refused(alloc, place.as_str(), found, limit)? {
         return Ok(refused);
     }
-    match fs::read(rt, place.as_str()) {
-        Ok(bytes) => Ok(within(bytes, limit)),
-        Err(error) => Err(failure(alloc, place.as_str(), error)),
-    }
+    let found = fs::read(rt, place.as_str());
+    read_found(alloc, place.as_str(), found, limit)
 }
 
 /// The path of a layer's entry below the working directory.
@@ -243,31 +270,44 @@ fn place_of(alloc: Global, layer: &Digest, path: &RelPath) -> Result<String, NoM
     joined(alloc, folder.as_str(), path.text())
 }
 
-/// Why a file is not read, by the system's metadata, if it is not.
-fn refused(at: &Metadata, limit: u32) -> Option<FileRead>
-    ensures not_file { ¬ IsFile (file_type at.now) → result ≡ Some FileRead.NotFile }
-    ensures too_large { IsFile (file_type at.now) → limit < metadata_len at.now → result ≡ Some FileRead.TooLarge }
-    ensures none { IsFile (file_type at.now) → metadata_len at.now ≤ limit → result ≡ None }
+/// Why the file at `place` is not read, by the system's answer about it, if it is not.
+fn refused(
+    alloc: Global,
+    place: &str,
+    found: io::Result<Metadata>,
+    limit: u32,
+) -> Result<Option<FileRead>, FolderError>
+    ensures error { IfErr found (λ error. IsErr result) }
+    ensures not_file { IfOk found (λ at. ¬ IsFile (file_type at) → result ≡ Ok (Some FileRead.NotFile)) }
+    ensures too_large { IfOk found (λ at. IsFile (file_type at) → limit < metadata_len at → result ≡ Ok (Some FileRead.TooLarge)) }
+    ensures none { IfOk found (λ at. IsFile (file_type at) → metadata_len at ≤ limit → result ≡ Ok None) }
 {
+    let at = answer_at(alloc, place, found)?;
     if !at.is_file() {
-        return Some(FileRead::NotFile);
+        return Ok(Some(FileRead::NotFile));
     }
     if at.len() > u64::from(limit) {
-        return Some(FileRead::TooLarge);
+        return Ok(Some(FileRead::TooLarge));
     }
-    None
+    Ok(None)
 }
 
-/// The bytes of a file that was read, if they are at most `limit`: it may have grown since its metadata was read.
-fn within(bytes: Vec<u8>, limit: u32) -> FileRead
-    ensures value { result ≡ file_read (Some (File bytes.items)) limit }
-    ensures within { IsWithin limit result }
+/// The bytes that were read of the file at `place`, if they are at most `limit`: it may have grown since its metadata was read.
+fn read_found(
+    alloc: Global,
+    place: &str,
+    found: io::Result<Vec<u8>>,
+    limit: u32,
+) -> Result<FileRead, FolderError>
+    ensures error { IfErr found (λ error. IsErr result) }
+    ensures value { IfOk found (λ bytes. result ≡ Ok (file_read (Some (File bytes.items)) limit)) }
+    ensures within { IfOk result (λ read. IsWithin limit read) }
 {
+    let bytes = answer_at(alloc, place, found)?;
     if bytes.len() > limit as usize {
-        FileRead::TooLarge
-    } else {
-        FileRead::Bytes(Seq::of(bytes))
+        return Ok(FileRead::TooLarge);
     }
+    Ok(FileRead::Bytes(Seq::of(bytes)))
 }
 
 /// Two parts of a path with a slash between them; an empty part adds nothing.
@@ -280,6 +320,17 @@ fn joined(alloc: Global, front: &str, back: &str) -> Result<String, NoMemory>
     }
     path.push_str(back)?;
     Ok(path)
+}
+
+/// What the system answered about a path, or the error that its error makes.
+fn answer_at<X>(alloc: Global, path: &str, found: io::Result<X>) -> Result<X, FolderError>
+    ensures ok { IfOk found (λ x. result ≡ Ok x) }
+    ensures error { IfErr found (λ error. IsErr result) }
+{
+    match found {
+        Ok(found) => Ok(found),
+        Err(error) => Err(failure(alloc, path, error)),
+    }
 }
 
 /// The error that an error of the system at a path makes.

@@ -1,6 +1,6 @@
 use Rattle.std.proofs.Common.{◌≤◌, ◌+◌, length}
 use Rattle.cv_folder_desk.specs.Folder.{most_entries}
-use Rattle.cv_folder_desk.proofs.walk.list_one.Given as goal
+use Rattle.cv_folder_desk.proofs.walk.add_found.Given as goal
 
 -- the walk has no more entries than it may have, and no more folders were added than entries
 abbrev pub invariant-loop-entry : goal.invariant-loop-entry
