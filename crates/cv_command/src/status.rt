@@ -1,4 +1,4 @@
-ghost use Rattle.std.specs.Prelude.{◌≡◌};
+ghost use Rattle.std.specs.Prelude.{◌≡◌, IfErr, IfOk};
 ghost use Rattle.std.specs.Process.{exit_status};
 ghost use Rattle.cv_command.specs.Status.{status_code};
 
@@ -51,5 +51,13 @@ impl Status {
         ensures { exit_status result ≡ status_code self }
     {
         ExitCode::from(self.code())
+    }
+
+    /// What the program ends with, if a command ended so; or as for out of memory, if none could be started.
+    pub fn exit_code_of<E: Drop>(ended: Result<Status, E>) -> ExitCode
+        ensures ended { IfOk ended (λ status. exit_status result ≡ status_code status) }
+        ensures not_started { IfErr ended (λ error. exit_status result ≡ 5) }
+    {
+        ended.unwrap_or(Status::NoMemory).exit_code()
     }
 }

@@ -23,7 +23,7 @@ use std::thread::Threads;
 const DESKS: usize = 8;
 
 fn main(rt: HostRuntime) -> ExitCode {
-    start(&rt, &rt).unwrap_or(Status::NoMemory).exit_code()
+    Status::exit_code_of(start(&rt, &rt))
 }
 
 /// Runs the arguments of the command line over real folders and the standard streams. Threads are started by a handle of their own.
