@@ -1,12 +1,9 @@
 use cv_base::NoMemory;
 use cv_io::{Line, LineError, LineReader, Source, StdSource};
 use cv_request::{read_json, read_request};
+use cv_scan_input::{MAX_INPUT, MAX_LINE};
 use std::alloc::Global;
 use std::io::Read;
-
-const MAX_LINE: usize = 67_108_864;
-
-const MAX_INPUT: u64 = 68_719_476_736;
 
 /// What each line is read as.
 #[derive(Clone, Copy, Debug, PartialEq, Eq)]

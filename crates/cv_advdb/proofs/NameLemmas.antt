@@ -14,7 +14,7 @@ use Rattle.cv_base.specs.InOrder.{in_order}
 use Rattle.cv_base.specs.declared.advisory.Advisory.{Advisory}
 use Rattle.cv_base.specs.declared.advisory.Affected.{Affected}
 use Rattle.cv_base.specs.declared.«package».PackageName.{PackageName}
-use Rattle.cv_base.proofs.InOrder.{any_order, order_rises}
+use Rattle.cv_base.proofs.InOrder.{any_order, in_order_sorted}
 use Rattle.cv_match.specs.Keys.{is_key, is_named, name_cmp}
 use Rattle.cv_match.proofs.Keys.{same_names}
 use Rattle.cv_advdb.specs.Touched.{has_name}
@@ -88,7 +88,7 @@ pub has_order : (key : PackageName) (names : List PackageName) → has_name key 
 has_order key names = any_order (λ name. is_key key (Some name)) (ties key) names
 
 pub order_sorted : (names : List PackageName) → IsStrictlySortedBy name_cmp (in_order name_cmp names)
-order_sorted names = order_rises name_total names
+order_sorted names = in_order_sorted name_total names
 
 -- a name below all others is none of them
 pub not_among : (key : PackageName) (names : List PackageName) → AllByRecursion (λ name. name_cmp key name ≡ Less) names → has_name key names ≡ false

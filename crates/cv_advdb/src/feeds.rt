@@ -101,7 +101,7 @@ impl Feeds {
     /// prepared for a kind of package. It takes no memory. The time is log n in the names that the records of each feed have.
     pub fn under(&self, key: &PackageName, kind: PackageKind, index: u64) -> Option<Listed<'_>>
         ensures value { option_map (λ listed. (listed.feed.now, listed.advisory.now)) result ≡ slice_get (listed_under key.now self.now.feeds) index }
-        ensures ready { IfSome result (λ listed. listed.ready.now ≡ record { kind = kind; advisory = listed.advisory.now }) }
+        ensures prepared { IfSome result (λ listed. listed.ready.now ≡ record { kind = kind; advisory = listed.advisory.now }) }
     {
         let mut skipped = index;
         for (name, stock) in &self.feeds {
@@ -112,7 +112,7 @@ impl Feeds {
                 return Some(Listed {
                     feed: name,
                     advisory: record.advisory(),
-                    ready: record.ready(kind),
+                    ready: record.prepared_for(kind),
                 });
             }
             skipped -= count;

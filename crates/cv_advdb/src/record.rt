@@ -49,7 +49,7 @@ impl PreparedRecord {
         &self.advisory
     }
 
-    fn ready(&self, kind: PackageKind) -> &ReadyAdvisory
+    fn prepared_for(&self, kind: PackageKind) -> &ReadyAdvisory
         ensures { result.now ≡ record { kind = kind; advisory = self.now } }
     {
         self.prepared.for_kind(kind)
@@ -75,10 +75,10 @@ impl StoredRecord {
     }
 
     /// The record as it is prepared for this kind.
-    pub fn ready(&self, kind: PackageKind) -> &ReadyAdvisory
+    pub fn prepared_for(&self, kind: PackageKind) -> &ReadyAdvisory
         ensures { result.now ≡ record { kind = kind; advisory = self.now } }
     {
-        self.inner.ready(kind)
+        self.inner.prepared_for(kind)
     }
 }
 

@@ -1,7 +1,7 @@
 -- Which texts are versions of Alpine packages, after apk-package(5): they are written
 --     number{.number}[letter]{_suffix[number]}[-rnumber]
 -- A number is one or more digits, however many; the letter is one of a to z; the suffix is one of a table. apk itself knows
--- a commit hash after `~` too; this profile takes such a text for no version.
+-- a commit hash after `~` too; in this profile such a text is not a valid version.
 use Rattle.std.specs.Prelude.{◌≡◌, ℕ, Bool, false, ◌==◌, IsTrue, if◌then◌else◌, List, [], ◌∷◌, ◌++◌, Option, Some, None, is_some, codes}
 use Rattle.std.specs.Char.{is_ascii_lowercase}
 use Rattle.std.specs.List.{AllByRecursion, flat_map, list_all}

@@ -35,10 +35,10 @@ after_put {K} cmp p q (x ∷ xs) h k = by_order (cmp q x) (after_put cmp p q xs 
 pub turned : {K : Type 0} {cmp : K → K → Ordering} → IsTotalOrder cmp → (p q : K) → cmp p q ≡ Greater → cmp q p ≡ Less
 turned o p q h = o.antisymm q p ∙ ap ordering_reverse h
 
-put_rises : {K : Type 0} {cmp : K → K → Ordering} → IsTotalOrder cmp → (qs : List K) (q : K) → IsStrictlySortedBy cmp qs → IsStrictlySortedBy cmp (insert_key cmp qs q)
+insert_key_sorted : {K : Type 0} {cmp : K → K → Ordering} → IsTotalOrder cmp → (qs : List K) (q : K) → IsStrictlySortedBy cmp qs → IsStrictlySortedBy cmp (insert_key cmp qs q)
 unfolding IsStrictlySortedBy
-put_rises o [] q h = (tt, tt)
-put_rises {K} {cmp} o (x ∷ xs) q h = by_order (cmp q x) refl (put_rises o xs q h.1) where
+insert_key_sorted o [] q h = (tt, tt)
+insert_key_sorted {K} {cmp} o (x ∷ xs) q h = by_order (cmp q x) refl (insert_key_sorted o xs q h.1) where
   by_order : (r : Ordering) → cmp q x ≡ r → IsStrictlySortedBy cmp (insert_key cmp xs q)
       → IsStrictlySortedBy cmp (match_ordering r (q ∷ x ∷ xs) (x ∷ xs) (x ∷ insert_key cmp xs q))
   by_order Less e rest = ((e, after_lower o (λ (r : K). r) q x xs e h.0), h)
@@ -46,10 +46,10 @@ put_rises {K} {cmp} o (x ∷ xs) q h = by_order (cmp q x) refl (put_rises o xs q
   by_order Greater e rest = (after_put cmp x q xs (turned o q x e) h.0, rest)
 
 -- keys in order ascend strictly
-pub order_rises : {K : Type 0} {cmp : K → K → Ordering} → IsTotalOrder cmp → (ks : List K) → IsStrictlySortedBy cmp (in_order cmp ks)
+pub in_order_sorted : {K : Type 0} {cmp : K → K → Ordering} → IsTotalOrder cmp → (ks : List K) → IsStrictlySortedBy cmp (in_order cmp ks)
 unfolding IsStrictlySortedBy
-order_rises o [] = tt
-order_rises {K} {cmp} o (k ∷ ks) = put_rises o (in_order cmp ks) k (order_rises o ks)
+in_order_sorted o [] = tt
+in_order_sorted {K} {cmp} o (k ∷ ks) = insert_key_sorted o (in_order cmp ks) k (in_order_sorted o ks)
 
 or_twice : (a b c : Bool) → a ≡ b → (b || c) ≡ (a || (b || c))
 or_twice true b c h = ap (λ (d : Bool). d || c) (sym h)

@@ -15,11 +15,11 @@ pub fn gather<'a>(alloc: Global, layers: &[&'a Reduction]) -> Result<Vec<&'a Fil
     ensures { IfOk result (λ out. map (λ f. f.now) out.items ≡ gathered (map (λ h. h.now) layers.now)) }
 {
     let mut files = Vec::new(alloc);
-    let mut left = layers.len();
-    while left > 0 {
-        let (_, higher) = layers.split_at(left);
-        left -= 1;
-        let own = visible(alloc, higher, layers[left].files.as_slice())?;
+    let mut remaining = layers.len();
+    while remaining > 0 {
+        let (_, higher) = layers.split_at(remaining);
+        remaining -= 1;
+        let own = visible(alloc, higher, layers[remaining].files.as_slice())?;
         files = merge(alloc, own, files)?;
     }
     Ok(files)

@@ -75,20 +75,20 @@ place (first ∷ taken) others front back read is = placed (by_answer first.answ
   by_answer (Err error) before is = by_front error front before is
 
 -- the moment of a read
-record Reading (trees : Trees) (asked : List Requested) (before : Moment) (rest : List Entry) (read : ReadEntry) : Type 0 where
+record Reading (trees : Trees) (requested : List Requested) (before : Moment) (rest : List Entry) (read : ReadEntry) : Type 0 where
   now : Moment
-  until : Replays trees asked before rest now
-  answered : IsRead trees asked now read
+  until : Replays trees requested before rest now
+  answered : IsRead trees requested now read
 
-reading : (trees : Trees) (asked : List Requested) (before after : Moment) (rest back : List Entry) (read : ReadEntry)
-    → Replays trees asked before (rest ++ entry.Read read ∷ back) after → Reading trees asked before rest read
-reading trees asked before after [] back read h = record { now = before; until = refl; answered = h.0 }
-reading trees asked before after (entry.Refused line error ∷ rest) back read h = absurd h
-reading trees asked before after (entry.Event event ∷ rest) back read h =
-    let later = reading trees asked h.0 after rest back read h.2 in
+reading : (trees : Trees) (requested : List Requested) (before after : Moment) (rest back : List Entry) (read : ReadEntry)
+    → Replays trees requested before (rest ++ entry.Read read ∷ back) after → Reading trees requested before rest read
+reading trees requested before after [] back read h = record { now = before; until = refl; answered = h.0 }
+reading trees requested before after (entry.Refused line error ∷ rest) back read h = absurd h
+reading trees requested before after (entry.Event event ∷ rest) back read h =
+    let later = reading trees requested h.0 after rest back read h.2 in
     record { now = later.now; until = (h.0, h.1, later.until); answered = later.answered }
-reading trees asked before after (entry.Read other ∷ rest) back read h =
-    let later = reading trees asked before after rest back read h.1 in
+reading trees requested before after (entry.Read other ∷ rest) back read h =
+    let later = reading trees requested before after rest back read h.1 in
     record { now = later.now; until = (h.0, later.until); answered = later.answered }
 
 -- ---- a pending report
@@ -153,9 +153,9 @@ some_pending trees state (Some (reads.Report other)) image layer is = pending_at
   says : report_of trees state image ≡ report.Pending layer
   says = ap (λ k. report_of trees state k) (sym (ap image_in same_answer)) ∙ ap outcome_in same_answer
 
-read_pending : (trees : Trees) (asked : List Requested) (now : Moment) (read : ReadEntry) (image layer : List ℕ) → IsRead trees asked now read
+read_pending : (trees : Trees) (requested : List Requested) (now : Moment) (read : ReadEntry) (image layer : List ℕ) → IsRead trees requested now read
     → read.answer ≡ answer.Report image (report.Pending layer) → IsPending now.state image layer
-read_pending trees asked now read image layer h says = by_kind h.is where
+read_pending trees requested now read image layer h says = by_kind h.is where
   by_kind : (read.answer ≡ answer.NoMemory) ⊎ (option_map (answer_to trees now.state) (read_of h.act) ≡ Some read.answer) → IsPending now.state image layer
   by_kind (inl e) = absurd (cc (e, says))
   by_kind (inr e) = some_pending trees now.state (read_of h.act) image layer (e ∙ ap (λ a. Some a) says)

@@ -163,4 +163,4 @@ pub last_registers : (image : List ℕ) (trees : Trees) (workers : ℕ) (before 
     → IsLegalRound trees workers before [] entries after → list_any (registers image) entries ≡ false
 last_registers image trees workers before entries after h =
     ap (λ es. list_any (registers image) es) h.parts ∙ none_registered image h.taken h.others
-    ∙ not_registered image trees before after h.others (subst (λ asked. Replays trees asked before h.others after) (no_requests h.taken h.answers) h.replays)
+    ∙ not_registered image trees before after h.others (subst (λ requested. Replays trees requested before h.others after) (no_requests h.taken h.answers) h.replays)

@@ -31,13 +31,13 @@ pub record Stood (before after : State) (image : List ℕ) (layers : List (List 
   pub claimed : 0 < claims → 2 ≤ rank (value_at after.layers layer)
 
 -- the state after entries is consistent
-pub consistent_after : (trees : Trees) (asked : List Requested) (before after : Moment) (entries : List Entry) → Replays trees asked before entries after
+pub consistent_after : (trees : Trees) (requested : List Requested) (before after : Moment) (entries : List Entry) → Replays trees requested before entries after
     → IsConsistent before.state → IsConsistent after.state
-consistent_after trees asked before after [] h c = subst (λ m. IsConsistent m.state) (sym h) c
-consistent_after trees asked before after (entry.Refused line error ∷ entries) h c = absurd h
-consistent_after trees asked before after (entry.Read read ∷ entries) h c = consistent_after trees asked before after entries h.1 c
-consistent_after trees asked before after (entry.Event event ∷ entries) h c =
-    consistent_after trees asked (moment_after trees before h.1.act) after entries (subst (λ m. Replays trees asked m entries after) h.1.next h.2)
+consistent_after trees requested before after [] h c = subst (λ m. IsConsistent m.state) (sym h) c
+consistent_after trees requested before after (entry.Refused line error ∷ entries) h c = absurd h
+consistent_after trees requested before after (entry.Read read ∷ entries) h c = consistent_after trees requested before after entries h.1 c
+consistent_after trees requested before after (entry.Event event ∷ entries) h c =
+    consistent_after trees requested (moment_after trees before h.1.act) after entries (subst (λ m. Replays trees requested m entries after) h.1.next h.2)
     (step_consistent trees before.state h.1.act c)
 
 -- a claim of a layer is this event, or comes later
@@ -77,24 +77,24 @@ stood_on trees s a last image layers layer later h other kept has rest = record 
   by_claim (inl now) = let second = rest.rises in omega (arith, now, second)
   by_claim (inr some) = rest.claimed some
 
-pub has_stood : (trees : Trees) (asked : List Requested) (before after : Moment) (entries : List Entry) (image : List ℕ) (layers : List (List ℕ)) (layer : List ℕ)
-    → Replays trees asked before entries after → IsConsistent before.state → HasNoFault entries → list_any (registers image) entries ≡ false
+pub has_stood : (trees : Trees) (requested : List Requested) (before after : Moment) (entries : List Entry) (image : List ℕ) (layers : List (List ℕ)) (layer : List ℕ)
+    → Replays trees requested before entries after → IsConsistent before.state → HasNoFault entries → list_any (registers image) entries ≡ false
     → value_at after.state.images image ≡ Some layers → has_text layers layer ≡ true
     → Stood before.state after.state image layers layer (times layer (claims_of (events_of entries)))
-has_stood trees asked before after [] image layers layer h c kept other stands has = record {
+has_stood trees requested before after [] image layers layer h c kept other stands has = record {
   stood = ap (λ m. value_at m.state.images image) (sym h) ∙ stands;
   rises = let same_rank = ap (λ m. rank (value_at m.state.layers layer)) h in omega (arith, same_rank);
   claimed = λ some. omega (arith, some);
 }
-has_stood trees asked before after (entry.Refused line error ∷ entries) image layers layer h c kept other stands has = absurd h
-has_stood trees asked before after (entry.Read read ∷ entries) image layers layer h c kept other stands has =
-    has_stood trees asked before after entries image layers layer h.1 c kept other stands has
-has_stood trees asked before after (entry.Event event ∷ entries) image layers layer h c kept other stands has =
+has_stood trees requested before after (entry.Refused line error ∷ entries) image layers layer h c kept other stands has = absurd h
+has_stood trees requested before after (entry.Read read ∷ entries) image layers layer h c kept other stands has =
+    has_stood trees requested before after entries image layers layer h.1 c kept other stands has
+has_stood trees requested before after (entry.Event event ∷ entries) image layers layer h c kept other stands has =
     subst (λ k. Stood before.state after.state image layers layer (times layer (cons_option k (claims_of (events_of entries))))) (sym (ap (λ e. claim_in e.act) h.1.is))
     (stood_on trees before.state a after.state image layers layer (claims_of (events_of entries)) c
     (sym (ap (λ e. registers_by image e.act e.reply) h.1.is) ∙ both.0)
     (sym (ap (λ e. gives_back e.act) h.1.is) ∙ faults.0) has
-    (has_stood trees asked next after entries image layers layer (subst (λ m. Replays trees asked m entries after) h.1.next h.2)
+    (has_stood trees requested next after entries image layers layer (subst (λ m. Replays trees requested m entries after) h.1.next h.2)
     (step_consistent trees before.state a c) faults.1 both.1 stands has)) where
       a : WholeAct
       a = h.1.act

@@ -33,7 +33,7 @@ use Rattle.cv_machine.specs.declared.status.Status.TheVariants as status
 use Rattle.cv_machine.proofs.Consistent.{either, step_consistent}
 use Rattle.cv_machine.proofs.LayerTables.{entered_found, remaining_found, staying, stays, value_put}
 use Rattle.cv_legal.specs.Parts.{event_by, events_by}
-use Rattle.cv_legal.specs.Replay.{IsEvent, Moment, Replays, asked_at, event_of, moment_after, submitted, worker_event}
+use Rattle.cv_legal.specs.Replay.{IsEvent, Moment, Replays, event_of, moment_after, requested_at, submitted, worker_event}
 use Rattle.cv_legal.specs.Turns.{FitsWork, Works, work_after}
 use Rattle.cv_legal.specs.declared.taken.Requested.{Requested}
 use Rattle.cv_complete.proofs.Steps.{ack_leaves, update_leaves, value_cut}
@@ -63,7 +63,7 @@ is_of_lane (act.Memory layer worker) = false
 is_of_lane (act.Update feed records) = true
 is_of_lane (act.Ack number) = true
 
-event_is_of_lane : (asked : RequestAct) (a : WholeAct) → event_of asked ≡ Some a → is_of_lane a ≡ true
+event_is_of_lane : (requested : RequestAct) (a : WholeAct) → event_of requested ≡ Some a → is_of_lane a ≡ true
 event_is_of_lane (request.Register manifest) a is = sym (ap (λ x. is_of_lane x) (same_Some (act.Register manifest) a is))
 event_is_of_lane (request.DropImage image) a is = sym (ap (λ x. is_of_lane x) (same_Some (act.DropImage image) a is))
 event_is_of_lane (request.Update feed records) a is = sym (ap (λ x. is_of_lane x) (same_Some (act.Update feed records) a is))
@@ -72,9 +72,9 @@ event_is_of_lane (request.Page number size page) a is = absurd (cc is)
 event_is_of_lane request.List a is = absurd (cc is)
 event_is_of_lane (request.Ack number) a is = sym (ap (λ x. is_of_lane x) (same_Some (act.Ack number) a is))
 
-lane_event : (asked : Option RequestAct) (a : WholeAct) → option_and_then event_of asked ≡ Some a → is_of_lane a ≡ true
+lane_event : (requested : Option RequestAct) (a : WholeAct) → option_and_then event_of requested ≡ Some a → is_of_lane a ≡ true
 lane_event None a is = absurd (cc is)
-lane_event (Some asked) a is = event_is_of_lane asked a is
+lane_event (Some requested) a is = event_is_of_lane requested a is
 
 -- a layer that is Claimed where one may have entered Queued
 or_claimed : (found : Option Status) (b : Bool) (worker : ℕ) → option_or found (cond b (Some status.Queued) None) ≡ Some (status.Claimed worker)
@@ -253,10 +253,10 @@ record AtWorkAfter (s : State) (events : List EventEntry) : Type 0 where
   at : IsAtWork s.layers work
   ends : EndWork work events
 
-event_at_work : (trees : Trees) (asked : List Requested) (before after : Moment) (event : EventEntry) (events : List EventEntry) (work : Work)
-    → IsConsistent before.state → IsAtWork before.state.layers work → EndWork work (event ∷ events) → (h : IsEvent trees asked before event after)
+event_at_work : (trees : Trees) (requested : List Requested) (before after : Moment) (event : EventEntry) (events : List EventEntry) (work : Work)
+    → IsConsistent before.state → IsAtWork before.state.layers work → EndWork work (event ∷ events) → (h : IsEvent trees requested before event after)
     → AtWorkAfter (step trees before.state h.act).0 events
-event_at_work trees asked before after event events work c at ends h = by_source event.by refl where
+event_at_work trees requested before after event events work c at ends h = by_source event.by refl where
   named : event.act ≡ act_name h.act
   named = ap (λ e. e.act) h.is
 
@@ -279,27 +279,27 @@ event_at_work trees asked before after event events work c at ends h = by_source
     work = work;
     at = λ layer worker claimed.
         at layer worker (lane_claimed trees before.state h.act layer worker c
-        (lane_event (asked_at asked lane line) h.act (ap (λ b. submitted asked b event.act) (sym is) ∙ h.source)) claimed);
+        (lane_event (requested_at requested lane line) h.act (ap (λ b. submitted requested b event.act) (sym is) ∙ h.source)) claimed);
     ends = ends_by (by.Lane lane line) is;
   }
   by_source (by.Worker worker) is = record {
     work = work_next work worker (work_after (act_name h.act) (step trees before.state h.act).1);
     at = worker_at_work trees before.state h.act worker work c at
-        (ap (λ n. worker_event worker n) (sym named) ∙ ap (λ b. submitted asked b event.act) (sym is) ∙ h.source)
+        (ap (λ n. worker_event worker n) (sym named) ∙ ap (λ b. submitted requested b event.act) (sym is) ∙ h.source)
         (subst (λ n. FitsWork (work worker) n) named (its_own worker (ends_by (by.Worker worker) is worker)));
     ends = λ other. subst (λ k. Works (work_next work worker k other) (events_by other events) None) (ap (λ e. work_after e.act e.reply) h.is)
         (of_other worker other (worker == other) (ends_by (by.Worker worker) is other));
   }
 
 -- after entries in which each worker ends its work no layer is Claimed
-pub none_claimed : (trees : Trees) (asked : List Requested) (before after : Moment) (entries : List Entry) (work : Work) → Replays trees asked before entries after
+pub none_claimed : (trees : Trees) (requested : List Requested) (before after : Moment) (entries : List Entry) (work : Work) → Replays trees requested before entries after
     → IsConsistent before.state → IsAtWork before.state.layers work → EndWork work (events_of entries) → NoneClaimed after.state.layers
-none_claimed trees asked before after [] work h c at ends = λ layer worker claimed.
+none_claimed trees requested before after [] work h c at ends = λ layer worker claimed.
     let busy : work worker ≡ Some layer = at layer worker (ap (λ m. value_at m.state.layers layer) (sym h) ∙ claimed) in
     let free : None ≡ work worker = ends worker in absurd (cc (busy, free))
-none_claimed trees asked before after (entry.Refused line error ∷ entries) work h c at ends = absurd h
-none_claimed trees asked before after (entry.Read read ∷ entries) work h c at ends = none_claimed trees asked before after entries work h.1 c at ends
-none_claimed trees asked before after (entry.Event event ∷ entries) work h c at ends =
-    let then : AtWorkAfter (step trees before.state h.1.act).0 (events_of entries) = event_at_work trees asked before h.0 event (events_of entries) work c at ends h.1 in
-    none_claimed trees asked (moment_after trees before h.1.act) after entries then.work (subst (λ m. Replays trees asked m entries after) h.1.next h.2)
+none_claimed trees requested before after (entry.Refused line error ∷ entries) work h c at ends = absurd h
+none_claimed trees requested before after (entry.Read read ∷ entries) work h c at ends = none_claimed trees requested before after entries work h.1 c at ends
+none_claimed trees requested before after (entry.Event event ∷ entries) work h c at ends =
+    let then : AtWorkAfter (step trees before.state h.1.act).0 (events_of entries) = event_at_work trees requested before h.0 event (events_of entries) work c at ends h.1 in
+    none_claimed trees requested (moment_after trees before h.1.act) after entries then.work (subst (λ m. Replays trees requested m entries after) h.1.next h.2)
     (step_consistent trees before.state h.1.act c) then.at then.ends

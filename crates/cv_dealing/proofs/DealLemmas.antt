@@ -22,7 +22,7 @@ cons_both : {X : Type 0} (o : Option X) (xs ys : List X) → cons_option o (xs +
 cons_both None xs ys = refl
 cons_both (Some x) xs ys = refl
 
-pub low_lanes : (asked : List Requested) → AllByRecursion IsSoundRequest asked → AllByRecursion (λ r. r.request.lane < 8) asked
+pub low_lanes : (requested : List Requested) → AllByRecursion IsSoundRequest requested → AllByRecursion (λ r. r.request.lane < 8) requested
 low_lanes [] h = tt
 low_lanes (r ∷ rs) h = (h.0.0, low_lanes rs h.1)
 
@@ -35,8 +35,8 @@ sound_requests (t ∷ ts) h = by_answer t.answer h.0 (sound_requests ts h.1) whe
   by_answer (Ok request) s later = (s, later)
   by_answer (Err error) s later = later
 
-pub sound_asked : (taken : List Taken) (asked : List Requested) → AllByRecursion IsSoundTaken taken → asked ≡ requests taken → AllByRecursion IsSoundRequest asked
-sound_asked taken asked h is = subst (AllByRecursion IsSoundRequest) (sym is) (sound_requests taken h)
+pub sound_requested : (taken : List Taken) (requested : List Requested) → AllByRecursion IsSoundTaken taken → requested ≡ requests taken → AllByRecursion IsSoundRequest requested
+sound_requested taken requested h is = subst (AllByRecursion IsSoundRequest) (sym is) (sound_requests taken h)
 
 refusals_both : (xs ys : List Taken) → refusals (xs ++ ys) ≡ refusals xs ++ refusals ys
 refusals_both [] ys = refl
@@ -47,29 +47,29 @@ requests_both [] ys = refl
 requests_both (x ∷ xs) ys = ap (cons_option (request_at x.line x.answer)) (requests_both xs ys) ∙ cons_both (request_at x.line x.answer) (requests xs) (requests ys)
 
 -- one more line, which is a request
-pub one_asked : (taken : List Taken) (t : Taken) (request : Request) (refused : List Entry) (asked all : List Requested) → t.answer ≡ Ok request
-    → refused ≡ refusals taken → asked ≡ requests taken → all ≡ asked ++ record { line = t.line; request = request } ∷ []
+pub one_requested : (taken : List Taken) (t : Taken) (request : Request) (refused : List Entry) (requested all : List Requested) → t.answer ≡ Ok request
+    → refused ≡ refusals taken → requested ≡ requests taken → all ≡ requested ++ record { line = t.line; request = request } ∷ []
     → (refused ≡ refusals (taken ++ t ∷ [])) × (all ≡ requests (taken ++ t ∷ []))
-one_asked taken t request refused asked all ok refused_is asked_is joined = (
+one_requested taken t request refused requested all ok refused_is requested_is joined = (
   refused_is ∙ sym (refusals_both taken (t ∷ []) ∙ ap (λ a. refusals taken ++ cons_option (refusal_at t.line a) []) ok ∙ append-nil (refusals taken)),
-  joined ∙ ap (λ rs. rs ++ record { line = t.line; request = request } ∷ []) asked_is
+  joined ∙ ap (λ rs. rs ++ record { line = t.line; request = request } ∷ []) requested_is
       ∙ sym (requests_both taken (t ∷ []) ∙ ap (λ a. requests taken ++ cons_option (request_at t.line a) []) ok),
 )
 
 -- one more line, which is refused
-pub one_refused : (taken : List Taken) (t : Taken) (error : RequestError) (refused all : List Entry) (asked : List Requested) → t.answer ≡ Err error
-    → refused ≡ refusals taken → asked ≡ requests taken → all ≡ refused ++ entry.Refused t.line error ∷ []
-    → (all ≡ refusals (taken ++ t ∷ [])) × (asked ≡ requests (taken ++ t ∷ []))
-one_refused taken t error refused all asked err refused_is asked_is joined = (
+pub one_refused : (taken : List Taken) (t : Taken) (error : RequestError) (refused all : List Entry) (requested : List Requested) → t.answer ≡ Err error
+    → refused ≡ refusals taken → requested ≡ requests taken → all ≡ refused ++ entry.Refused t.line error ∷ []
+    → (all ≡ refusals (taken ++ t ∷ [])) × (requested ≡ requests (taken ++ t ∷ []))
+one_refused taken t error refused all requested err refused_is requested_is joined = (
   joined ∙ ap (λ es. es ++ entry.Refused t.line error ∷ []) refused_is
       ∙ sym (refusals_both taken (t ∷ []) ∙ ap (λ a. refusals taken ++ cons_option (refusal_at t.line a) []) err),
-  asked_is ∙ sym (requests_both taken (t ∷ []) ∙ ap (λ a. requests taken ++ cons_option (request_at t.line a) []) err ∙ append-nil (requests taken)),
+  requested_is ∙ sym (requests_both taken (t ∷ []) ∙ ap (λ a. requests taken ++ cons_option (request_at t.line a) []) err ∙ append-nil (requests taken)),
 )
 
 -- ---- lanes
 
 -- requests of other lanes are all those of each other lane
-pub lane_of_others : (lane other : ℕ) (asked : List Requested) → lane < other → lane_requests other (filter (of_other_lane lane) asked) ≡ lane_requests other asked
+pub lane_of_others : (lane other : ℕ) (requested : List Requested) → lane < other → lane_requests other (filter (of_other_lane lane) requested) ≡ lane_requests other requested
 lane_of_others lane other [] h = refl
 lane_of_others lane other (r ∷ rs) h =
     by_test (eqb_tells r.request.lane lane) (lane_of_others lane other rs h)
@@ -101,30 +101,30 @@ all_kept {A} P f (x ∷ xs) h = by_test (f x) (all_kept P f xs h.1) where
 pub one_longer : {A : Type 0} (xs : List A) (x : A) (ys : List A) (n : ℕ) → length xs ≡ n → ys ≡ xs ++ x ∷ [] → length ys ≡ n + 1
 one_longer xs x ys n is joined = let more = length-append xs (x ∷ []) in let all = ap length joined in omega (arith, is, more, all)
 
-dealt_then : (n : ℕ) (asked : List Requested) (lanes : List Lane) (lane : Lane) → AreDealt n asked lanes → IsDealt (n + length lanes) asked lane → AreDealt n asked (lanes ++ lane ∷ [])
-dealt_then n asked [] lane h one = (subst (λ (k : ℕ). IsDealt k asked lane) (omega arith) one, tt)
-dealt_then n asked (first ∷ lanes) lane h one =
+dealt_then : (n : ℕ) (requested : List Requested) (lanes : List Lane) (lane : Lane) → AreDealt n requested lanes → IsDealt (n + length lanes) requested lane → AreDealt n requested (lanes ++ lane ∷ [])
+dealt_then n requested [] lane h one = (subst (λ (k : ℕ). IsDealt k requested lane) (omega arith) one, tt)
+dealt_then n requested (first ∷ lanes) lane h one =
     let at : n + length (first ∷ lanes) ≡ n + 1 + length lanes = omega arith in
-    (h.0, dealt_then (n + 1) asked lanes lane h.1 (subst (λ (k : ℕ). IsDealt k asked lane) at one))
+    (h.0, dealt_then (n + 1) requested lanes lane h.1 (subst (λ (k : ℕ). IsDealt k requested lane) at one))
 
 -- one more lane was dealt
-pub dealt_more : (asked : List Requested) (lanes : List Lane) (lane : Lane) (all : List Lane) (n : ℕ) → length lanes ≡ n → all ≡ lanes ++ lane ∷ [] → AreDealt 0 asked lanes → IsDealt n asked lane
-    → AreDealt 0 asked all
-dealt_more asked lanes lane all n count joined h one =
-    subst (AreDealt 0 asked) (sym joined) (dealt_then 0 asked lanes lane h (subst (λ (k : ℕ). IsDealt k asked lane) (omega (arith, count)) one))
+pub dealt_more : (requested : List Requested) (lanes : List Lane) (lane : Lane) (all : List Lane) (n : ℕ) → length lanes ≡ n → all ≡ lanes ++ lane ∷ [] → AreDealt 0 requested lanes → IsDealt n requested lane
+    → AreDealt 0 requested all
+dealt_more requested lanes lane all n count joined h one =
+    subst (AreDealt 0 requested) (sym joined) (dealt_then 0 requested lanes lane h (subst (λ (k : ℕ). IsDealt k requested lane) (omega (arith, count)) one))
 
-within : (asked : List Requested) → AllByRecursion IsSoundRequest asked → AllByRecursion (λ (r : Requested). IsWithinLimits r.request.act) asked
+within : (requested : List Requested) → AllByRecursion IsSoundRequest requested → AllByRecursion (λ (r : Requested). IsWithinLimits r.request.act) requested
 within [] h = tt
 within (r ∷ rs) h = (h.0.1, within rs h.1)
 
 -- lanes that were dealt can be worked at
-pub dealt_prepared : (n : ℕ) (asked : List Requested) (lanes : List Lane) → AllByRecursion IsSoundRequest asked → AreDealt n asked lanes → AllByRecursion IsLanePrepared lanes
-dealt_prepared n asked [] sound h = tt
-dealt_prepared n asked (lane ∷ lanes) sound h = (
+pub dealt_prepared : (n : ℕ) (requested : List Requested) (lanes : List Lane) → AllByRecursion IsSoundRequest requested → AreDealt n requested lanes → AllByRecursion IsLanePrepared lanes
+dealt_prepared n requested [] sound h = tt
+dealt_prepared n requested (lane ∷ lanes) sound h = (
   record {
     within_limits = subst (AllByRecursion (λ (r : Requested). IsWithinLimits r.request.act)) (sym h.0.1)
-        (within (lane_requests n asked) (all_kept IsSoundRequest (λ r. r.request.lane == n) asked sound));
+        (within (lane_requests n requested) (all_kept IsSoundRequest (λ r. r.request.lane == n) requested sound));
     no_reads = h.0.2;
   },
-  dealt_prepared (n + 1) asked lanes sound h.1,
+  dealt_prepared (n + 1) requested lanes sound h.1,
 )

@@ -8,7 +8,7 @@ use Rattle.cv_legal.specs.declared.taken.Taken.{Taken}
 
 -- a request has one of eight lanes, and is within the limits of requests
 abbrev pub IsSoundRequest : Requested → Type 0
-IsSoundRequest asked = (asked.request.lane < 8) × IsWithinLimits asked.request.act
+IsSoundRequest requested = (requested.request.lane < 8) × IsWithinLimits requested.request.act
 
 -- so is the request of a line that was read
 abbrev pub IsSoundAnswer : Result Request RequestError → Type 0

@@ -20,29 +20,29 @@ pub fn divide(alloc: Global, taken: Vec<Taken>) -> Result<(Vec<Entry>, Vec<Reque
     ensures sound { IfOk result (λ parts. AllByRecursion IsSoundRequest parts.1.items) }
 {
     let mut refused = Vec::new(alloc);
-    let mut asked = Vec::new(alloc);
+    let mut requested = Vec::new(alloc);
     for Taken { line, answer } in taken {
         match answer {
-            Ok(request) => asked.push(Requested { line, request })?,
+            Ok(request) => requested.push(Requested { line, request })?,
             Err(error) => refused.push(Entry::Refused { line, error })?,
         }
     }
-    Ok((refused, asked))
+    Ok((refused, requested))
 }
 
 /// The eight lanes with their requests, each in input order.
-pub fn lanes_of(alloc: Global, asked: Vec<Requested>) -> Result<Vec<Lane>, NoMemory>
+pub fn lanes_of(alloc: Global, requested: Vec<Requested>) -> Result<Vec<Lane>, NoMemory>
     ensures count { IfOk result (λ lanes. length lanes.items ≡ 8) }
-    ensures dealt { IfOk result (λ lanes. AreDealt 0 asked.items lanes.items) }
+    ensures dealt { IfOk result (λ lanes. AreDealt 0 requested.items lanes.items) }
 {
-    let mut rest = asked;
+    let mut rest = requested;
     let mut lanes = Vec::new(alloc);
     for number in 0..MAX_LANES {
         let (mine, others) = of_lane(alloc, rest, number)?;
         rest = others;
         lanes.push(Lane {
             number,
-            asked: mine,
+            requested: mine,
             reads: Vec::new(alloc),
         })?;
     }
@@ -52,19 +52,19 @@ pub fn lanes_of(alloc: Global, asked: Vec<Requested>) -> Result<Vec<Lane>, NoMem
 /// The requests of a lane and those of other lanes, each in their order.
 fn of_lane(
     alloc: Global,
-    asked: Vec<Requested>,
+    requested: Vec<Requested>,
     lane: u8,
 ) -> Result<(Vec<Requested>, Vec<Requested>), NoMemory>
-    ensures mine { IfOk result (λ parts. parts.0.items ≡ lane_requests lane asked.items) }
-    ensures others { IfOk result (λ parts. parts.1.items ≡ filter (of_other_lane lane) asked.items) }
+    ensures mine { IfOk result (λ parts. parts.0.items ≡ lane_requests lane requested.items) }
+    ensures others { IfOk result (λ parts. parts.1.items ≡ filter (of_other_lane lane) requested.items) }
 {
     let mut mine = Vec::new(alloc);
     let mut others = Vec::new(alloc);
-    for requested in asked {
-        if requested.request.lane == lane {
-            mine.push(requested)?;
+    for one in requested {
+        if one.request.lane == lane {
+            mine.push(one)?;
         } else {
-            others.push(requested)?;
+            others.push(one)?;
         }
     }
     Ok((mine, others))

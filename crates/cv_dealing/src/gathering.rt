@@ -15,7 +15,7 @@ pub fn reads_of(alloc: Global, lanes: Vec<Lane>) -> Result<Seq<Seq<ReadEntry>>, 
     for lane in lanes {
         let Lane {
             number: _,
-            asked: _,
+            requested: _,
             reads,
         } = lane;
         all.push(Seq::of(reads))?;

@@ -5,6 +5,6 @@ use cv_records::ReadEntry;
 #[derive(Drop)]
 pub struct Lane {
     pub number: u8,
-    pub asked: Vec<Requested>,
+    pub requested: Vec<Requested>,
     pub reads: Vec<ReadEntry>,
 }

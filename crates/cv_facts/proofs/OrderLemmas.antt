@@ -15,7 +15,7 @@ use Rattle.cv_base.specs.declared.tree.ListEntry.{ListEntry}
 use Rattle.cv_base.specs.declared.tree.Node.{Node}
 use Rattle.cv_base.specs.declared.tree.Node.TheVariants as node
 use Rattle.cv_base.specs.declared.tree.TreeEntry.{TreeEntry}
-use Rattle.cv_base.proofs.InOrder.{order_rises}
+use Rattle.cv_base.proofs.InOrder.{in_order_sorted}
 use Rattle.cv_base.proofs.Same.{path_total}
 use Rattle.cv_overlay.specs.Ascending as overlay
 use Rattle.cv_overlay.specs.Fault.{fault, list_fault}
@@ -60,7 +60,7 @@ strictly [] h = tt
 strictly (p ∷ ps) h = (h.0, strictly ps h.1)
 
 pub order_sorted : (ps : List Path) → IsSorted path_cmp (in_order path_cmp ps)
-order_sorted ps = ascending_sorted (in_order path_cmp ps) (strictly (in_order path_cmp ps) (order_rises path_total ps))
+order_sorted ps = ascending_sorted (in_order path_cmp ps) (strictly (in_order path_cmp ps) (in_order_sorted path_total ps))
 
 -- A good listing.
 

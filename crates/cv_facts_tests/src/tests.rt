@@ -130,7 +130,7 @@ files [FileFound { path: "etc/os-release", found: TooLarge }, FileFound { path: 
 }
 
 #[test]
-fn bad_trees_and_absent_layers_are_told(rt: HostRuntime) -> Result<(), Fail> {
+fn bad_trees_and_absent_layers_are_answered(rt: HostRuntime) -> Result<(), Fail> {
     let alloc = rt.alloc();
     assert_eq!(rt;
         shape(alloc, 1, &[("a/b", "")])?.as_str(),

@@ -1,6 +1,6 @@
-pub mod Finds
+pub mod FindLemmas
 pub mod Indices
 pub mod Lookup
 pub mod Merged
-pub mod Put
+pub mod PutLemmas
 pub mod SlotLemmas

@@ -21,13 +21,13 @@ in_slot kind None b a r h e f = cc
 in_slot kind (Some q) b a r h e f = sym (same_Some q r e) ∙ h ∙ ap (prepared_for kind) (same_Some b a f)
 
 -- a slot holds the record of its index
-pub held : (kind : PackageKind) (slots : List (Option Prepared)) (records : List Advisory) (k : ℕ) (a : Advisory) (r : Prepared) → AreSlots kind slots records
+pub slot_holds : (kind : PackageKind) (slots : List (Option Prepared)) (records : List Advisory) (k : ℕ) (a : Advisory) (r : Prepared) → AreSlots kind slots records
     → slice_get records k ≡ Some a → option_and_then (λ (slot : Option Prepared). slot) (slice_get slots k) ≡ Some r → r ≡ prepared_for kind a
-held kind [] [] k a r h f e = cc
-held kind [] (b ∷ bs) k a r h f e = absurd h
-held kind (s ∷ ss) [] k a r h f e = absurd h
-held kind (s ∷ ss) (b ∷ bs) zero a r h f e = in_slot kind s b a r h.0 e f
-held kind (s ∷ ss) (b ∷ bs) (suc k) a r h f e = held kind ss bs k a r h.1 f e
+slot_holds kind [] [] k a r h f e = cc
+slot_holds kind [] (b ∷ bs) k a r h f e = absurd h
+slot_holds kind (s ∷ ss) [] k a r h f e = absurd h
+slot_holds kind (s ∷ ss) (b ∷ bs) zero a r h f e = in_slot kind s b a r h.0 e f
+slot_holds kind (s ∷ ss) (b ∷ bs) (suc k) a r h f e = slot_holds kind ss bs k a r h.1 f e
 
 -- a slot that is filled with the record of its index
 pub filled : (kind : PackageKind) (slots : List (Option Prepared)) (records : List Advisory) (k : ℕ) (a : Advisory) (r : Prepared) → AreSlots kind slots records

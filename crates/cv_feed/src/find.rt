@@ -18,7 +18,7 @@ use std::sync::ledger::{Blank, Ledger};
 /// The findings of packages with the records of a feed: each package with each record that affects it, sorted by package,
 /// feed and id, each once. A record is tried against a package only if it names the package, and it is prepared once for
 /// each kind of package.
-#[tactic(auto, using(crate::proofs::Finds::findings_feed))]
+#[tactic(auto, using(crate::proofs::FindLemmas::findings_feed))]
 pub fn find_all(
     alloc: Global,
     packages: &[Package],
@@ -168,9 +168,16 @@ fn find_next<L: Ledger>(
     ensures found { IfOk result (λ finding. option_to_list finding ≡ found_at «package».now feed.now advisories.now index) }
     ensures slots { AreSlots «package».now.kind slots.new.items advisories.now }
 {
-    let ready = prepared_at(alloc, package.kind, advisories, index, slots)?;
+    let prepared_record = prepared_at(alloc, package.kind, advisories, index, slots)?;
     find_at(
-        alloc, package, prepared, feed, advisories, index, ready, steps,
+        alloc,
+        package,
+        prepared,
+        feed,
+        advisories,
+        index,
+        prepared_record,
+        steps,
     )
 }
 
@@ -182,20 +189,28 @@ fn find_at<L: Ledger>(
     feed: &Text,
     advisories: &[Advisory],
     index: usize,
-    ready: Option<ReadyAdvisory>,
+    prepared_record: Option<ReadyAdvisory>,
     steps: &mut Steps<L>,
 ) -> Result<Option<Finding>, NoMemory>
     requires prepared { prepared.now ≡ «package».now }
-    requires ready { ready ≡ option_map (prepared_for «package».now.kind) (slice_get advisories.now index) }
+    requires prepared_record { prepared_record ≡ option_map (prepared_for «package».now.kind) (slice_get advisories.now index) }
     ensures { IfOk result (λ finding. option_to_list finding ≡ found_at «package».now feed.now advisories.now index) }
 {
     let Some(advisory) = advisories.get(index) else {
         return Ok(None);
     };
-    let Some(ready) = ready else {
+    let Some(prepared_record) = prepared_record else {
         return Ok(None);
     };
-    find_one(alloc, package, prepared, feed, advisory, &ready, steps)
+    find_one(
+        alloc,
+        package,
+        prepared,
+        feed,
+        advisory,
+        &prepared_record,
+        steps,
+    )
 }
 
 /// Adds findings.

@@ -49,25 +49,25 @@ pub(crate) fn prepared_at(
 ) -> Result<Option<ReadyAdvisory>, NoMemory>
     requires { AreSlots kind slots.old.items advisories.now }
     ensures slots { AreSlots kind slots.new.items advisories.now }
-    ensures record { IfOk result (λ ready. ready ≡ option_map (prepared_for kind) (slice_get advisories.now index)) }
+    ensures record { IfOk result (λ prepared. prepared ≡ option_map (prepared_for kind) (slice_get advisories.now index)) }
 {
     let Some(advisory) = advisories.get(index) else {
         return Ok(None);
     };
-    if let Some(ready) = kept(slots, index)? {
-        return Ok(Some(ready));
+    if let Some(prepared) = kept(slots, index)? {
+        return Ok(Some(prepared));
     }
-    let ready = prepare(alloc, advisory, kind)?;
-    slots[index] = Some(ready.clone()?);
-    Ok(Some(ready))
+    let prepared = prepare(alloc, advisory, kind)?;
+    slots[index] = Some(prepared.clone()?);
+    Ok(Some(prepared))
 }
 
 /// The record that a slot holds.
 fn kept(slots: &[Option<ReadyAdvisory>], index: usize) -> Result<Option<ReadyAdvisory>, NoMemory>
-    ensures { IfOk result (λ ready. ready ≡ option_and_then (λ slot. slot) (slice_get slots.now index)) }
+    ensures { IfOk result (λ prepared. prepared ≡ option_and_then (λ slot. slot) (slice_get slots.now index)) }
 {
     match slots.get(index) {
-        Some(Some(ready)) => Ok(Some(ready.clone()?)),
+        Some(Some(prepared)) => Ok(Some(prepared.clone()?)),
         _ => Ok(None),
     }
 }

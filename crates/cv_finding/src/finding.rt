@@ -16,15 +16,15 @@ pub fn find_one<L: Ledger>(
     prepared: &ReadyPackage,
     feed: &Text,
     advisory: &Advisory,
-    ready: &ReadyAdvisory,
+    prepared_record: &ReadyAdvisory,
     steps: &mut Steps<L>,
 ) -> Result<Option<Finding>, NoMemory>
     requires prepared { prepared.now ≡ «package».now }
-    requires ready { ready.now ≡ record { kind = «package».now.kind; advisory = advisory.now } }
+    requires prepared_record { prepared_record.now ≡ record { kind = «package».now.kind; advisory = advisory.now } }
     ensures found { IfOk result (λ finding. option_to_list finding ≡ found «package».now feed.now advisory.now) }
     ensures counted { steps.new ≡ steps.old + 1 }
 {
-    match affects(ready, prepared, steps) {
+    match affects(prepared_record, prepared, steps) {
         Hit::No => Ok(None),
         Hit::Yes { fixed } => Ok(Some(finding_of(alloc, package, feed, advisory, fixed)?)),
     }

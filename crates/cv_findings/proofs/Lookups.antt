@@ -11,7 +11,7 @@ use Rattle.std.specs.declared.cmp.Ordering.TheVariants.{Less, Equal, Greater}
 use Rattle.std.proofs.Common.{ap, subst, sym, ◌∙◌}
 use Rattle.std.proofs.lemmas.Cmp.{alike_right, tied_itself}
 use Rattle.cv_base.specs.InOrder.{in_order}
-use Rattle.cv_base.proofs.InOrder.{after_lower, order_rises, turned}
+use Rattle.cv_base.proofs.InOrder.{after_lower, in_order_sorted, turned}
 
 -- the first item that ties with a key
 abbrev pub at : {K : Type 0} → (K → K → Ordering) → List K → K → Option K
@@ -148,12 +148,12 @@ at_put {K} {cmp} o (x ∷ xs) k q s = by_order (cmp k x) refl (at_put o xs k q s
 -- in order, a list has at each key the last that it had there
 pub at_order : {K : Type 0} {cmp : K → K → Ordering} → IsTotalOrder cmp → (ks : List K) (q : K) → at cmp (in_order cmp ks) q ≡ last_at cmp ks q
 at_order o [] q = refl
-at_order {K} {cmp} o (k ∷ ks) q = at_put o (in_order cmp ks) k q (order_rises o ks) ∙ (λ i. option_or (at_order o ks q i) (item_at cmp k q))
+at_order {K} {cmp} o (k ∷ ks) q = at_put o (in_order cmp ks) k q (in_order_sorted o ks) ∙ (λ i. option_or (at_order o ks q i) (item_at cmp k q))
 
 -- lists that have the same last item at each key are the same in order
 pub same_order : {K : Type 0} {cmp : K → K → Ordering} → IsTotalOrder cmp → (xs ys : List K)
     → ((q : K) → last_at cmp xs q ≡ last_at cmp ys q) → in_order cmp xs ≡ in_order cmp ys
-same_order {K} {cmp} o xs ys h = same_lists o (in_order cmp xs) (in_order cmp ys) (order_rises o xs) (order_rises o ys)
+same_order {K} {cmp} o xs ys h = same_lists o (in_order cmp xs) (in_order cmp ys) (in_order_sorted o xs) (in_order_sorted o ys)
     (λ q. at_order o xs q ∙ h q ∙ sym (at_order o ys q))
 
 -- The last item of joined lists.

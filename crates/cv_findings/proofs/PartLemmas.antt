@@ -12,13 +12,13 @@ use Rattle.std.proofs.lemmas.Cmp.{alike_right, tied_back}
 use Rattle.std.proofs.lemmas.List.{append-nil}
 use Rattle.std.proofs.lemmas.List.Kept.{IsStrictlySortedBy-filter}
 use Rattle.std.proofs.lemmas.Map.Lookups.{exact_bytes, exact_unsigned}
-use Rattle.cv_base.proofs.InOrder.{order_rises}
+use Rattle.cv_base.proofs.InOrder.{in_order_sorted}
 use Rattle.cv_base.proofs.Same.{tied_path}
 use Rattle.cv_base.specs.declared.advisory.Advisory.{Advisory}
 use Rattle.cv_base.specs.declared.finding.Finding.{Finding}
 use Rattle.cv_base.specs.declared.«package».Package.{Package}
 use Rattle.cv_base.specs.declared.«package».PackageKind.{PackageKind}
-use Rattle.cv_base.specs.declared.«package».PackageKind.TheVariants.{Deb, Apk, Npm}
+use Rattle.cv_base.specs.declared.«package».PackageKind.TheVariants.{Apk, Deb, Npm}
 use Rattle.cv_match.specs.Affects.{affects, fixed}
 use Rattle.cv_match.specs.Findings.{finding_cmp, finding_total, findings, found, found_in, kind_rank, package_cmp, package_total, pair_findings, text_cmp}
 use Rattle.cv_findings.specs.Parts.{has_package, is_finding_of, part_of}
@@ -162,7 +162,7 @@ findings_at packages feeds q = at_order finding_total (pair_findings packages fe
 
 pub findings_sorted : (packages : List Package) (feeds : Feeds) → IsStrictlySortedBy finding_cmp (findings packages feeds)
 unfolding findings
-findings_sorted packages feeds = order_rises finding_total (pair_findings packages feeds)
+findings_sorted packages feeds = in_order_sorted finding_total (pair_findings packages feeds)
 
 found_part : (p : Package) (packages : List Package) (feeds : Feeds) (q : Finding)
     → at finding_cmp (part_of p (findings packages feeds)) q ≡ cond (has_package p packages) (last_at finding_cmp (found_in feeds p) q) None

@@ -9,15 +9,15 @@ use Rattle.std.specs.declared.cmp.Ordering.TheVariants.{Less, Equal, Greater}
 use Rattle.std.proofs.Common.{ap, sym, ◌∙◌}
 use Rattle.std.proofs.lemmas.Cmp.{alike_right, tied_back}
 use Rattle.std.proofs.lemmas.List.Kept.{IsStrictlySortedBy-filter}
-use Rattle.cv_base.proofs.InOrder.{after_lower, order_rises, turned}
+use Rattle.cv_base.proofs.InOrder.{after_lower, in_order_sorted, turned}
 use Rattle.cv_base.specs.declared.finding.Finding.{Finding}
 use Rattle.cv_base.specs.declared.finding.Reason.{Reason}
-use Rattle.cv_base.specs.declared.finding.Reason.TheVariants.{Added, Removed, Changed}
+use Rattle.cv_base.specs.declared.finding.Reason.TheVariants.{Added, Changed, Removed}
 use Rattle.cv_base.specs.declared.finding.Row.{Row}
 use Rattle.cv_match.specs.Findings.{finding_cmp, finding_total}
 use Rattle.cv_findings.specs.Rows.{added, changed, is_among, is_refixed, removed, row_about, row_cmp, row_total, rows_of, same_fix}
 use Rattle.cv_findings.specs.code.Walk.{change_between, walked}
-use Rattle.cv_findings.proofs.Lookups.{above_tied, at, at_filter, at_head, at_next, at_order, at_ties, at_tied, equal_of, kept, last_append, last_at, last_sorted, none_tied, same_lists}
+use Rattle.cv_findings.proofs.Lookups.{above_tied, at, at_filter, at_head, at_next, at_order, at_tied, at_ties, equal_of, kept, last_append, last_at, last_sorted, none_tied, same_lists}
 
 -- the finding that ties with another one
 abbrev finding_at : List Finding → Finding → Option Finding
@@ -300,7 +300,7 @@ rows_at image before after q s t =
 pub rows_sorted : (image : List ℕ) (before after : List Finding) → IsStrictlySortedBy row_cmp (rows_of image before after)
 unfolding rows_of
 rows_sorted image before after =
-    order_rises row_total (map (row_about image Removed) (removed before after) ++ map (row_about image Added) (added before after) ++ map (row_about image Changed) (changed before after))
+    in_order_sorted row_total (map (row_about image Removed) (removed before after) ++ map (row_about image Added) (added before after) ++ map (row_about image Changed) (changed before after))
 
 -- the walk gives the rows
 pub walked_is : (image : List ℕ) (before after : List Finding) → IsStrictlySortedBy finding_cmp before → IsStrictlySortedBy finding_cmp after

@@ -145,15 +145,23 @@ fn match_listed<L: Ledger>(
     steps: &mut Steps<L>,
 ) -> Result<(), NoMemory>
     requires prepared { prepared.now ≡ «package».now }
-    requires ready { listed.now.ready.now ≡ record { kind = «package».now.kind; advisory = listed.now.advisory.now } }
+    requires prepared_record { listed.now.ready.now ≡ record { kind = «package».now.kind; advisory = listed.now.advisory.now } }
     ensures found { OnOk result (out.new.items ≡ out.old.items ++ found_once (option_copied earlier.entry) «package».now (listed.now.feed.now, listed.now.advisory.now)) }
     ensures counted { steps.new ≤ steps.old + tries_once (option_copied earlier.entry) (listed.now.feed.now, listed.now.advisory.now) }
 {
     if is_tried(earlier, listed.advisory) {
         return Ok(());
     }
-    let (feed, advisory, ready) = (listed.feed, listed.advisory, listed.ready);
-    if let Some(finding) = find_one(alloc, package, prepared, feed, advisory, ready, steps)? {
+    let (feed, advisory, prepared_record) = (listed.feed, listed.advisory, listed.ready);
+    if let Some(finding) = find_one(
+        alloc,
+        package,
+        prepared,
+        feed,
+        advisory,
+        prepared_record,
+        steps,
+    )? {
         out.push(finding)?;
     }
     Ok(())

@@ -79,9 +79,10 @@ impl<D: Desk + Drop, L: Identity> Hub<D, L> {
         Ok((hub, seats))
     }
 
-    /// Applies an event of a seat in a name. The receipt has its number in the list, the machine's reply there and a note of the list
-    /// up to it, which the seat has then seen. If memory runs out, the event is spent, the seat is as before, and the list has no event
-    /// of this call, as the next taking shows. It waits for the lock, and if 2^63 events were applied it does not return.
+    /// Applies an event that a seat submits for a lane or a worker. The receipt has its number in the list, the machine's reply there
+    /// and a note of the list up to it, which the seat has then seen. If memory runs out, the event is spent, the seat is as before, and
+    /// the list has no event of this call, as the next taking shows. It waits for the lock, and if 2^63 events were applied it does not
+    /// return.
     pub fn submit<W: Wait>(
         &self,
         rt: &W,

@@ -1,4 +1,4 @@
-ghost use Rattle.std.specs.Prelude.{◌≡◌, true};
+ghost use Rattle.std.specs.Prelude.{◌≡◌, ◌<◌, true};
 ghost use Rattle.cv_hub.specs.Seats.{AreNumbered};
 ghost use Rattle.sample_events.specs.Core.{opened};
 
@@ -103,7 +103,7 @@ fn taken_together<L: Identity, W: Wait>(
     requires parts { L.parts ≡ 8 }
 {
     let seen = learned(rt, &hub, seats.as_mut_slice());
-    let entries = taken(rt, &mut hub, seats.as_mut_slice())?;
+    let entries = taken(rt, &mut hub, seats.as_mut_slice(), LANES)?;
     let shown = shown(rt, alloc, &hub, seats.as_mut_slice())?;
     hub.end(seats);
     Ok(Together {
@@ -177,7 +177,7 @@ fn taken_apart<L: Identity>(
     Ok((seats, all))
 }
 
-/// The first seat learns a note of all events. How many its next view shows.
+/// The first seat learns a note of all events. How many events it has seen then.
 fn learned<L: Identity, W: Wait>(
     rt: &W,
     hub: &Hub<SampleDesk, L>,
@@ -187,18 +187,20 @@ fn learned<L: Identity, W: Wait>(
         return 0;
     };
     seat.learn(hub.note(rt));
-    hub.view(rt, seat).front()
+    seat.seen().len()
 }
 
-/// The entries that all seats take.
+/// The entries that all seats take, of which there are `count`.
 fn taken<L: Identity, W: Wait>(
     rt: &W,
     hub: &mut Hub<SampleDesk, L>,
     seats: &mut [Seat<SampleDesk, L>],
+    count: usize,
 ) -> Result<Vec<EventEntry>, NoMemory>
-    requires parts { L.parts ≡ 8 }
+    requires parts { L.parts ≡ count }
+    requires has_seats { 0 < count }
 {
-    if seats.len() != LANES || !are_numbered(0, seats) {
+    if seats.len() != count || !are_numbered(0, seats) {
         return Err(NoMemory);
     }
     Ok(hub.take_events(rt, seats))

@@ -19,7 +19,7 @@ use Rattle.cv_machine.specs.Rows.{rows_of as machine_rows}
 use Rattle.cv_machine.specs.Scans.{IsKnown, trees_of}
 use Rattle.cv_machine.specs.State.{Images, State, value_at, with_value, without_value}
 use Rattle.cv_machine.specs.Step.{is_full}
-use Rattle.cv_machine.proofs.Consistent.{few_after}
+use Rattle.cv_machine.proofs.Consistent.{feeds_within_limit}
 use Rattle.cv_machine.proofs.LayerTables.{value_put}
 use Rattle.cv_outcome.specs.Outcome.{FactTable, outcome_at}
 use Rattle.cv_outcome.specs.Truth.{AreFactsOf, report_with}
@@ -35,28 +35,28 @@ use Rattle.cv_knowledge.specs.Knowledge.{KnowledgeView, Outcomes, nothing_known,
 use Rattle.cv_knowledge.proofs.FactTables.{entered_indexed, facts_entered, facts_remaining, remaining_known}
 use Rattle.cv_knowledge.proofs.RenewedLemmas.{all_known}
 use Rattle.cv_inventory.specs.Holdings.{Holdings, IsRegular, alone, feed_table, holding}
-use Rattle.cv_inventory.specs.code.Kept.{HasEntered, IsAlike, IsKept, held, registrations, with_image, without_image}
+use Rattle.cv_inventory.specs.code.Kept.{HasEntered, IsAlike, IsKept, holdings_of, registrations, with_image, without_image}
 
 -- what is true of a registry is true of what is held
-pub alike_now : (r after : Registrations) (table : FeedTable) (now : Holdings) → held r table ≡ now → IsAlike r after → IsAlike (registrations now) after
+pub alike_now : (r after : Registrations) (table : FeedTable) (now : Holdings) → holdings_of r table ≡ now → IsAlike r after → IsAlike (registrations now) after
 alike_now r after table now was h = subst (λ (x : Holdings). IsAlike (registrations x) after) was h
 
-pub with_image_now : (r after : Registrations) (table : FeedTable) (now : Holdings) (image : List ℕ) (layers : List (List ℕ)) → held r table ≡ now
+pub with_image_now : (r after : Registrations) (table : FeedTable) (now : Holdings) (image : List ℕ) (layers : List (List ℕ)) → holdings_of r table ≡ now
     → after ≡ with_image r image layers → after ≡ with_image (registrations now) image layers
 with_image_now r after table now image layers was is = is ∙ ap (λ (x : Holdings). with_image (registrations x) image layers) was
 
-pub without_image_now : (r after : Registrations) (table : FeedTable) (now : Holdings) (image : List ℕ) (layers : List (List ℕ)) → held r table ≡ now
+pub without_image_now : (r after : Registrations) (table : FeedTable) (now : Holdings) (image : List ℕ) (layers : List (List ℕ)) → holdings_of r table ≡ now
     → after ≡ without_image r image layers → after ≡ without_image (registrations now) image layers
 without_image_now r after table now image layers was is = is ∙ ap (λ (x : Holdings). without_image (registrations x) image layers) was
 
-pub entered_now : (r after : Registrations) (table : FeedTable) (now : Holdings) (layer : List ℕ) → held r table ≡ now → HasEntered r after layer
+pub entered_now : (r after : Registrations) (table : FeedTable) (now : Holdings) (layer : List ℕ) → holdings_of r table ≡ now → HasEntered r after layer
     → HasEntered (registrations now) after layer
 entered_now r after table now layer was h = subst (λ (x : Holdings). HasEntered (registrations x) after layer) was h
 
 -- what is held where the feeds stay
-pub held_same : (r after : Registrations) (k next : KnowledgeView) (now made : Holdings) → held r k.feeds ≡ now → next.feeds ≡ k.feeds → made ≡ held after next.feeds
-    → made ≡ held after (feed_table now)
-held_same r after k next now made was feeds is = is ∙ ap (held after) (feeds ∙ ap feed_table was)
+pub holdings_same : (r after : Registrations) (k next : KnowledgeView) (now made : Holdings) → holdings_of r k.feeds ≡ now → next.feeds ≡ k.feeds → made ≡ holdings_of after next.feeds
+    → made ≡ holdings_of after (feed_table now)
+holdings_same r after k next now made was feeds is = is ∙ ap (holdings_of after) (feeds ∙ ap feed_table was)
 
 -- nothing is registered
 pub kept_none : (trees : List ℕ → Option (Option (List Stored))) (r : Registrations) (k : KnowledgeView) (images feeds : ℕ)
@@ -82,7 +82,7 @@ alike trees r after k kept a = record {
 }
 
 pub kept_alike : (trees : List ℕ → Option (Option (List Stored))) (r after : Registrations) (k next : KnowledgeView) (now : Holdings) → IsKept trees r k
-    → held r k.feeds ≡ now → IsAlike (registrations now) after → next ≡ k → IsKept trees after next
+    → holdings_of r k.feeds ≡ now → IsAlike (registrations now) after → next ≡ k → IsKept trees after next
 kept_alike trees r after k next now kept was a b =
     kept_copy trees after after k next (alike trees r after k kept (subst (λ (h : Holdings). IsAlike (registrations h) after) (sym was) a)) refl b
 
@@ -106,7 +106,7 @@ added trees r k image names kept few = record {
 }
 
 pub kept_added : (trees : List ℕ → Option (Option (List Stored))) (r after : Registrations) (k next : KnowledgeView) (now : Holdings) (image : List ℕ) (layers names : List (List ℕ))
-    → IsKept trees r k → held r k.feeds ≡ now → after ≡ with_image (registrations now) image layers → length layers ≤ MAX_LAYERS → names ≡ layers
+    → IsKept trees r k → holdings_of r k.feeds ≡ now → after ≡ with_image (registrations now) image layers → length layers ≤ MAX_LAYERS → names ≡ layers
     → next ≡ image_added k image names → IsKept trees after next
 kept_added trees r after k next now image layers names kept was is few a b =
     kept_copy trees (with_image r image layers) after (image_added k image layers) next (added trees r k image layers kept few)
@@ -134,7 +134,7 @@ dropped trees r k image names kept regular ascends =
     }
 
 pub kept_dropped : (trees : List ℕ → Option (Option (List Stored))) (r after : Registrations) (k next : KnowledgeView) (now : Holdings) (image : List ℕ) (names : List (List ℕ))
-    → IsKept trees r k → held r k.feeds ≡ now → IsRegularRegistry r → IsStrictlySortedBy text_cmp (keys_of k.facts)
+    → IsKept trees r k → holdings_of r k.feeds ≡ now → IsRegularRegistry r → IsStrictlySortedBy text_cmp (keys_of k.facts)
     → after ≡ without_image (registrations now) image names → next ≡ image_dropped k image names after.layers → IsKept trees after next
 kept_dropped trees r after k next now image names kept was regular ascends is a =
     let made : after ≡ without_image r image names = is ∙ ap (λ (h : Holdings). without_image (registrations h) image names) (sym was) in
@@ -155,7 +155,7 @@ entered trees r after k known kept regular h right =
     })
 
 pub kept_entered : (trees : List ℕ → Option (Option (List Stored))) (r after : Registrations) (k next : KnowledgeView) (now : Holdings) (known : Known) → IsKept trees r k
-    → held r k.feeds ≡ now → IsRegularRegistry r → HasEntered (registrations now) after known.digest → IsRight trees known → next ≡ layer_indexed k known r.images
+    → holdings_of r k.feeds ≡ now → IsRegularRegistry r → HasEntered (registrations now) after known.digest → IsRight trees known → next ≡ layer_indexed k known r.images
     → IsKept trees after next
 kept_entered trees r after k next now known kept was regular h right is =
     kept_copy trees after after (layer_indexed k known r.images) next
@@ -180,20 +180,20 @@ kept_updated trees r s k next feeds kept a b few = kept_copy trees r s (feeds_re
 pub few_replaced : (now : Holdings) (feed : List ℕ) (records : List Advisory) (after : FeedTable) → IsRegular now → is_full (alone now) feed ≡ false
     → after ≡ replaced (feed_table now) feed records → length after.feeds ≤ after.limit
 few_replaced now feed records after h room is =
-    subst (λ (t : FeedTable). length t.feeds ≤ t.limit) (sym is) (few_after (alone now) feed (by_id records) h room)
+    subst (λ (t : FeedTable). length t.feeds ≤ t.limit) (sym is) (feeds_within_limit (alone now) feed (by_id records) h room)
 
 -- the rows that an update adds are those of the machine
 pub rows_kept : (tree : List ℕ → Option (Option (List Stored))) (r : Registrations) (k : KnowledgeView) (now : Holdings) (feeds : FeedTable) (rows : List Row) (state : State)
-    → IsKept tree r k → held r k.feeds ≡ now → IsKnown tree → rows ≡ rows_of (update_rows feeds.feeds) k.outcomes
+    → IsKept tree r k → holdings_of r k.feeds ≡ now → IsKnown tree → rows ≡ rows_of (update_rows feeds.feeds) k.outcomes
     → rows ≡ machine_rows (trees_of tree) (holding state now) feeds.feeds
 rows_kept tree r k now feeds rows state kept was all is =
-    is ∙ ap (λ (o : Outcomes). rows_of (update_rows feeds.feeds) o) kept.made ∙ rows_machine tree (holding state (held r k.feeds)) k.facts feeds.feeds all kept.right
+    is ∙ ap (λ (o : Outcomes). rows_of (update_rows feeds.feeds) o) kept.made ∙ rows_machine tree (holding state (holdings_of r k.feeds)) k.facts feeds.feeds all kept.right
     ∙ ap (λ (h : Holdings). machine_rows (trees_of tree) (holding state h) feeds.feeds) was
 
 -- what is held is consistent
-pub regular_held : (trees : List ℕ → Option (Option (List Stored))) (r : Registrations) (k : KnowledgeView) (now : Holdings) → IsKept trees r k → held r k.feeds ≡ now
+pub regular_holdings : (trees : List ℕ → Option (Option (List Stored))) (r : Registrations) (k : KnowledgeView) (now : Holdings) → IsKept trees r k → holdings_of r k.feeds ≡ now
     → IsRegularRegistry r → IsStrictlySortedBy text_cmp (keys_of k.feeds.feeds) → IsRegular now
-regular_held trees r k now kept was h sorted = subst IsRegular was (record {
+regular_holdings trees r k now kept was h sorted = subst IsRegular was (record {
   images = h.images;
   layers = h.layers;
   feeds = sorted;
@@ -213,18 +213,18 @@ report_same tree state facts (Some layers) all are = report_is tree state facts 
 
 -- the report by the outcome that is kept of an image is that of the machine
 pub report_kept : (tree : List ℕ → Option (Option (List Stored))) (r : Registrations) (k : KnowledgeView) (now : Holdings) (state : State) (image : List ℕ) (found : Option Outcome)
-    → IsKept tree r k → held r k.feeds ≡ now → IsKnown tree → found ≡ value_at k.outcomes image
+    → IsKept tree r k → holdings_of r k.feeds ≡ now → IsKnown tree → found ≡ value_at k.outcomes image
     → report_by state.generation found ≡ report_of (trees_of tree) (holding state now) image
 report_kept tree r k now state image found kept was all is =
     ap (report_by state.generation) (is ∙ ap (λ (o : Outcomes). value_at o image) kept.made ∙ mapped_at text_cmp (outcome_at k.facts k.feeds.feeds) r.images image)
-    ∙ report_same tree (holding state (held r k.feeds)) k.facts (value_at r.images image) all kept.right
+    ∙ report_same tree (holding state (holdings_of r k.feeds)) k.facts (value_at r.images image) all kept.right
     ∙ ap (λ (h : Holdings). report_of (trees_of tree) (holding state h) image) was
 
 -- and so are the reports of all images
 pub board_kept : (tree : List ℕ → Option (Option (List Stored))) (r : Registrations) (k : KnowledgeView) (shared : Outcomes) (now : Holdings) (state : State)
-    → IsKept tree r k → held r k.feeds ≡ now → IsKnown tree → shared ≡ k.outcomes
+    → IsKept tree r k → holdings_of r k.feeds ≡ now → IsKnown tree → shared ≡ k.outcomes
     → map_values (report_with state.generation) shared ≡ (board_of (trees_of tree) (holding state now)).reports
 board_kept tree r k shared now state kept was all is =
     ap (λ (o : Outcomes). map_values (report_with state.generation) o) (is ∙ kept.made)
-    ∙ board_is tree (holding state (held r k.feeds)) k.facts all kept.right
+    ∙ board_is tree (holding state (holdings_of r k.feeds)) k.facts all kept.right
     ∙ ap (λ (h : Holdings). (board_of (trees_of tree) (holding state h)).reports) was

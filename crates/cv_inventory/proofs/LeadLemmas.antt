@@ -16,22 +16,22 @@ use Rattle.cv_machine.specs.Step.{claim, claim_at, drop_at, drop_image, entered,
 use Rattle.cv_machine.specs.declared.status.Status.{Status}
 use Rattle.cv_machine.specs.declared.status.Status.TheVariants as status
 use Rattle.cv_machine.proofs.LayerTables.{same_key, value_put}
-use Rattle.cv_registry.specs.Registrations.{Registrations, alone, Leads as LeadsRegistry}
+use Rattle.cv_registry.specs.Registrations.{Leads as LeadsRegistry, Registrations, alone}
 use Rattle.cv_registry.proofs.UserLemmas.{value_cut}
 use Rattle.cv_inventory.specs.Holdings.{Holdings, Leads, feed_table}
-use Rattle.cv_inventory.specs.code.Kept.{HasEntered, IsAlike, held, with_image, without_image}
+use Rattle.cv_inventory.specs.code.Kept.{HasEntered, IsAlike, holdings_of, with_image, without_image}
 use Rattle.cv_inventory.specs.code.Replies.{is_entered, is_registered}
 
 -- a step that leads from registrations to others leads from what is held with some feeds to what is held with them
-held_leads : (event : State → State × Reply) (before after : Registrations) (table : FeedTable) (answer : Reply) → LeadsRegistry event before (after, answer)
-    → Leads event (held before table) (held after table, answer)
-held_leads event before after table answer h state = h (record state { feeds = table.feeds; limits = record { images = 0; feeds = table.limit } })
+holdings_lead : (event : State → State × Reply) (before after : Registrations) (table : FeedTable) (answer : Reply) → LeadsRegistry event before (after, answer)
+    → Leads event (holdings_of before table) (holdings_of after table, answer)
+holdings_lead event before after table answer h state = h (record state { feeds = table.feeds; limits = record { images = 0; feeds = table.limit } })
 
 pub leads : (event : State → State × Reply) (before after : Registrations) (table : FeedTable) (now made : Holdings) (answer : Reply) → LeadsRegistry event before (after, answer)
-    → held before table ≡ now → made ≡ held after (feed_table now) → Leads event now (made, answer)
+    → holdings_of before table ≡ now → made ≡ holdings_of after (feed_table now) → Leads event now (made, answer)
 leads event before after table now made answer h was is =
     subst (λ (x : Holdings). Leads event now (x, answer)) (sym is)
-    (subst (λ (x : Holdings). Leads event x (held after (feed_table x), answer)) was (held_leads event before after table answer h))
+    (subst (λ (x : Holdings). Leads event x (holdings_of after (feed_table x), answer)) was (holdings_lead event before after table answer h))
 
 -- the registrations in a state
 abbrev registered : State → Registrations

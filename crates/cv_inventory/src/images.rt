@@ -2,7 +2,7 @@ ghost use Rattle.std.specs.Prelude.{◌≡◌, ◌≤◌, length, IfOk};
 ghost use Rattle.cv_base.specs.declared.limits.TheConstants.{MAX_LAYERS};
 ghost use Rattle.cv_machine.specs.Step.{drop_image, register};
 ghost use Rattle.cv_inventory.specs.Holdings.{Leads, feed_table};
-ghost use Rattle.cv_inventory.specs.code.Kept.{held, registrations, with_image, without_image};
+ghost use Rattle.cv_inventory.specs.code.Kept.{holdings_of, registrations, with_image, without_image};
 
 use crate::inventory::Inventory;
 use crate::replies::is_registered;
@@ -60,7 +60,7 @@ impl<D: Desk + Drop> Inventory<D> {
     ) -> Result<Inventory<D>, NoMemory>
         requires at_most_128_layers { length manifest.now.layers ≤ MAX_LAYERS }
         requires registered { registry ≡ with_image (registrations self.now) manifest.now.hash manifest.now.layers }
-        ensures { IfOk result (λ after. after ≡ held registry (feed_table self.now)) }
+        ensures { IfOk result (λ after. after ≡ holdings_of registry (feed_table self.now)) }
     {
         let layers = manifest.layers.as_slice();
         let knowledge = self
@@ -78,7 +78,7 @@ impl<D: Desk + Drop> Inventory<D> {
         layers: &[Digest],
     ) -> Result<Inventory<D>, NoMemory>
         requires { registry ≡ without_image (registrations self.now) image.now layers.now }
-        ensures { IfOk result (λ after. after ≡ held registry (feed_table self.now)) }
+        ensures { IfOk result (λ after. after ≡ holdings_of registry (feed_table self.now)) }
     {
         self.registry.regular();
         self.knowledge.sorted();

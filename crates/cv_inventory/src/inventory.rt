@@ -29,11 +29,11 @@ impl<D: Desk + Drop> Drop for Inventory<D> {
 
 impl<D: Desk> Model for Inventory<D> {
     ghost use Rattle.cv_inventory.specs.Holdings.{Holdings};
-    ghost use Rattle.cv_inventory.specs.code.Kept.{IsKept, held};
+    ghost use Rattle.cv_inventory.specs.code.Kept.{IsKept, holdings_of};
 
     ghost Value = { Holdings };
 
-    ghost view = { λ i. held i.registry i.knowledge.feeds };
+    ghost view = { λ i. holdings_of i.registry i.knowledge.feeds };
 
     ghost invariant = { λ i. IsKept D.tree i.registry i.knowledge };
 }

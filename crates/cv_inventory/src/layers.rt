@@ -1,7 +1,7 @@
 ghost use Rattle.std.specs.Prelude.{◌≡◌, IfOk};
 ghost use Rattle.cv_machine.specs.Step.{claim, finish};
 ghost use Rattle.cv_inventory.specs.Holdings.{Leads, feed_table};
-ghost use Rattle.cv_inventory.specs.code.Kept.{HasEntered, held, registrations};
+ghost use Rattle.cv_inventory.specs.code.Kept.{HasEntered, holdings_of, registrations};
 
 use crate::inventory::Inventory;
 use crate::replies::is_entered;
@@ -74,7 +74,7 @@ impl<D: Desk + Drop> Inventory<D> {
         steps: &mut Steps<L>,
     ) -> Result<Inventory<D>, NoMemory>
         requires { HasEntered (registrations self.now) registry indexed.digest }
-        ensures { IfOk result (λ after. after ≡ held registry (feed_table self.now)) }
+        ensures { IfOk result (λ after. after ≡ holdings_of registry (feed_table self.now)) }
     {
         self.registry.regular();
         indexed.known();

@@ -1,6 +1,6 @@
 ghost use Rattle.std.specs.Prelude.{◌≡◌, IfOk};
 ghost use Rattle.cv_inventory.specs.Holdings.{feed_table};
-ghost use Rattle.cv_inventory.specs.code.Kept.{IsAlike, IsKept, held, registrations};
+ghost use Rattle.cv_inventory.specs.code.Kept.{IsAlike, IsKept, holdings_of, registrations};
 
 use crate::inventory::Inventory;
 use cv_desk::Desk;
@@ -13,7 +13,7 @@ impl<D: Desk + Drop> Inventory<D> {
     /// An inventory of these parts.
     pub(crate) fn of(registry: Registry, knowledge: Knowledge<D>) -> Inventory<D>
         requires { IsKept D.tree registry knowledge }
-        ensures { result ≡ held registry knowledge.feeds }
+        ensures { result ≡ holdings_of registry knowledge.feeds }
     {
         Inventory {
             registry,
@@ -24,7 +24,7 @@ impl<D: Desk + Drop> Inventory<D> {
     /// The inventory with a registry that has the same images, and in which the same layers are indexed.
     pub(crate) fn with_registry(&self, registry: Registry) -> Result<Inventory<D>, NoMemory>
         requires { IsAlike (registrations self.now) registry }
-        ensures { IfOk result (λ after. after ≡ held registry (feed_table self.now)) }
+        ensures { IfOk result (λ after. after ≡ holdings_of registry (feed_table self.now)) }
     {
         let knowledge = self.knowledge.share()?;
         Ok(Inventory::of(registry, knowledge))

@@ -4,7 +4,7 @@ ghost use Rattle.cv_machine.specs.Rows.{rows_of};
 ghost use Rattle.cv_machine.specs.Scans.{IsKnown, trees_of};
 ghost use Rattle.cv_machine.specs.State.{State, with_value};
 ghost use Rattle.cv_inventory.specs.Holdings.{feed_table, holding};
-ghost use Rattle.cv_inventory.specs.code.Kept.{held, registrations};
+ghost use Rattle.cv_inventory.specs.code.Kept.{holdings_of, registrations};
 
 use crate::inventory::Inventory;
 use cv_advdb::{AdvError, Feeds};
@@ -54,7 +54,7 @@ impl<D: Desk + Drop> Inventory<D> {
         steps: &mut Steps<L>,
     ) -> Result<(Inventory<D>, Seq<Row>), NoMemory>
         requires { length feeds.feeds ≤ feeds.limit }
-        ensures value { IfOk result (λ after. after.0 ≡ held (registrations self.now) feeds) }
+        ensures value { IfOk result (λ after. after.0 ≡ holdings_of (registrations self.now) feeds) }
         ensures rows { IsKnown D.tree → IfOk result (λ after. (state : State) → after.1 ≡ rows_of (trees_of D.tree) (holding state self.now) feeds.feeds) }
     {
         let registry = self.registry.share()?;

@@ -3,10 +3,10 @@ use Rattle.std.specs.Prelude.{◌≡◌, ℕ, ◌+◌, ◌-◌, ◌<◌, ◌≤�
 use Rattle.std.specs.Option.{option_map}
 use Rattle.std.specs.Io.KnownBytes.{prepend_known}
 use Rattle.cv_io.specs.declared.line.Line.{Line}
-use Rattle.cv_io.specs.declared.line.Line.TheVariants.{Text, End}
+use Rattle.cv_io.specs.declared.line.Line.TheVariants.{End, Text}
 use Rattle.cv_io.specs.declared.line.LineError.{LineError}
-use Rattle.cv_io.specs.declared.line.LineError.TheVariants.{ReadFault, LineTooLong, InputTooLong, NoMemory}
-use Rattle.cv_io.specs.Lines.{LF, HasNoLineEnd, text_of, lines_of, Reading, Finished, LongLine, LongInput, stopped, line_then, reading_of}
+use Rattle.cv_io.specs.declared.line.LineError.TheVariants.{InputTooLong, LineTooLong, NoMemory, ReadFault}
+use Rattle.cv_io.specs.Lines.{Finished, HasNoLineEnd, LF, LongInput, LongLine, Reading, line_then, lines_of, reading_of, stopped, text_of}
 use Rattle.cv_io.specs.Takes.{Progress, Takes}
 
 -- a reader of lines
@@ -69,7 +69,7 @@ pub record IsUnfinished (bytes : List ℕ) (now : Reader) : Type 0 where
   pub held : now.held ≡ bytes
   pub whole : HasNoLineEnd bytes
   pub short : length bytes ≤ now.max_line
-  pub going : now.ended ≡ false
+  pub not_ended : now.ended ≡ false
 
 -- what the answer says of the bytes held before and taken in this call
 abbrev pub Answers : List ℕ → Reader → Result Line LineError → Type 0

@@ -2,10 +2,10 @@ ghost use Rattle.std.specs.Prelude.{◌≡◌, ◌≤◌, ◌<◌, ◌+◌, ◌+
 ghost use Rattle.std.specs.Bool.{MatchBool};
 ghost use Rattle.cv_seq.specs.Cause.{CausedBy};
 ghost use Rattle.cv_io.specs.Fault.{is_read_fault};
-ghost use Rattle.cv_io.specs.Lines.{LF, HasNoLineEnd, text_of};
+ghost use Rattle.cv_io.specs.Lines.{HasNoLineEnd, LF, text_of};
 ghost use Rattle.cv_io.specs.Takes.{Takes};
 ghost use Rattle.cv_io.specs.Reader.{Answers, Step, new_reader};
-ghost use Rattle.cv_io.specs.code.Gather.{held_by, progress_by, reader_of, gathered, SameLimits, SameCounts, reads_remaining};
+ghost use Rattle.cv_io.specs.code.Gather.{SameCounts, SameLimits, gathered, held_by, progress_by, reader_of, reads_remaining};
 
 use crate::chunk::Chunk;
 use crate::fault::IoFault;
@@ -98,7 +98,7 @@ impl Gather {
     /// Reads once, into the chunk.
     fn fill<S: Source>(&mut self, input: &mut S) -> Result<(), LineError>
         requires empty { self.old.chunk ≡ [] }
-        requires going { self.old.ended ≡ false }
+        requires not_ended { self.old.ended ≡ false }
         requires room { self.old.taken < self.old.max_input }
         ensures takes { Takes (held_by self.old) (held_by self.new) (progress_by self.old) (progress_by self.new)
             (S.remaining input.old) (S.remaining input.new) }

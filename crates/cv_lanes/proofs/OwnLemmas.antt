@@ -30,19 +30,19 @@ among_both seat number next xs ys (d ∷ ds) es is (inr first) second =
     inr (first.0 ++ ys, ap (λ own. own ++ ys) first.1, first.2, among_both seat (number + 1) next first.0 ys ds es e first.3 second)
 
 -- no more than there are of the seat
-pub among_few : (seat number : ℕ) (own : List Placed) (ds : List Submission) → Among seat number own ds → length own ≤ made_by seat ds
-among_few seat number own [] h = omega (arith, ap length h)
-among_few seat number own (d ∷ ds) (inl h) = omega (arith, among_few seat (number + 1) own ds h)
-among_few seat number own (d ∷ ds) (inr h) =
+pub among_at_most_made : (seat number : ℕ) (own : List Placed) (ds : List Submission) → Among seat number own ds → length own ≤ made_by seat ds
+among_at_most_made seat number own [] h = omega (arith, ap length h)
+among_at_most_made seat number own (d ∷ ds) (inl h) = omega (arith, among_at_most_made seat (number + 1) own ds h)
+among_at_most_made seat number own (d ∷ ds) (inr h) =
     let one : one_if (d.seat == seat) ≡ 1 = ap one_if (eq-eqb d.seat seat h.2) in
     let size : length own ≡ length (placed number d ∷ h.0) = ap length h.1 in
-    omega (arith, one, size, among_few seat (number + 1) h.0 ds h.3)
+    omega (arith, one, size, among_at_most_made seat (number + 1) h.0 ds h.3)
 
 all_by : (seat number : ℕ) (own : List Placed) (d : Submission) (ds : List Submission) → Among seat number own (d ∷ ds) → length own ≡ made_by seat (d ∷ ds)
     → ((rest : List Placed) → Among seat (number + 1) rest ds → length rest ≡ made_by seat ds → rest ≡ of_seat seat (number + 1) ds)
     → (found : Bool) → (d.seat == seat) ≡ found → own ≡ cond found (placed number d ∷ of_seat seat (number + 1) ds) (of_seat seat (number + 1) ds)
 all_by seat number own d ds (inl h) all next true is =
-    let few = among_few seat (number + 1) own ds h in absurd (omega (arith, all, few, ap one_if is))
+    let few = among_at_most_made seat (number + 1) own ds h in absurd (omega (arith, all, few, ap one_if is))
 all_by seat number own d ds (inl h) all next false is = next own h (omega (arith, all, ap one_if is))
 all_by seat number own d ds (inr h) all next true is =
     let size : length own ≡ length (placed number d ∷ h.0) = ap length h.1 in

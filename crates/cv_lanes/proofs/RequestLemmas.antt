@@ -20,7 +20,7 @@ use Rattle.cv_hub.proofs.Prefixes.{prefix_length}
 use Rattle.cv_legal.specs.Replay.{event_of, read_of}
 use Rattle.cv_lanes.specs.code.Own.{Placed, Submission, placed}
 use Rattle.cv_lanes.specs.code.Lane.{Answered, OneStep, Submitted}
-use Rattle.cv_lanes.specs.code.Place.{answer_of, answered_read, requested}
+use Rattle.cv_lanes.specs.code.Place.{answer_of, answered_read, request_of}
 use Rattle.cv_lanes.specs.declared.request.Place.{Place}
 use Rattle.cv_lanes.proofs.OwnLemmas.{made_one, made_seen}
 
@@ -35,7 +35,7 @@ answered_by tree limits act read list seen (Err error) said is same asks h = inl
 answered_with : (tree : DeskTrees) (limits : Limits) (place : Place) (act : Act) (before after : SeatView) (list : List Submission) (found : Result Answer NoMemory) (entry : ReadEntry)
     → IsPrefix before.list list → after ≡ seat_of before.index list before.count → entry ≡ answered_read place list found
     → ((seen : List Submission) → seen ≡ list → IsKnown tree → (entry.answer ≡ answer.NoMemory) ⊎ (option_map (answer_to (trees_of tree) (state_of (trees_of tree) limits seen)) (read_of act) ≡ Some entry.answer))
-    → OneStep tree limits (requested place act) before after (Answered entry)
+    → OneStep tree limits (request_of place act) before after (Answered entry)
 answered_with tree limits place act before after list found entry begins is made says =
     let size : entry.front ≡ length list = ap (λ r. r.front) made in
     let now : after.list ≡ list = ap (λ s. s.list) is in
@@ -48,25 +48,25 @@ answered_with tree limits place act before after list found entry begins is made
     }
 
 -- a read was answered after the events of a list
-pub looked : (tree : DeskTrees) (limits : Limits) (place : Place) (act : Act) (read : Read) (before after : SeatView) (list : List Submission) (found : Result Answer NoMemory) (entry : ReadEntry)
+pub look_answered : (tree : DeskTrees) (limits : Limits) (place : Place) (act : Act) (read : Read) (before after : SeatView) (list : List Submission) (found : Result Answer NoMemory) (entry : ReadEntry)
     → IsPrefix before.list list → after ≡ seat_of before.index list before.count → entry ≡ answered_read place list found
     → read_of act ≡ Some read → (IsKnown tree → IfOk found (λ a. a ≡ answer_to (trees_of tree) (state_of (trees_of tree) limits list) read))
-    → OneStep tree limits (requested place act) before after (Answered entry)
-looked tree limits place act read before after list found entry begins is made asks h =
+    → OneStep tree limits (request_of place act) before after (Answered entry)
+look_answered tree limits place act read before after list found entry begins is made asks h =
     answered_with tree limits place act before after list found entry begins is made
     (λ seen same known. answered_by tree limits act read list seen found entry.answer (ap (λ r. r.answer) made) same asks (h known))
 
 -- a request of any kind ran out of memory after the events of a list
 pub no_memory : (tree : DeskTrees) (limits : Limits) (place : Place) (act : Act) (before after : SeatView) (list : List Submission) (error : NoMemory) (entry : ReadEntry)
     → IsPrefix before.list list → after ≡ seat_of before.index list before.count → entry ≡ answered_read place list (Err error)
-    → OneStep tree limits (requested place act) before after (Answered entry)
+    → OneStep tree limits (request_of place act) before after (Answered entry)
 no_memory tree limits place act before after list error entry begins is made =
     answered_with tree limits place act before after list (Err error) entry begins is made (λ seen same known. inl (ap (λ r. r.answer) made))
 
 -- an event was applied
 pub submitted_one : (tree : DeskTrees) (limits : Limits) (place : Place) (act : Act) (event : WholeAct) (before after : SeatView) (list : List Submission) (number : ℕ) (reply : Reply) (note : List Submission)
     → event_of act ≡ Some event → IsApplied tree limits list before (by.Lane place.lane place.line) event number reply note after
-    → (p : Placed) × OneStep tree limits (requested place act) before after (Submitted p)
+    → (p : Placed) × OneStep tree limits (request_of place act) before after (Submitted p)
 submitted_one tree limits place act event before after list number reply note is h =
     let one : Submission = record { seat = before.index; by = by.Lane place.lane place.line; act = event; reply = reply } in
     let size : length after.list ≡ length list + 1 = ap (λ s. length s.list) h.seat_is ∙ (ap length h.note_is ∙ length-append list (one ∷ [])) in (

@@ -24,7 +24,7 @@ impl<'a, D: Desk + Drop, L: Identity, W: Wait> Team<Seat<D, L>, Lane> for LaneTe
     ghost did = { λ _ before after lane lane_after. LaneAt D.tree L.limits before after lane lane_after };
 
     fn is_idle(&self, lane: &Lane) -> bool {
-        lane.asked.is_empty()
+        lane.requested.is_empty()
     }
 
     fn run(&self, seat: &mut Seat<D, L>, lane: &mut Lane) -> Result<(), NoMemory> {
@@ -42,10 +42,10 @@ fn run_lane<D: Desk + Drop, L: Identity, W: Wait>(
     requires { IsLanePrepared lane.old }
     ensures { OnOk result (LaneAt D.tree L.limits seat.old seat.new lane.old lane.new) }
 {
-    let alloc = *lane.asked.allocator();
-    let asked = mem::replace(&mut lane.asked, Vec::new(alloc));
-    for requested in asked {
-        if let Some(read) = carry_out(rt, alloc, hub, seat, requested) {
+    let alloc = *lane.requested.allocator();
+    let requested = mem::replace(&mut lane.requested, Vec::new(alloc));
+    for one in requested {
+        if let Some(read) = carry_out(rt, alloc, hub, seat, one) {
             lane.reads.push(read)?;
         }
     }

@@ -7,7 +7,7 @@ ghost use Rattle.cv_request.specs.declared.request.Act.TheVariants as act;
 ghost use Rattle.cv_legal.specs.Replay.{read_of};
 ghost use Rattle.cv_hub.specs.Events.{state_of};
 ghost use Rattle.cv_lanes.specs.code.Lane.{Answered, OneStep};
-ghost use Rattle.cv_lanes.specs.code.Place.{answered_read, requested};
+ghost use Rattle.cv_lanes.specs.code.Place.{answered_read, request_of};
 
 use crate::request::Place;
 use cv_base::{Digest, Finding};
@@ -31,11 +31,11 @@ pub fn report_at<D: Desk + Drop, L: Identity, W: Wait>(
     place: Place,
     image: Digest,
 ) -> ReadEntry
-    ensures { OneStep D.tree L.limits (requested place (act.Report image)) seat.old seat.new (Answered result) }
+    ensures { OneStep D.tree L.limits (request_of place (act.Report image)) seat.old seat.new (Answered result) }
 {
-    let held = hub.view(rt, seat);
-    let answer = report(alloc, &held, image);
-    read_entry(&held, place, answer)
+    let now = hub.view(rt, seat);
+    let answer = report(alloc, &now, image);
+    read_entry(&now, place, answer)
 }
 
 /// A page of a notification, read now.
@@ -51,11 +51,11 @@ pub fn page_at<D: Desk + Drop, L: Identity, W: Wait>(
 ) -> ReadEntry
     requires size { 1 ≤ size }
     requires page { 1 ≤ page }
-    ensures { OneStep D.tree L.limits (requested place (act.Page number size page)) seat.old seat.new (Answered result) }
+    ensures { OneStep D.tree L.limits (request_of place (act.Page number size page)) seat.old seat.new (Answered result) }
 {
-    let held = hub.view(rt, seat);
-    let answer = page_of(alloc, &held, number, size, page);
-    read_entry(&held, place, answer)
+    let now = hub.view(rt, seat);
+    let answer = page_of(alloc, &now, number, size, page);
+    read_entry(&now, place, answer)
 }
 
 /// All notifications, read now.
@@ -66,11 +66,11 @@ pub fn list_at<D: Desk + Drop, L: Identity, W: Wait>(
     seat: &mut Seat<D, L>,
     place: Place,
 ) -> ReadEntry
-    ensures { OneStep D.tree L.limits (requested place act.List) seat.old seat.new (Answered result) }
+    ensures { OneStep D.tree L.limits (request_of place act.List) seat.old seat.new (Answered result) }
 {
-    let held = hub.view(rt, seat);
-    let answer = list(alloc, &held);
-    read_entry(&held, place, answer)
+    let now = hub.view(rt, seat);
+    let answer = list(alloc, &now);
+    read_entry(&now, place, answer)
 }
 
 /// That a request ran out of memory, now.
@@ -80,22 +80,22 @@ pub fn no_memory_at<D: Desk + Drop, L: Identity, W: Wait>(
     seat: &mut Seat<D, L>,
     place: Place,
 ) -> ReadEntry
-    ensures { (act : Act) → OneStep D.tree L.limits (requested place act) seat.old seat.new (Answered result) }
+    ensures { (act : Act) → OneStep D.tree L.limits (request_of place act) seat.old seat.new (Answered result) }
 {
-    let held = hub.view(rt, seat);
-    read_entry(&held, place, Err(NoMemory))
+    let now = hub.view(rt, seat);
+    read_entry(&now, place, Err(NoMemory))
 }
 
 /// The entry of a read with this answer, or that memory ran out.
 fn read_entry<D: Desk + Drop, L: Identity>(
-    held: &View<'_, D, L>,
+    view: &View<'_, D, L>,
     place: Place,
     answer: Result<Answer, NoMemory>,
 ) -> ReadEntry
-    ensures { result ≡ answered_read place held.now answer }
+    ensures { result ≡ answered_read place view.now answer }
 {
     ReadEntry {
-        front: held.front(),
+        front: view.front(),
         lane: place.lane,
         line: place.line,
         answer: answer.unwrap_or(Answer::NoMemory),
@@ -104,24 +104,24 @@ fn read_entry<D: Desk + Drop, L: Identity>(
 
 fn report<D: Desk + Drop, L: Identity>(
     alloc: Global,
-    held: &View<'_, D, L>,
+    view: &View<'_, D, L>,
     image: Digest,
 ) -> Result<Answer, NoMemory>
-    ensures { IsKnown D.tree → IfOk result (λ found. found ≡ answer_to (trees_of D.tree) (state_of (trees_of D.tree) L.limits held.now) (Report image)) }
+    ensures { IsKnown D.tree → IfOk result (λ found. found ≡ answer_to (trees_of D.tree) (state_of (trees_of D.tree) L.limits view.now) (Report image)) }
 {
-    let outcome = report_outcome(alloc, held, &image)?;
+    let outcome = report_outcome(alloc, view, &image)?;
     Ok(Answer::Report { image, outcome })
 }
 
 /// The report of an image, copied.
 fn report_outcome<D: Desk + Drop, L: Identity>(
     alloc: Global,
-    held: &View<'_, D, L>,
+    view: &View<'_, D, L>,
     image: &Digest,
 ) -> Result<ReportOutcome, NoMemory>
-    ensures { IsKnown D.tree → IfOk result (λ outcome. outcome ≡ report_of (trees_of D.tree) (state_of (trees_of D.tree) L.limits held.now) image.now) }
+    ensures { IsKnown D.tree → IfOk result (λ outcome. outcome ≡ report_of (trees_of D.tree) (state_of (trees_of D.tree) L.limits view.now) image.now) }
 {
-    match held.report(image) {
+    match view.report(image) {
         Ok(report) => good(alloc, report.generation, report.findings.as_slice()),
         Err(ReportRefusal::NotRegistered) => Ok(ReportOutcome::NotRegistered),
         Err(ReportRefusal::Pending(ref layer)) => Ok(ReportOutcome::Pending(*layer)),
@@ -147,16 +147,16 @@ fn bad(fault: &ImageFault) -> Result<ReportOutcome, NoMemory>
 
 fn page_of<D: Desk + Drop, L: Identity>(
     alloc: Global,
-    held: &View<'_, D, L>,
+    view: &View<'_, D, L>,
     number: u64,
     size: u32,
     page: u64,
 ) -> Result<Answer, NoMemory>
     requires size { 1 ≤ size }
     requires page { 1 ≤ page }
-    ensures { IsKnown D.tree → IfOk result (λ found. found ≡ answer_to (trees_of D.tree) (state_of (trees_of D.tree) L.limits held.now) (Page number size page)) }
+    ensures { IsKnown D.tree → IfOk result (λ found. found ≡ answer_to (trees_of D.tree) (state_of (trees_of D.tree) L.limits view.now) (Page number size page)) }
 {
-    let outcome = match held.page(number, u64::from(size), page) {
+    let outcome = match view.page(number, u64::from(size), page) {
         Ok(found) => PageOutcome::Rows {
             pages: found.pages,
             rows: copy_rows(alloc, found.rows)?,
@@ -174,9 +174,9 @@ fn page_of<D: Desk + Drop, L: Identity>(
 
 fn list<D: Desk + Drop, L: Identity>(
     alloc: Global,
-    held: &View<'_, D, L>,
+    view: &View<'_, D, L>,
 ) -> Result<Answer, NoMemory>
-    ensures { IsKnown D.tree → IfOk result (λ found. found ≡ answer_to (trees_of D.tree) (state_of (trees_of D.tree) L.limits held.now) Heads) }
+    ensures { IsKnown D.tree → IfOk result (λ found. found ≡ answer_to (trees_of D.tree) (state_of (trees_of D.tree) L.limits view.now) Heads) }
 {
-    Ok(Answer::List(held.list(alloc)?))
+    Ok(Answer::List(view.list(alloc)?))
 }

@@ -5,7 +5,7 @@ ghost use Rattle.cv_steps.specs.Core.{IsSound, act_of};
 ghost use Rattle.cv_legal.specs.Replay.{event_of};
 ghost use Rattle.cv_lanes.specs.code.Lane.{Answered, OneStep, Submitted};
 ghost use Rattle.cv_lanes.specs.code.Own.{Placed};
-ghost use Rattle.cv_lanes.specs.code.Place.{asked_by, requested};
+ghost use Rattle.cv_lanes.specs.code.Place.{request_of, requested_by};
 
 use crate::reads::{list_at, no_memory_at, page_at, report_at};
 use cv_base::Digest;
@@ -39,16 +39,16 @@ pub fn carry_out<D: Desk + Drop, L: Identity, W: Wait>(
     alloc: Global,
     hub: &Hub<D, L>,
     seat: &mut Seat<D, L>,
-    asked: Requested,
+    requested: Requested,
 ) -> Option<ReadEntry>
-    requires within { IsWithinLimits asked.request.act }
-    ensures event { IfNone result ((placed : Placed) × OneStep D.tree L.limits asked seat.old seat.new (Submitted placed)) }
-    ensures read { IfSome result (λ read. OneStep D.tree L.limits asked seat.old seat.new (Answered read)) }
+    requires within { IsWithinLimits requested.request.act }
+    ensures event { IfNone result ((placed : Placed) × OneStep D.tree L.limits requested seat.old seat.new (Submitted placed)) }
+    ensures read { IfSome result (λ read. OneStep D.tree L.limits requested seat.old seat.new (Answered read)) }
 {
     let Requested {
         line,
         request: Request { lane, act },
-    } = asked;
+    } = requested;
     let place = Place { lane, line };
     match event_in(act) {
         Ok(event) => submit(rt, alloc, hub, seat, place, event),
@@ -60,7 +60,7 @@ pub fn carry_out<D: Desk + Drop, L: Identity, W: Wait>(
 fn event_in<D: Desk>(act: Act) -> Result<Event<D>, Look>
     requires within { IsWithinLimits act }
     ensures event { IfOk result (λ event. (event_of act ≡ Some (act_of event)) × IsSound (act_of event)) }
-    ensures read { IfErr result (λ look. (act ≡ asked_by look) × IsWithinLimits (asked_by look)) }
+    ensures read { IfErr result (λ look. (act ≡ requested_by look) × IsWithinLimits (requested_by look)) }
 {
     match act {
         Act::Register(manifest) => Ok(Event::Register(manifest)),
@@ -82,8 +82,8 @@ fn look_at<D: Desk + Drop, L: Identity, W: Wait>(
     place: Place,
     look: Look,
 ) -> ReadEntry
-    requires within { IsWithinLimits (asked_by look) }
-    ensures { OneStep D.tree L.limits (requested place (asked_by look)) seat.old seat.new (Answered result) }
+    requires within { IsWithinLimits (requested_by look) }
+    ensures { OneStep D.tree L.limits (request_of place (requested_by look)) seat.old seat.new (Answered result) }
 {
     match look {
         Look::Report(image) => report_at(rt, alloc, hub, seat, place, image),
@@ -104,8 +104,8 @@ fn submit<D: Desk + Drop, L: Identity, W: Wait>(
     event: Event<D>,
 ) -> Option<ReadEntry>
     requires sound { IsSound (act_of event) }
-    ensures event { (act : Act) → event_of act ≡ Some (act_of event) → IfNone result ((placed : Placed) × OneStep D.tree L.limits (requested place act) seat.old seat.new (Submitted placed)) }
-    ensures read { (act : Act) → event_of act ≡ Some (act_of event) → IfSome result (λ read. OneStep D.tree L.limits (requested place act) seat.old seat.new (Answered read)) }
+    ensures event { (act : Act) → event_of act ≡ Some (act_of event) → IfNone result ((placed : Placed) × OneStep D.tree L.limits (request_of place act) seat.old seat.new (Submitted placed)) }
+    ensures read { (act : Act) → event_of act ≡ Some (act_of event) → IfSome result (λ read. OneStep D.tree L.limits (request_of place act) seat.old seat.new (Answered read)) }
 {
     let by = By::Lane {
         lane: place.lane,

@@ -24,9 +24,9 @@ seen_filter layer other (d ∷ ds) h k = by_tests (same layer d) (same d other) 
 abbrev pub AreSeen : List (List ℕ) → List (List ℕ) → Type 0
 AreSeen ds layers = AllByRecursion (λ layer. has_text ds layer ≡ true) layers
 
-seen_behind : (layer : List ℕ) (ds : List (List ℕ)) (layers : List (List ℕ)) → AreSeen ds layers → AreSeen (layer ∷ filter (λ d. not (same layer d)) ds) layers
-seen_behind layer ds [] h = tt
-seen_behind layer ds (other ∷ others) h = (by_test (same layer other) refl, seen_behind layer ds others h.1) where
+seen_then : (layer : List ℕ) (ds : List (List ℕ)) (layers : List (List ℕ)) → AreSeen ds layers → AreSeen (layer ∷ filter (λ d. not (same layer d)) ds) layers
+seen_then layer ds [] h = tt
+seen_then layer ds (other ∷ others) h = (by_test (same layer other) refl, seen_then layer ds others h.1) where
   by_test : (b : Bool) → same layer other ≡ b → (same layer other || has_text (filter (λ d. not (same layer d)) ds) other) ≡ true
   by_test true e = ap (λ c. c || has_text (filter (λ d. not (same layer d)) ds) other) e
   by_test false e = ap (λ c. c || has_text (filter (λ d. not (same layer d)) ds) other) e ∙ seen_filter layer other ds e h.0
@@ -35,5 +35,5 @@ pub all_seen : (layers : List (List ℕ)) → AreSeen (distinct layers) layers
 all_seen [] = tt
 all_seen (layer ∷ layers) = (
   ap (λ c. c || has_text (filter (λ d. not (same layer d)) (distinct layers)) layer) (same_self layer),
-  seen_behind layer (distinct layers) layers (all_seen layers),
+  seen_then layer (distinct layers) layers (all_seen layers),
 )

@@ -20,7 +20,7 @@ use Rattle.cv_machine.specs.Scans.{Trees}
 use Rattle.cv_legal.specs.Parts.{line_by, lines_answered, times}
 use Rattle.cv_legal.specs.Replay.{Moment}
 use Rattle.cv_legal.specs.Round.{AreReadsOrdered, IsLegalRound, StandsBefore}
-use Rattle.cv_legal.specs.Taken.{IsTaken, lines_asked, refusals, request_at, requests}
+use Rattle.cv_legal.specs.Taken.{IsTaken, lines_requested, refusals, request_at, requests}
 use Rattle.cv_legal.specs.code.Segment.{Address, IsFound, Segment, address_by, address_in, address_of, lane_requests, lanes_from}
 use Rattle.cv_legal.specs.Served.{LinesAscend}
 use Rattle.cv_legal.specs.declared.taken.Requested.{Requested}
@@ -36,13 +36,13 @@ all_cond : {X : Type 0} (P : X → Type 0) (b : Bool) (x : X) (xs : List X) → 
 all_cond P true x xs h k = (h refl, k)
 all_cond P false x xs h k = k
 
--- ---- the requests of rising lines ascend
+-- ---- the requests of ascending lines ascend
 
 -- one request's line is below another's
 abbrev Below : Requested → Requested → Type 0
 Below first second = first.line < second.line
 
--- requests on rising lines
+-- requests on ascending lines
 abbrev pub RequestsAscend : List Requested → Type 0
 RequestsAscend [] = ⊤
 RequestsAscend (r ∷ rs) = AllByRecursion (Below r) rs × RequestsAscend rs
@@ -59,7 +59,7 @@ taken_above number (line ∷ lines) (t ∷ taken) h k = by_answer t.answer (take
   by_answer (Ok request) rest = (let low = k.0 in let same = h.0.number in omega (arith, low, same), rest)
   by_answer (Err error) rest = rest
 
--- what became of rising lines
+-- what became of ascending lines
 pub requests_ascend : (lines : List Line) (last : ℕ) (taken : List Taken) → AllZip IsTaken lines taken → LinesAscend lines last → RequestsAscend (requests taken)
 requests_ascend [] last [] h k = tt
 requests_ascend [] last (t ∷ taken) h k = absurd h
@@ -93,36 +93,36 @@ found_after : (first : Requested) (rest some : List Requested) → AllByRecursio
 found_after first rest [] low found = tt
 found_after first rest (r ∷ some) low found = (found_next first rest r low.0 found.0, found_after first rest some low.1 found.1)
 
-pub all_found : (asked : List Requested) → RequestsAscend asked → AllByRecursion (IsFound asked) asked
+pub all_found : (requested : List Requested) → RequestsAscend requested → AllByRecursion (IsFound requested) requested
 all_found [] h = tt
 all_found (first ∷ rest) h = (found_first first rest, found_after first rest rest h.0 (all_found rest h.1))
 
 -- ---- lanes, one after the other
 
 -- what holds of all requests holds of those of a lane
-pub in_lane : (P : Requested → Type 0) (lane : ℕ) (asked : List Requested) → AllByRecursion P asked → AllByRecursion P (lane_requests lane asked)
+pub in_lane : (P : Requested → Type 0) (lane : ℕ) (requested : List Requested) → AllByRecursion P requested → AllByRecursion P (lane_requests lane requested)
 in_lane P lane [] h = tt
-in_lane P lane (r ∷ asked) h = all_cond P (r.request.lane == lane) r (lane_requests lane asked) (λ same. h.0) (in_lane P lane asked h.1)
+in_lane P lane (r ∷ requested) h = all_cond P (r.request.lane == lane) r (lane_requests lane requested) (λ same. h.0) (in_lane P lane requested h.1)
 
 -- and of those of several lanes
-in_lanes : (P : Requested → Type 0) (lane count : ℕ) (asked : List Requested) → AllByRecursion P asked → AllByRecursion P (lanes_from lane count asked)
-in_lanes P lane zero asked h = tt
-in_lanes P lane (suc count) asked h =
-    all_both P (lane_requests lane asked) (lanes_from (lane + 1) count asked) (in_lane P lane asked h) (in_lanes P (lane + 1) count asked h)
+in_lanes : (P : Requested → Type 0) (lane count : ℕ) (requested : List Requested) → AllByRecursion P requested → AllByRecursion P (lanes_from lane count requested)
+in_lanes P lane zero requested h = tt
+in_lanes P lane (suc count) requested h =
+    all_both P (lane_requests lane requested) (lanes_from (lane + 1) count requested) (in_lane P lane requested h) (in_lanes P (lane + 1) count requested h)
 
 -- the requests of a lane are of it
-pub of_lane : (lane : ℕ) (asked : List Requested) → AllByRecursion (λ r. r.request.lane ≡ lane) (lane_requests lane asked)
+pub of_lane : (lane : ℕ) (requested : List Requested) → AllByRecursion (λ r. r.request.lane ≡ lane) (lane_requests lane requested)
 of_lane lane [] = tt
-of_lane lane (r ∷ asked) =
-    all_cond (λ (x : Requested). x.request.lane ≡ lane) (r.request.lane == lane) r (lane_requests lane asked) (eqb-true r.request.lane lane) (of_lane lane asked)
+of_lane lane (r ∷ requested) =
+    all_cond (λ (x : Requested). x.request.lane ≡ lane) (r.request.lane == lane) r (lane_requests lane requested) (eqb-true r.request.lane lane) (of_lane lane requested)
 
 -- those of lanes from one on are of no lower lane
-of_lanes : (lane count : ℕ) (asked : List Requested) → AllByRecursion (λ r. lane ≤ r.request.lane) (lanes_from lane count asked)
-of_lanes lane zero asked = tt
-of_lanes lane (suc count) asked =
-    all_both (λ (r : Requested). lane ≤ r.request.lane) (lane_requests lane asked) (lanes_from (lane + 1) count asked)
-    (all_weaker (λ (r : Requested). r.request.lane ≡ lane) (λ (r : Requested). lane ≤ r.request.lane) (lane_requests lane asked) (λ r same. omega (arith, same)) (of_lane lane asked))
-    (all_weaker (λ (r : Requested). lane + 1 ≤ r.request.lane) (λ (r : Requested). lane ≤ r.request.lane) (lanes_from (lane + 1) count asked) (λ r most. omega (arith, most)) (of_lanes (lane + 1) count asked))
+of_lanes : (lane count : ℕ) (requested : List Requested) → AllByRecursion (λ r. lane ≤ r.request.lane) (lanes_from lane count requested)
+of_lanes lane zero requested = tt
+of_lanes lane (suc count) requested =
+    all_both (λ (r : Requested). lane ≤ r.request.lane) (lane_requests lane requested) (lanes_from (lane + 1) count requested)
+    (all_weaker (λ (r : Requested). r.request.lane ≡ lane) (λ (r : Requested). lane ≤ r.request.lane) (lane_requests lane requested) (λ r same. omega (arith, same)) (of_lane lane requested))
+    (all_weaker (λ (r : Requested). lane + 1 ≤ r.request.lane) (λ (r : Requested). lane ≤ r.request.lane) (lanes_from (lane + 1) count requested) (λ r most. omega (arith, most)) (of_lanes (lane + 1) count requested))
 
 -- ---- their order
 
@@ -147,25 +147,25 @@ order_lane lane (x ∷ xs) h ascend = (after xs h.1 ascend.0, order_lane lane xs
   after [] same low = tt
   after (r ∷ rs) same low = (inr (h.0 ∙ sym same.0, low.0), after rs same.1 low.1)
 
--- rising requests without some of them
+-- ascending requests without some of them
 rise_cond : (b : Bool) (x : Requested) (xs : List Requested) → AllByRecursion (Below x) xs → RequestsAscend xs → RequestsAscend (cond b (x ∷ xs) xs)
 rise_cond true x xs h k = (h, k)
 rise_cond false x xs h k = k
 
-pub rise_lane : (lane : ℕ) (asked : List Requested) → RequestsAscend asked → RequestsAscend (lane_requests lane asked)
+pub rise_lane : (lane : ℕ) (requested : List Requested) → RequestsAscend requested → RequestsAscend (lane_requests lane requested)
 rise_lane lane [] h = tt
-rise_lane lane (r ∷ asked) h =
-    rise_cond (r.request.lane == lane) r (lane_requests lane asked) (in_lane (Below r) lane asked h.0) (rise_lane lane asked h.1)
+rise_lane lane (r ∷ requested) h =
+    rise_cond (r.request.lane == lane) r (lane_requests lane requested) (in_lane (Below r) lane requested h.0) (rise_lane lane requested h.1)
 
-order_lanes : (lane count : ℕ) (asked : List Requested) → RequestsAscend asked → InOrder (lanes_from lane count asked)
-order_lanes lane zero asked ascend = tt
-order_lanes lane (suc count) asked ascend =
-    order_both (lane_requests lane asked) (lanes_from (lane + 1) count asked)
-    (order_lane lane (lane_requests lane asked) (of_lane lane asked) (rise_lane lane asked ascend))
-    (order_lanes (lane + 1) count asked ascend)
-    (all_weaker (λ (r : Requested). r.request.lane ≡ lane) (λ (r : Requested). AllByRecursion (Precedes r) (lanes_from (lane + 1) count asked)) (lane_requests lane asked)
-    (λ r same. all_weaker (λ (x : Requested). lane + 1 ≤ x.request.lane) (Precedes r) (lanes_from (lane + 1) count asked) (λ x most. inl (omega (arith, same, most))) (of_lanes (lane + 1) count asked))
-    (of_lane lane asked))
+order_lanes : (lane count : ℕ) (requested : List Requested) → RequestsAscend requested → InOrder (lanes_from lane count requested)
+order_lanes lane zero requested ascend = tt
+order_lanes lane (suc count) requested ascend =
+    order_both (lane_requests lane requested) (lanes_from (lane + 1) count requested)
+    (order_lane lane (lane_requests lane requested) (of_lane lane requested) (rise_lane lane requested ascend))
+    (order_lanes (lane + 1) count requested ascend)
+    (all_weaker (λ (r : Requested). r.request.lane ≡ lane) (λ (r : Requested). AllByRecursion (Precedes r) (lanes_from (lane + 1) count requested)) (lane_requests lane requested)
+    (λ r same. all_weaker (λ (x : Requested). lane + 1 ≤ x.request.lane) (Precedes r) (lanes_from (lane + 1) count requested) (λ x most. inl (omega (arith, same, most))) (of_lanes (lane + 1) count requested))
+    (of_lane lane requested))
 
 -- the same of addresses
 abbrev Leads : Address → Address → Type 0
@@ -175,7 +175,7 @@ abbrev AreLed : List Address → Type 0
 AreLed [] = ⊤
 AreLed (a ∷ later) = AllByRecursion (Leads a) later × AreLed later
 
-led : (asked : List Requested) → InOrder asked → AreLed (map address_of asked)
+led : (requested : List Requested) → InOrder requested → AreLed (map address_of requested)
 led [] h = tt
 led (r ∷ rs) h = (after rs h.0, led rs h.1) where
   after : (xs : List Requested) → AllByRecursion (Precedes r) xs → AllByRecursion (Leads (address_of r)) (map address_of xs)
@@ -233,13 +233,13 @@ answered lane (entry.Event event ∷ entries) = by_source event.by (answered lan
   by_source (by.Worker worker) same = same
 answered lane (entry.Read read ∷ entries) = ap (λ xs. cons_option (cond (read.lane == lane) (Some read.line) None) xs) (answered lane entries)
 
-asked_lines : (lane : ℕ) (asked : List Requested) → filter_map (line_of lane) (map address_of asked) ≡ lines_asked lane asked
-asked_lines lane [] = refl
-asked_lines lane (r ∷ asked) =
-    ap (λ xs. cons_option (cond (r.request.lane == lane) (Some r.line) None) xs) (asked_lines lane asked)
+requested_lines : (lane : ℕ) (requested : List Requested) → filter_map (line_of lane) (map address_of requested) ≡ lines_requested lane requested
+requested_lines lane [] = refl
+requested_lines lane (r ∷ requested) =
+    ap (λ xs. cons_option (cond (r.request.lane == lane) (Some r.line) None) xs) (requested_lines lane requested)
     ∙ by_test (r.request.lane == lane) where
       by_test : (b : Bool)
-          → cons_option (cond b (Some r.line) None) (lines_asked lane asked) ≡ map (λ (x : Requested). x.line) (cond b (r ∷ lane_requests lane asked) (lane_requests lane asked))
+          → cons_option (cond b (Some r.line) None) (lines_requested lane requested) ≡ map (λ (x : Requested). x.line) (cond b (r ∷ lane_requests lane requested) (lane_requests lane requested))
       by_test true = refl
       by_test false = refl
 
@@ -259,10 +259,10 @@ two_same : {X : Type 0} (xs us ys vs : List X) → xs ≡ us → ys ≡ vs → x
 two_same xs us ys vs h k = ap (λ zs. zs ++ ys) h ∙ ap (λ zs. us ++ zs) k
 
 -- the requests of a lane, of those of later lanes
-lane_below : (k lane count : ℕ) (asked : List Requested) → k < lane → lane_requests k (lanes_from lane count asked) ≡ []
-lane_below k lane count asked low =
-    none_kept k (lanes_from lane count asked)
-    (all_weaker (λ (r : Requested). lane ≤ r.request.lane) (λ (r : Requested). r.request.lane ≡ k → ⊥) (lanes_from lane count asked) (λ r most same. omega (arith, low, most, same)) (of_lanes lane count asked))
+lane_below : (k lane count : ℕ) (requested : List Requested) → k < lane → lane_requests k (lanes_from lane count requested) ≡ []
+lane_below k lane count requested low =
+    none_kept k (lanes_from lane count requested)
+    (all_weaker (λ (r : Requested). lane ≤ r.request.lane) (λ (r : Requested). r.request.lane ≡ k → ⊥) (lanes_from lane count requested) (λ r most same. omega (arith, low, most, same)) (of_lanes lane count requested))
 
 above : (lane k : ℕ) → lane ≤ k → (lane ≡ k → ⊥) → lane + 1 ≤ k
 above lane k low other = by_order (cases_lt lane k) where
@@ -271,44 +271,44 @@ above lane k low other = by_order (cases_lt lane k) where
   by_order (inr most) = absurd (other (omega (arith, low, most)))
 
 -- the requests of a lane, of those of lanes among which it is
-lane_within : (k lane count : ℕ) (asked : List Requested) → lane ≤ k → k < lane + count → lane_requests k (lanes_from lane count asked) ≡ lane_requests k asked
-lane_within k lane zero asked low high = absurd (omega (arith, low, high))
-lane_within k lane (suc count) asked low high =
-    filter-append (λ (r : Requested). r.request.lane == k) (lane_requests lane asked) (lanes_from (lane + 1) count asked)
-    ∙ by_lane (cases_eq lane k) (λ next. lane_within k (lane + 1) count asked next (omega (arith, high))) where
-      by_lane : (lane ≡ k) ⊎ (lane ≡ k → ⊥) → (lane + 1 ≤ k → lane_requests k (lanes_from (lane + 1) count asked) ≡ lane_requests k asked)
-          → lane_requests k (lane_requests lane asked) ++ lane_requests k (lanes_from (lane + 1) count asked) ≡ lane_requests k asked
+lane_within : (k lane count : ℕ) (requested : List Requested) → lane ≤ k → k < lane + count → lane_requests k (lanes_from lane count requested) ≡ lane_requests k requested
+lane_within k lane zero requested low high = absurd (omega (arith, low, high))
+lane_within k lane (suc count) requested low high =
+    filter-append (λ (r : Requested). r.request.lane == k) (lane_requests lane requested) (lanes_from (lane + 1) count requested)
+    ∙ by_lane (cases_eq lane k) (λ next. lane_within k (lane + 1) count requested next (omega (arith, high))) where
+      by_lane : (lane ≡ k) ⊎ (lane ≡ k → ⊥) → (lane + 1 ≤ k → lane_requests k (lanes_from (lane + 1) count requested) ≡ lane_requests k requested)
+          → lane_requests k (lane_requests lane requested) ++ lane_requests k (lanes_from (lane + 1) count requested) ≡ lane_requests k requested
       by_lane (inl same) rest =
-          two_same _ (lane_requests k asked) _ []
-          (subst (λ n. lane_requests k (lane_requests n asked) ≡ lane_requests k asked) (sym same) (all_kept k (lane_requests k asked) (of_lane k asked)))
-          (lane_below k (lane + 1) count asked (omega (arith, same)))
-          ∙ append-nil (lane_requests k asked)
+          two_same _ (lane_requests k requested) _ []
+          (subst (λ n. lane_requests k (lane_requests n requested) ≡ lane_requests k requested) (sym same) (all_kept k (lane_requests k requested) (of_lane k requested)))
+          (lane_below k (lane + 1) count requested (omega (arith, same)))
+          ∙ append-nil (lane_requests k requested)
       by_lane (inr other) rest =
-          two_same _ [] _ (lane_requests k asked)
-          (none_kept k (lane_requests lane asked)
-          (all_weaker (λ (r : Requested). r.request.lane ≡ lane) (λ (r : Requested). r.request.lane ≡ k → ⊥) (lane_requests lane asked) (λ r here there. other (sym here ∙ there)) (of_lane lane asked)))
+          two_same _ [] _ (lane_requests k requested)
+          (none_kept k (lane_requests lane requested)
+          (all_weaker (λ (r : Requested). r.request.lane ≡ lane) (λ (r : Requested). r.request.lane ≡ k → ⊥) (lane_requests lane requested) (λ r here there. other (sym here ∙ there)) (of_lane lane requested)))
           (rest (above lane k low other))
 
 -- lanes above those that there are have no request
-lane_above : (k bound : ℕ) (asked : List Requested) → bound ≤ k → AllByRecursion (λ r. r.request.lane < bound) asked → lane_requests k asked ≡ []
-lane_above k bound asked high all =
-    none_kept k asked (all_weaker (λ (r : Requested). r.request.lane < bound) (λ (r : Requested). r.request.lane ≡ k → ⊥) asked (λ r low same. omega (arith, low, same, high)) all)
+lane_above : (k bound : ℕ) (requested : List Requested) → bound ≤ k → AllByRecursion (λ r. r.request.lane < bound) requested → lane_requests k requested ≡ []
+lane_above k bound requested high all =
+    none_kept k requested (all_weaker (λ (r : Requested). r.request.lane < bound) (λ (r : Requested). r.request.lane ≡ k → ⊥) requested (λ r low same. omega (arith, low, same, high)) all)
 
-every_lane : (k : ℕ) (asked : List Requested) → AllByRecursion (λ r. r.request.lane < 8) asked → lane_requests k (lanes_from 0 8 asked) ≡ lane_requests k asked
-every_lane k asked all = by_number (cases_lt k 8) where
-  by_number : (k < 8) ⊎ (8 ≤ k) → lane_requests k (lanes_from 0 8 asked) ≡ lane_requests k asked
-  by_number (inl low) = lane_within k 0 8 asked (omega arith) (omega (arith, low))
+every_lane : (k : ℕ) (requested : List Requested) → AllByRecursion (λ r. r.request.lane < 8) requested → lane_requests k (lanes_from 0 8 requested) ≡ lane_requests k requested
+every_lane k requested all = by_number (cases_lt k 8) where
+  by_number : (k < 8) ⊎ (8 ≤ k) → lane_requests k (lanes_from 0 8 requested) ≡ lane_requests k requested
+  by_number (inl low) = lane_within k 0 8 requested (omega arith) (omega (arith, low))
   by_number (inr high) =
-      lane_above k 8 (lanes_from 0 8 asked) high (in_lanes (λ (r : Requested). r.request.lane < 8) 0 8 asked all)
-      ∙ sym (lane_above k 8 asked high all)
+      lane_above k 8 (lanes_from 0 8 requested) high (in_lanes (λ (r : Requested). r.request.lane < 8) 0 8 requested all)
+      ∙ sym (lane_above k 8 requested high all)
 
-lane_lines : (lane : ℕ) (asked : List Requested) (entries : List Entry) → AllByRecursion (λ r. r.request.lane < 8) asked
-    → filter_map address_in entries ≡ map address_of (lanes_from 0 8 asked) → lines_answered lane entries ≡ lines_asked lane asked
-lane_lines lane asked entries all same =
+lane_lines : (lane : ℕ) (requested : List Requested) (entries : List Entry) → AllByRecursion (λ r. r.request.lane < 8) requested
+    → filter_map address_in entries ≡ map address_of (lanes_from 0 8 requested) → lines_answered lane entries ≡ lines_requested lane requested
+lane_lines lane requested entries all same =
     answered lane entries
     ∙ ap (λ addresses. filter_map (line_of lane) addresses) same
-    ∙ asked_lines lane (lanes_from 0 8 asked)
-    ∙ ap (λ rs. map (λ (r : Requested). r.line) rs) (every_lane lane asked all)
+    ∙ requested_lines lane (lanes_from 0 8 requested)
+    ∙ ap (λ rs. map (λ (r : Requested). r.line) rs) (every_lane lane requested all)
 
 -- ---- the round
 

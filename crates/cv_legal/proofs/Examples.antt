@@ -55,7 +55,7 @@ use Rattle.cv_legal.specs.Parts.{claim_in, claims_of, event_by, events_by, lines
 use Rattle.cv_legal.specs.Replay.{Moment, Replays, beginning, moment_after, read_of, submitted}
 use Rattle.cv_legal.specs.Round.{AreReadsOrdered, IsLegalRound}
 use Rattle.cv_legal.specs.Rounds.{Round, RoundLimits, round_limits, rounds_of}
-use Rattle.cv_legal.specs.Taken.{IsTaken, lines_asked, refusal_at, refusals, request_at, requests}
+use Rattle.cv_legal.specs.Taken.{IsTaken, lines_requested, refusal_at, refusals, request_at, requests}
 use Rattle.cv_legal.specs.Turns.{ClaimsBelow, FitsWork, Works}
 use Rattle.cv_legal.specs.code.Segment.{lane_requests}
 use Rattle.cv_legal.specs.Served.{LinesAscend}
@@ -161,8 +161,8 @@ unfolding is_utf8 chars serde_json_on_literals request_of act_of decode_pairs
 reports = refl
 
 -- a request of lane 0
-abbrev asked : ℕ → RequestAct → Requested
-asked number act = record { line = number; request = record { lane = 0; act = act } }
+abbrev requested : ℕ → RequestAct → Requested
+requested number act = record { line = number; request = record { lane = 0; act = act } }
 
 -- what became of the lines
 abbrev asks : ℕ → RequestAct → Taken
@@ -228,7 +228,7 @@ first_legal = record {
 } where
   by_lane : (b : Bool)
       → cons_option (cond b (Some 1) None) (cons_option (cond b (Some 2) None) [])
-      ≡ map (λ (r : Requested). r.line) (cond b (asked 1 (request.Register manifest) ∷ cond b (asked 2 (request.Report image) ∷ []) []) (cond b (asked 2 (request.Report image) ∷ []) []))
+      ≡ map (λ (r : Requested). r.line) (cond b (requested 1 (request.Register manifest) ∷ cond b (requested 2 (request.Report image) ∷ []) []) (cond b (requested 2 (request.Report image) ∷ []) []))
   by_lane true = refl
   by_lane false = refl
 
@@ -265,7 +265,7 @@ second_legal = record {
   claimers = (omega arith, (tt, tt));
   works = λ worker. worker_works (0 == worker);
 } where
-  by_lane : (b : Bool) → cons_option (cond b (Some 4) None) [] ≡ map (λ (r : Requested). r.line) (cond b (asked 4 (request.Report image) ∷ []) [])
+  by_lane : (b : Bool) → cons_option (cond b (Some 4) None) [] ≡ map (λ (r : Requested). r.line) (cond b (requested 4 (request.Report image) ∷ []) [])
   by_lane true = refl
   by_lane false = refl
 
@@ -291,7 +291,7 @@ bad_legal = record {
   claimers = tt;
   works = λ worker. refl;
 } where
-  by_lane : (b : Bool) → cons_option (cond b (Some 1) None) [] ≡ map (λ (r : Requested). r.line) (cond b (asked 1 (request.Report image) ∷ []) [])
+  by_lane : (b : Bool) → cons_option (cond b (Some 1) None) [] ≡ map (λ (r : Requested). r.line) (cond b (requested 1 (request.Report image) ∷ []) [])
   by_lane true = refl
   by_lane false = refl
 
@@ -309,7 +309,7 @@ full_legal = record {
   claimers = tt;
   works = λ worker. refl;
 } where
-  by_lane : (b : Bool) → cons_option (cond b (Some 1) None) [] ≡ map (λ (r : Requested). r.line) (cond b (asked 1 (request.Register manifest) ∷ []) [])
+  by_lane : (b : Bool) → cons_option (cond b (Some 1) None) [] ≡ map (λ (r : Requested). r.line) (cond b (requested 1 (request.Register manifest) ∷ []) [])
   by_lane true = refl
   by_lane false = refl
 
@@ -482,7 +482,7 @@ abbrev late_entries : List Entry
 late_entries = entry.Read (record { front = 3; lane = 0; line = 4; answer = answer.Report image (report.Pending layer) }) ∷ []
 
 -- in this state no report of the image waits
-never_waits : (asked : Option Read) → option_map (answer_to trees indexed.state) asked ≡ Some (answer.Report image (report.Pending layer)) → ⊥
+never_waits : (requested : Option Read) → option_map (answer_to trees indexed.state) requested ≡ Some (answer.Report image (report.Pending layer)) → ⊥
 unfolding rows_of scan root_entries packages findings affects fixed
 never_waits None is = cc is
 never_waits (Some (reads.Report other)) is =
@@ -551,8 +551,8 @@ swapped_acts : (first second : EventEntry) (workers : ℕ) (before : Moment) (li
     → IsLegalRound trees workers before lines (swapped_events first second) after → ⊥
 swapped_acts first second workers before lines last after ascend h =
     let same = others_are trees workers before lines (swapped_events first second) after h (λ refused. refused) in
-    let numbers : lines_answered 0 (swapped_events first second) ≡ lines_asked 0 (requests h.taken) =
-    subst (λ entries. lines_answered 0 entries ≡ lines_asked 0 (requests h.taken)) same (h.lanes 0) in
+    let numbers : lines_answered 0 (swapped_events first second) ≡ lines_requested 0 (requests h.taken) =
+    subst (λ entries. lines_answered 0 entries ≡ lines_requested 0 (requests h.taken)) same (h.lanes 0) in
     not_falling (lane_requests 0 (requests h.taken)) (rise_lane 0 (requests h.taken) (requests_ascend lines last h.taken h.answers ascend)) numbers
 
 -- no claim of a layer that is Queued as the round begins
@@ -653,38 +653,38 @@ wrong_layer workers lines after h =
 
 -- what the second round asks, if it begins with no refused line
 asks_report : (taken : List Taken) (entries others : List Entry) → AllZip IsTaken second_round taken → BeginsUnrefused entries → entries ≡ refusals taken ++ others
-    → requests taken ≡ asked 4 (request.Report image) ∷ []
+    → requests taken ≡ requested 4 (request.Report image) ∷ []
 asks_report [] entries others h none is = absurd h
 asks_report (first ∷ next ∷ taken) entries others h none is = absurd h.1
 asks_report (first ∷ []) entries others h none is = by_answer first.answer h.0.answer is where
   by_answer : (answer : Result Request RequestError) → Yields fault_of (λ request. request) answer (request_line report_line)
       → entries ≡ cons_option (refusal_at first.line answer) [] ++ others
-      → cons_option (request_at first.line answer) [] ≡ asked 4 (request.Report image) ∷ []
+      → cons_option (request_at first.line answer) [] ≡ requested 4 (request.Report image) ∷ []
   by_answer (Ok r) known is =
       let both : Ok (record { lane = 0; act = request.Report image }) ≡ Ok r = sym reports ∙ known in
       let same_request : record { lane = 0; act = request.Report image } ≡ r = cc both in
       ap (λ (x : Request). record { line = first.line; request = x } ∷ []) (sym same_request)
-      ∙ ap (λ n. asked n (request.Report image) ∷ []) h.0.number
+      ∙ ap (λ n. requested n (request.Report image) ∷ []) h.0.number
   by_answer (Err error) known is = absurd (subst BeginsUnrefused is none tt)
 
 -- a line without an entry
 no_answer : (workers : ℕ) (before after : Moment) → IsLegalRound trees workers before second_round [] after → ⊥
 no_answer workers before after h =
-    let asked_lines = ap (λ rs. lines_asked 0 rs) (asks_report h.taken [] h.others h.answers tt h.parts) in
-    let answered = subst (λ entries. lines_answered 0 entries ≡ lines_asked 0 (requests h.taken)) (others_are trees workers before second_round [] after h tt) (h.lanes 0) in
-    let none : ◌≡◌ {A = List ℕ} [] (4 ∷ []) = answered ∙ asked_lines in
+    let requested_lines = ap (λ rs. lines_requested 0 rs) (asks_report h.taken [] h.others h.answers tt h.parts) in
+    let answered = subst (λ entries. lines_answered 0 entries ≡ lines_requested 0 (requests h.taken)) (others_are trees workers before second_round [] after h tt) (h.lanes 0) in
+    let none : ◌≡◌ {A = List ℕ} [] (4 ∷ []) = answered ∙ requested_lines in
     cc none
 
 -- an event that its line does not ask for
-abbrev not_asked : ℕ → Reply → List Entry
-not_asked number answer = entry.Event (record { number = number; by = by.Lane 0 4; act = name.DropImage image; reply = answer }) ∷ []
+abbrev not_requested : ℕ → Reply → List Entry
+not_requested number answer = entry.Event (record { number = number; by = by.Lane 0 4; act = name.DropImage image; reply = answer }) ∷ []
 
-asks_no_event : (number : ℕ) (answer : Reply) (workers : ℕ) (before after : Moment) → IsLegalRound trees workers before second_round (not_asked number answer) after → ⊥
+asks_no_event : (number : ℕ) (answer : Reply) (workers : ℕ) (before after : Moment) → IsLegalRound trees workers before second_round (not_requested number answer) after → ⊥
 asks_no_event number answer workers before after h =
-    let entries = not_asked number answer in
+    let entries = not_requested number answer in
     let asks = asks_report h.taken entries h.others h.answers (λ refused. refused) h.parts in
-    let replays : Replays trees (asked 4 (request.Report image) ∷ []) before (not_asked number answer) after =
-    subst (λ rs. Replays trees rs before (not_asked number answer) after) asks
+    let replays : Replays trees (requested 4 (request.Report image) ∷ []) before (not_requested number answer) after =
+    subst (λ rs. Replays trees rs before (not_requested number answer) after) asks
     (subst (λ es. Replays trees (requests h.taken) before es after) (others_are trees workers before second_round entries after h (λ refused. refused)) h.replays) in
     let source : None ≡ Some replays.1.act = replays.1.source in
     cc source

@@ -73,8 +73,8 @@ some_names : (trees : Trees) (state : State) (read : Option Read) (other : Answe
 some_names trees state None other h = absurd (cc h)
 some_names trees state (Some read) other h = subst (λ a. Names state.generation a) (same_Some (answer_to trees state read) other h) (answer_names trees state read)
 
-read_names : (trees : Trees) (asked : List Requested) (now : Moment) (read : ReadEntry) → IsRead trees asked now read → Names now.state.generation read.answer
-read_names trees asked now read h = by_kind h.is where
+read_names : (trees : Trees) (requested : List Requested) (now : Moment) (read : ReadEntry) → IsRead trees requested now read → Names now.state.generation read.answer
+read_names trees requested now read h = by_kind h.is where
   by_kind : (read.answer ≡ answer.NoMemory) ⊎ (option_map (answer_to trees now.state) (read_of h.act) ≡ Some read.answer) → Names now.state.generation read.answer
   by_kind (inl e) = inl (ap (λ a. answer_generation a) e)
   by_kind (inr e) = some_names trees now.state (read_of h.act) read.answer e
@@ -85,17 +85,17 @@ after_read : (first last : ℕ) (rest : List ℕ) (named : Option ℕ) → (name
 after_read first last rest named (inl e) k = subst (λ o. NeverFall first (cons_option o rest) last) (sym e) k
 after_read first last rest named (inr e) k = subst (λ o. NeverFall first (cons_option o rest) last) (sym e) (omega arith, k)
 
-fall_entries : KnownSteps → (trees : Trees) (asked : List Requested) (before after : Moment) (entries : List Entry)
-    → Replays trees asked before entries after → NeverFall before.state.generation (generations entries) after.state.generation
-fall_entries known trees asked before after [] h = let e = ap (λ m. m.state.generation) h in omega (arith, e)
-fall_entries known trees asked before after (entry.Refused line error ∷ entries) h = absurd h
-fall_entries known trees asked before after (entry.Event event ∷ entries) h =
-    let rest = subst (λ m. NeverFall m.state.generation (generations entries) after.state.generation) h.1.next (fall_entries known trees asked h.0 after entries h.2) in
+fall_entries : KnownSteps → (trees : Trees) (requested : List Requested) (before after : Moment) (entries : List Entry)
+    → Replays trees requested before entries after → NeverFall before.state.generation (generations entries) after.state.generation
+fall_entries known trees requested before after [] h = let e = ap (λ m. m.state.generation) h in omega (arith, e)
+fall_entries known trees requested before after (entry.Refused line error ∷ entries) h = absurd h
+fall_entries known trees requested before after (entry.Event event ∷ entries) h =
+    let rest = subst (λ m. NeverFall m.state.generation (generations entries) after.state.generation) h.1.next (fall_entries known trees requested h.0 after entries h.2) in
     let all = after_reply (step trees before.state h.1.act).1 before.state.generation (moment_after trees before h.1.act).state.generation after.state.generation (generations entries) (known trees before.state h.1.act) rest in
     subst (λ r. NeverFall before.state.generation (cons_option (reply_generation r) (generations entries)) after.state.generation) (sym (ap (λ e. e.reply) h.1.is)) all
-fall_entries known trees asked before after (entry.Read read ∷ entries) h =
+fall_entries known trees requested before after (entry.Read read ∷ entries) h =
     after_read before.state.generation after.state.generation (generations entries) (answer_generation read.answer)
-    (read_names trees asked before read h.0) (fall_entries known trees asked before after entries h.1)
+    (read_names trees requested before read h.0) (fall_entries known trees requested before after entries h.1)
 
 -- a refused line names no generation
 none_named : (taken : List Taken) (others : List Entry) → generations (refusals taken ++ others) ≡ generations others

@@ -53,13 +53,13 @@ is_history trees before after (event ∷ events) h =
 
 -- ---- of a round
 
-follow_entries : (trees : Trees) (asked : List Requested) (before after : Moment) (entries : List Entry) → Replays trees asked before entries after
+follow_entries : (trees : Trees) (requested : List Requested) (before after : Moment) (entries : List Entry) → Replays trees requested before entries after
     → Follow trees before (events_of entries) after
-follow_entries trees asked before after [] h = h
-follow_entries trees asked before after (entry.Refused line error ∷ entries) h = absurd h
-follow_entries trees asked before after (entry.Event event ∷ entries) h =
-    (h.1.act, h.1.is, subst (λ m. Follow trees m (events_of entries) after) h.1.next (follow_entries trees asked h.0 after entries h.2))
-follow_entries trees asked before after (entry.Read read ∷ entries) h = follow_entries trees asked before after entries h.1
+follow_entries trees requested before after [] h = h
+follow_entries trees requested before after (entry.Refused line error ∷ entries) h = absurd h
+follow_entries trees requested before after (entry.Event event ∷ entries) h =
+    (h.1.act, h.1.is, subst (λ m. Follow trees m (events_of entries) after) h.1.next (follow_entries trees requested h.0 after entries h.2))
+follow_entries trees requested before after (entry.Read read ∷ entries) h = follow_entries trees requested before after entries h.1
 
 -- a refused line is no event
 no_events : (taken : List Taken) (others : List Entry) → events_of (refusals taken ++ others) ≡ events_of others

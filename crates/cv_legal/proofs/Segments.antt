@@ -85,16 +85,16 @@ by_both worker xs ys =
     ∙ filter_map_both (λ (event : EventEntry). event_by worker event.by event) (events_of xs) (events_of ys)
 
 -- a part, and then the next
-pub both : (trees : Trees) (workers : ℕ) (asked more : List Requested) (jobs further : List (List ℕ)) (before between after : Moment) (xs ys : List Entry)
-    → Segment trees workers asked jobs before xs between → Segment trees workers more further between ys after
-    → Segment trees workers (asked ++ more) (jobs ++ further) before (xs ++ ys) after
-both trees workers asked more jobs further before between after xs ys h k = record {
+pub both : (trees : Trees) (workers : ℕ) (requested more : List Requested) (jobs further : List (List ℕ)) (before between after : Moment) (xs ys : List Entry)
+    → Segment trees workers requested jobs before xs between → Segment trees workers more further between ys after
+    → Segment trees workers (requested ++ more) (jobs ++ further) before (xs ++ ys) after
+both trees workers requested more jobs further before between after xs ys h k = record {
   replays = λ all found. replays_both trees all before between after xs ys
-      (h.replays all (all_front (IsFound all) asked more found)) (k.replays all (all_back (IsFound all) asked more found));
+      (h.replays all (all_front (IsFound all) requested more found)) (k.replays all (all_back (IsFound all) requested more found));
   addresses =
       filter_map_both address_in xs ys
       ∙ two_same _ _ _ _ h.addresses k.addresses
-      ∙ sym (map-append address_of asked more);
+      ∙ sym (map-append address_of requested more);
   claims = claims_both xs ys ∙ two_same _ _ _ _ h.claims k.claims;
   claimers = subst (λ events. AllByRecursion (λ event. ClaimsBelow workers event.by event.act) events) (sym (events_both xs ys))
       (all_both (λ event. ClaimsBelow workers event.by event.act) (events_of xs) (events_of ys) h.claimers k.claimers);
@@ -105,18 +105,18 @@ both trees workers asked more jobs further before between after xs ys h k = reco
 -- ---- lanes, one after the other
 
 -- one more lane, after the others
-pub lanes_next : (lane count : ℕ) (asked : List Requested) → lanes_from lane (count + 1) asked ≡ lanes_from lane count asked ++ lane_requests (lane + count) asked
-lanes_next lane count asked =
+pub lanes_next : (lane count : ℕ) (requested : List Requested) → lanes_from lane (count + 1) requested ≡ lanes_from lane count requested ++ lane_requests (lane + count) requested
+lanes_next lane count requested =
     let more : count + 1 ≡ suc count = omega arith in
-    ap (λ n. lanes_from lane n asked) more ∙ next lane count where
-      next : (first : ℕ) (n : ℕ) → lanes_from first (suc n) asked ≡ lanes_from first n asked ++ lane_requests (first + n) asked
+    ap (λ n. lanes_from lane n requested) more ∙ next lane count where
+      next : (first : ℕ) (n : ℕ) → lanes_from first (suc n) requested ≡ lanes_from first n requested ++ lane_requests (first + n) requested
       next first zero =
           let same : first ≡ first + 0 = omega arith in
-          append-nil (lane_requests first asked) ∙ ap (λ k. lane_requests k asked) same
+          append-nil (lane_requests first requested) ∙ ap (λ k. lane_requests k requested) same
       next first (suc n) =
           let same : first + 1 + n ≡ first + suc n = omega arith in
-          ap (λ rest. lane_requests first asked ++ rest) (next (first + 1) n ∙ ap (λ k. lanes_from (first + 1) n asked ++ lane_requests k asked) same)
-          ∙ sym (append_assoc (lane_requests first asked) (lanes_from (first + 1) n asked) (lane_requests (first + suc n) asked))
+          ap (λ rest. lane_requests first requested ++ rest) (next (first + 1) n ∙ ap (λ k. lanes_from (first + 1) n requested ++ lane_requests k requested) same)
+          ∙ sym (append_assoc (lane_requests first requested) (lanes_from (first + 1) n requested) (lane_requests (first + suc n) requested))
 
 -- ---- of one request
 
@@ -135,11 +135,11 @@ lane_claims workers lane line (request.Page number size page) = tt
 lane_claims workers lane line request.List = tt
 lane_claims workers lane line (request.Ack number) = (refl, tt)
 
-pub one_event : (trees : Trees) (workers : ℕ) (asked : Requested) (act : WholeAct) (before : Moment) → event_of asked.request.act ≡ Some act
-    → Segment trees workers (asked ∷ []) [] before (entry_at trees before (by.Lane asked.request.lane asked.line) act ∷ []) (moment_after trees before act)
-one_event trees workers asked act before is =
-    let none : (claim_in (act_name act) ≡ None) × ClaimsBelow workers (by.Lane asked.request.lane asked.line) (act_name act) =
-    subst (λ o. NoClaim workers (by.Lane asked.request.lane asked.line) o) is (lane_claims workers asked.request.lane asked.line asked.request.act) in
+pub one_event : (trees : Trees) (workers : ℕ) (requested : Requested) (act : WholeAct) (before : Moment) → event_of requested.request.act ≡ Some act
+    → Segment trees workers (requested ∷ []) [] before (entry_at trees before (by.Lane requested.request.lane requested.line) act ∷ []) (moment_after trees before act)
+one_event trees workers requested act before is =
+    let none : (claim_in (act_name act) ≡ None) × ClaimsBelow workers (by.Lane requested.request.lane requested.line) (act_name act) =
+    subst (λ o. NoClaim workers (by.Lane requested.request.lane requested.line) o) is (lane_claims workers requested.request.lane requested.line requested.request.act) in
     record {
       replays = λ all found.
           (moment_after trees before act, record { act = act; source = ap (λ o. option_and_then event_of o) found.0 ∙ is; is = refl; next = refl }, refl);
@@ -149,11 +149,11 @@ one_event trees workers asked act before is =
       works = λ worker. refl;
     }
 
-pub one_read : (trees : Trees) (workers : ℕ) (asked : Requested) (found : Answer) (before : Moment)
-    → ((found ≡ answer.NoMemory) ⊎ (option_map (answer_to trees before.state) (read_of asked.request.act) ≡ Some found))
-    → Segment trees workers (asked ∷ []) [] before (entry.Read (record { front = before.count; lane = asked.request.lane; line = asked.line; answer = found }) ∷ []) before
-one_read trees workers asked found before is = record {
-  replays = λ all known. (record { act = asked.request.act; source = known.0; front = refl; is = is }, refl);
+pub one_read : (trees : Trees) (workers : ℕ) (requested : Requested) (found : Answer) (before : Moment)
+    → ((found ≡ answer.NoMemory) ⊎ (option_map (answer_to trees before.state) (read_of requested.request.act) ≡ Some found))
+    → Segment trees workers (requested ∷ []) [] before (entry.Read (record { front = before.count; lane = requested.request.lane; line = requested.line; answer = found }) ∷ []) before
+one_read trees workers requested found before is = record {
+  replays = λ all known. (record { act = requested.request.act; source = known.0; front = refl; is = is }, refl);
   addresses = refl;
   claims = refl;
   claimers = tt;

@@ -59,8 +59,8 @@ read_of request.List = Some reads.Heads
 read_of (request.Ack number) = None
 
 -- what the request of a lane on a line asks for
-abbrev pub asked_at : List Requested → ℕ → ℕ → Option RequestAct
-asked_at asked lane line = option_map (λ r. r.request.act) (find (λ r. r.line == line && r.request.lane == lane) asked)
+abbrev pub requested_at : List Requested → ℕ → ℕ → Option RequestAct
+requested_at requested lane line = option_map (λ r. r.request.act) (find (λ r. r.line == line && r.request.lane == lane) requested)
 
 -- ---- events
 
@@ -74,13 +74,13 @@ worker_event worker act = None
 
 -- the event of an entry, by who submits it: that of a lane is what the request of the line submits, whole
 abbrev pub submitted : List Requested → By → Act → Option WholeAct
-submitted asked (by.Lane lane line) act = option_and_then event_of (asked_at asked lane line)
-submitted asked (by.Worker worker) act = worker_event worker act
+submitted requested (by.Lane lane line) act = option_and_then event_of (requested_at requested lane line)
+submitted requested (by.Worker worker) act = worker_event worker act
 
 -- an event at its place: it has the next number and the machine's reply
-pub record IsEvent (trees : Trees) (asked : List Requested) (before : Moment) (entry : EventEntry) (after : Moment) : Type 0 where
+pub record IsEvent (trees : Trees) (requested : List Requested) (before : Moment) (entry : EventEntry) (after : Moment) : Type 0 where
   pub act : WholeAct
-  pub source : submitted asked entry.by entry.act ≡ Some act
+  pub source : submitted requested entry.by entry.act ≡ Some act
   pub is : entry ≡ event_entry (before.count + 1) entry.by act (step trees before.state act).1
   pub next : after ≡ moment_after trees before act
 
@@ -88,9 +88,9 @@ pub record IsEvent (trees : Trees) (asked : List Requested) (before : Moment) (e
 
 -- a lane's line without an event, at its place: its front is the number of events before it, and it has the answer there, or
 -- says that memory ran out. The latter may be the line of any request
-pub record IsRead (trees : Trees) (asked : List Requested) (now : Moment) (entry : ReadEntry) : Type 0 where
+pub record IsRead (trees : Trees) (requested : List Requested) (now : Moment) (entry : ReadEntry) : Type 0 where
   pub act : RequestAct
-  pub source : asked_at asked entry.lane entry.line ≡ Some act
+  pub source : requested_at requested entry.lane entry.line ≡ Some act
   pub front : entry.front ≡ now.count
   pub is : (entry.answer ≡ answer.NoMemory) ⊎ (option_map (answer_to trees now.state) (read_of act) ≡ Some entry.answer)
 
@@ -98,9 +98,9 @@ pub record IsRead (trees : Trees) (asked : List Requested) (now : Moment) (entry
 
 -- entries lead from one moment to another. Only an event moves on
 abbrev pub Replays : Trees → List Requested → Moment → List Entry → Moment → Type 0
-Replays trees asked before [] after = after ≡ before
-Replays trees asked before (entry.Refused line error ∷ entries) after = ⊥
-Replays trees asked before (entry.Event event ∷ entries) after =
-    (between : Moment) × IsEvent trees asked before event between × Replays trees asked between entries after
-Replays trees asked before (entry.Read read ∷ entries) after =
-    IsRead trees asked before read × Replays trees asked before entries after
+Replays trees requested before [] after = after ≡ before
+Replays trees requested before (entry.Refused line error ∷ entries) after = ⊥
+Replays trees requested before (entry.Event event ∷ entries) after =
+    (between : Moment) × IsEvent trees requested before event between × Replays trees requested between entries after
+Replays trees requested before (entry.Read read ∷ entries) after =
+    IsRead trees requested before read × Replays trees requested before entries after

@@ -10,7 +10,7 @@ use Rattle.cv_machine.specs.Scans.{Trees}
 use Rattle.cv_legal.specs.Parts.{claims_of, events_by, lines_answered, times}
 use Rattle.cv_legal.specs.Replay.{Moment, Replays}
 use Rattle.cv_legal.specs.Rounds.{Round}
-use Rattle.cv_legal.specs.Taken.{IsTaken, lines_asked, refusals, requests}
+use Rattle.cv_legal.specs.Taken.{IsTaken, lines_requested, refusals, requests}
 use Rattle.cv_legal.specs.declared.taken.Taken.{Taken}
 use Rattle.cv_legal.specs.Turns.{ClaimsBelow, Works}
 
@@ -41,7 +41,7 @@ pub record IsLegalRound (trees : Trees) (workers : ℕ) (before : Moment) (lines
   pub ordered : AreReadsOrdered others
   -- each line that is not refused has one entry, and those of a lane stand in input order. This holds for every lane, also for
   -- those that no request has, so there are no further entries of lanes
-  pub lanes : (lane : ℕ) → lines_answered lane others ≡ lines_asked lane (requests taken)
+  pub lanes : (lane : ℕ) → lines_answered lane others ≡ lines_requested lane (requests taken)
   -- each layer that is Queued as the round begins has one claim line, and no other layer has one
   pub claims : (layer : List ℕ) → times layer (claims_of (events_of others)) ≡ times layer (queued before.state.layers)
   pub claimers : AllByRecursion (λ event. ClaimsBelow workers event.by event.act) (events_of others)

@@ -37,5 +37,5 @@ abbrev pub requests : List Taken → List Requested
 requests taken = filter_map (λ t. request_at t.line t.answer) taken
 
 -- the lines of a lane's requests, in input order
-abbrev pub lines_asked : ℕ → List Requested → List ℕ
-lines_asked lane asked = map (λ r. r.line) (filter (λ r. r.request.lane == lane) asked)
+abbrev pub lines_requested : ℕ → List Requested → List ℕ
+lines_requested lane requested = map (λ r. r.line) (filter (λ r. r.request.lane == lane) requested)

@@ -54,15 +54,15 @@ made_all index [] seats numbered = omega (arith, made_none seats)
 made_all index (event ∷ list) seats numbered = omega (arith, made_next event list seats, of_one event.seat index seats numbered, made_all index list seats numbered)
 
 -- the receipts of seats are no more than their events of a list that each has seen a beginning of
-receipts_few : (list : List Submission) (seats : List SeatView) → HaveSeen list seats → AreMade seats → receipts_of seats ≤ made_by_all list seats
-receipts_few list [] seen made = omega arith
-receipts_few list (seat ∷ seats) seen made = omega (arith, made.0, made_begins seat.index seat.list list seen.0, receipts_few list seats seen.1 made.1)
+receipts_at_most_made : (list : List Submission) (seats : List SeatView) → HaveSeen list seats → AreMade seats → receipts_of seats ≤ made_by_all list seats
+receipts_at_most_made list [] seen made = omega arith
+receipts_at_most_made list (seat ∷ seats) seen made = omega (arith, made.0, made_begins seat.index seat.list list seen.0, receipts_at_most_made list seats seen.1 made.1)
 
 each : (list : List Submission) (seats : List SeatView) → HaveSeen list seats → AreMade seats → made_by_all list seats ≤ receipts_of seats → AreAllReceipts list seats
 each list [] seen made enough = tt
 each list (seat ∷ seats) seen made enough =
     let here : seat.count ≤ made_by seat.index list = omega (arith, made.0, made_begins seat.index seat.list list seen.0) in
-    let rest = receipts_few list seats seen.1 made.1 in
+    let rest = receipts_at_most_made list seats seen.1 made.1 in
     (omega (arith, enough, here, rest), each list seats seen.1 made.1 (omega (arith, enough, here, rest)))
 
 -- as many receipts as events: each seat has just its receipts

@@ -202,8 +202,8 @@ notified_numbers : (ns : Notifications) (n : ℕ) (rows : List Row) → AllByRec
 notified_numbers ns n [] h = all_later n (keys_of ns) h
 notified_numbers ns n (row ∷ rows) h = all_last (λ number. number ≤ n + 1) ns (n + 1) (row ∷ rows) (all_later n (keys_of ns) h) (omega arith)
 
-pub few_after : (s : State) (feed : List ℕ) (records : List Advisory) → IsConsistent s → is_full s feed ≡ false → length (with_value s.feeds feed records) ≤ s.limits.feeds
-few_after s feed records h room = by_found (is_some (value_at s.feeds feed)) (nat_le s.limits.feeds (length s.feeds)) refl refl room where
+pub feeds_within_limit : (s : State) (feed : List ℕ) (records : List Advisory) → IsConsistent s → is_full s feed ≡ false → length (with_value s.feeds feed records) ≤ s.limits.feeds
+feeds_within_limit s feed records h room = by_found (is_some (value_at s.feeds feed)) (nat_le s.limits.feeds (length s.feeds)) refl refl room where
   by_found : (b full : Bool) → is_some (value_at s.feeds feed) ≡ b → nat_le s.limits.feeds (length s.feeds) ≡ full → (full && not b) ≡ false
       → length (with_value s.feeds feed records) ≤ s.limits.feeds
   by_found true full found is some =
@@ -235,7 +235,7 @@ update_consistent trees s feed records h = by_room (is_full s feed) refl where
   by_room true full = h
   by_room false room =
       updated_consistent s (with_value s.feeds feed (by_id records)) (rows_of trees s (with_value s.feeds feed (by_id records))) h
-      (sorted_put nat_list_cmp_total s.feeds feed (by_id records) h.feeds) (few_after s feed (by_id records) h room)
+      (sorted_put nat_list_cmp_total s.feeds feed (by_id records) h.feeds) (feeds_within_limit s feed (by_id records) h room)
 
 -- Ack
 

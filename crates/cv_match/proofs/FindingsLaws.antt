@@ -6,7 +6,7 @@ use Rattle.std.specs.Ordering.{is_eq}
 use Rattle.cv_base.specs.declared.advisory.Advisory.{Advisory}
 use Rattle.cv_base.specs.declared.finding.Finding.{Finding}
 use Rattle.cv_base.specs.declared.«package».Package.{Package}
-use Rattle.cv_base.proofs.InOrder.{all_order, any_order, order_rises}
+use Rattle.cv_base.proofs.InOrder.{all_order, any_order, in_order_sorted}
 use Rattle.cv_match.specs.Findings.{finding_cmp, finding_total, findings, is_of_pair, pair_findings}
 
 abbrev Feeds : Type 0
@@ -14,7 +14,7 @@ Feeds = List (List ℕ × List Advisory)
 
 pub sorted : (packages : List Package) (feeds : Feeds) → IsStrictlySortedBy finding_cmp (findings packages feeds)
 unfolding findings
-sorted packages feeds = order_rises finding_total (pair_findings packages feeds)
+sorted packages feeds = in_order_sorted finding_total (pair_findings packages feeds)
 
 pub complete : (packages : List Package) (feeds : Feeds) (f : Finding)
     → list_any (is_of_pair f) (findings packages feeds) ≡ list_any (is_of_pair f) (pair_findings packages feeds)

@@ -58,7 +58,7 @@ abbrev mutual
   members_number json.no_members = false
   members_number (json.member k j ms) = has_number j || members_number ms
 
--- the value of a tree, as the code has it
+-- a value of serde_json as data
 abbrev pub data_view : {A : Type 0} → Value A → Data
 data_view v = data_of (value_view v)
 

@@ -31,17 +31,6 @@ pub enum PathError {
     NoMemory,
 }
 
-impl From<NoMemory> for PathError {
-    ghost use Rattle.std.specs.Prelude.{◌≡◌};
-    ghost use Rattle.cv_path.specs.declared.path.PathError.TheVariants as error;
-
-    ghost from_gives = { λ _ e. e ≡ error.NoMemory };
-
-    fn from(_error: NoMemory) -> PathError {
-        PathError::NoMemory
-    }
-}
-
 /// A path within a layer, relative to its top: the top itself, or what `read` accepts. Contracts see it as the list
 /// of its components. Paths are ordered by them, and not as joined texts: `a/b` comes before `a-b`. A copy shares
 /// the text.
@@ -266,5 +255,16 @@ impl Ord for RelPath {
 
     fn cmp(&self, other: &RelPath) -> Ordering {
         text_order(self.text().as_bytes(), other.text().as_bytes())
+    }
+}
+
+impl From<NoMemory> for PathError {
+    ghost use Rattle.std.specs.Prelude.{◌≡◌};
+    ghost use Rattle.cv_path.specs.declared.path.PathError.TheVariants as error;
+
+    ghost from_gives = { λ _ e. e ≡ error.NoMemory };
+
+    fn from(_error: NoMemory) -> PathError {
+        PathError::NoMemory
     }
 }

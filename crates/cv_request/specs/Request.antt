@@ -76,8 +76,8 @@ request_of d = do
   _ ← refusing (object_or NotObject d)
   lane ← refusing (lane_or (get (codes "lane") d))
   name ← refusing (text_or BadDo (get (codes "do") d))
-  asked ← act_of name d
-  Ok (record { lane = lane; act = asked })
+  command ← act_of name d
+  Ok (record { lane = lane; act = command })
 
 -- the request that a line is
 abbrev pub request_line : List ℕ → Result Request RequestFault

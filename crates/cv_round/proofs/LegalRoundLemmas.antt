@@ -27,13 +27,13 @@ use Rattle.cv_machine.specs.declared.limits.Limits.{Limits}
 use Rattle.cv_legal.specs.Parts.{claim_in, claims_of, events_by, lines_answered, times}
 use Rattle.cv_legal.specs.Replay.{event_of, submitted}
 use Rattle.cv_legal.specs.Round.{IsLegalRound}
-use Rattle.cv_legal.specs.Taken.{IsTaken, lines_asked, refusal_at, refusals, requests}
+use Rattle.cv_legal.specs.Taken.{IsTaken, lines_requested, refusal_at, refusals, requests}
 use Rattle.cv_legal.specs.Turns.{ClaimsBelow, Works}
 use Rattle.cv_legal.specs.code.Segment.{lane_requests}
 use Rattle.cv_legal.specs.Served.{LinesAscend}
 use Rattle.cv_legal.specs.declared.taken.Requested.{Requested}
 use Rattle.cv_legal.specs.declared.taken.Taken.{Taken}
-use Rattle.cv_legal.proofs.Assembled.{RequestsAscend, requests_ascend, of_lane as of_this_lane}
+use Rattle.cv_legal.proofs.Assembled.{RequestsAscend, of_lane as of_this_lane, requests_ascend}
 use Rattle.cv_legal.proofs.Order.{reads_in_order}
 use Rattle.cv_pool.specs.Jobs.{lists_weigh, weigh, weigh_below}
 use Rattle.cv_workers.specs.Events.{DeskTrees, IsReplayed, entries_from, state_of}
@@ -41,7 +41,7 @@ use Rattle.cv_workers.specs.Seats.{SeatView, made_by, one_if}
 use Rattle.cv_workers.specs.code.Own.{Made, Placed, Submission, entry_of, of_seat}
 use Rattle.cv_workers.proofs.Prefixes.{prefix_chain, prefix_length, prefix_same}
 use Rattle.cv_workers.specs.Counts.{RoseBy, fault_count, grant_count}
-use Rattle.cv_workers.specs.code.Lane.{Answers, IsFrom, IsWithin, LaneDid, Answered, Step, Submitted, placed_of}
+use Rattle.cv_workers.specs.code.Lane.{Answered, Answers, IsFrom, IsWithin, LaneDid, Step, Submitted, placed_of}
 use Rattle.cv_workers.specs.code.Worker.{IsByWorker, WorkerDid, layers_of}
 use Rattle.cv_workers.proofs.LaneLemmas.{all_longer, from_less, within_more}
 use Rattle.cv_round.specs.Round.{moment_of}
@@ -63,16 +63,16 @@ own_of before later seat mid end own is long seen first last made =
     own_is before later mid end own long (seen_before mid end own (before ++ later) made seen) seen made first last
     ∙ ap (λ i. of_seat i (length before + 1) later) is
 
-pub lane_part : (tree : DeskTrees) (limits : Limits) (before later : List Submission) (asked : List Requested) (lane : ℕ) (mid end : SeatView) (reads : List ReadEntry) → mid.index ≡ lane
+pub lane_part : (tree : DeskTrees) (limits : Limits) (before later : List Submission) (requested : List Requested) (lane : ℕ) (mid end : SeatView) (reads : List ReadEntry) → mid.index ≡ lane
     → length before ≤ length mid.list → IsPrefix end.list (before ++ later) → made_by mid.index before ≡ mid.count → made_by end.index (before ++ later) ≡ end.count
-    → LaneDid tree limits (lane_requests lane asked) mid [] end reads → LanePart tree limits before later asked lane reads
-lane_part tree limits before later asked lane mid end reads is long seen first last did =
+    → LaneDid tree limits (lane_requests lane requested) mid [] end reads → LanePart tree limits before later requested lane reads
+lane_part tree limits before later requested lane mid end reads is long seen first last did =
     let some = did.steps in
     record {
       steps = some;
       own = own_of before later lane mid end (placed_of some) is long seen first last did.made;
       reads_are = did.reads_are;
-      answers = all_longer tree limits end.list (before ++ later) (lane_requests lane asked) some seen did.within did.answers;
+      answers = all_longer tree limits end.list (before ++ later) (lane_requests lane requested) some seen did.within did.answers;
       from = all_weaker (IsFrom (length mid.list)) (IsFrom (length before)) some (from_less (length before) (length mid.list) long) did.from;
       within = all_weaker (IsWithin (length end.list)) (IsWithin (length (before ++ later))) some (within_more (length end.list) (length (before ++ later)) (prefix_length end.list (before ++ later) seen)) did.within;
       in_turn = did.in_turn;
@@ -96,9 +96,9 @@ lane_fits : (lane : ℕ) (tree : DeskTrees) (limits : Limits) (list : List Submi
     → AllZip (Answers tree limits list) asks steps → AllByRecursion (λ (p : Placed). FitsSeat lane p.event.by) (placed_of steps)
 lane_fits lane tree limits list [] [] low of h = tt
 lane_fits lane tree limits list [] (step ∷ steps) low of h = absurd h
-lane_fits lane tree limits list (asked ∷ asks) [] low of h = absurd h
-lane_fits lane tree limits list (asked ∷ asks) (Submitted p ∷ steps) low of h = (subst (FitsSeat lane) (sym h.0.0) (of.0, low), lane_fits lane tree limits list asks steps low of.1 h.1)
-lane_fits lane tree limits list (asked ∷ asks) (Answered read ∷ steps) low of h = lane_fits lane tree limits list asks steps low of.1 h.1
+lane_fits lane tree limits list (requested ∷ asks) [] low of h = absurd h
+lane_fits lane tree limits list (requested ∷ asks) (Submitted p ∷ steps) low of h = (subst (FitsSeat lane) (sym h.0.0) (of.0, low), lane_fits lane tree limits list asks steps low of.1 h.1)
+lane_fits lane tree limits list (requested ∷ asks) (Answered read ∷ steps) low of h = lane_fits lane tree limits list asks steps low of.1 h.1
 
 -- a request submits no claim
 no_claim : (act : RequestAct) (event : WholeAct) → event_of act ≡ Some event → claim_in (act_name event) ≡ None
@@ -115,10 +115,10 @@ lane_claims : (tree : DeskTrees) (limits : Limits) (list : List Submission) (ask
     → claims_of (map entry_of (placed_of steps)) ≡ []
 lane_claims tree limits list [] [] h = refl
 lane_claims tree limits list [] (step ∷ steps) h = absurd h
-lane_claims tree limits list (asked ∷ asks) [] h = absurd h
-lane_claims tree limits list (asked ∷ asks) (Submitted p ∷ steps) h =
-    ap (λ layer. cons_option layer (claims_of (map entry_of (placed_of steps)))) (no_claim asked.request.act p.event.act h.0.1) ∙ lane_claims tree limits list asks steps h.1
-lane_claims tree limits list (asked ∷ asks) (Answered read ∷ steps) h = lane_claims tree limits list asks steps h.1
+lane_claims tree limits list (requested ∷ asks) [] h = absurd h
+lane_claims tree limits list (requested ∷ asks) (Submitted p ∷ steps) h =
+    ap (λ layer. cons_option layer (claims_of (map entry_of (placed_of steps)))) (no_claim requested.request.act p.event.act h.0.1) ∙ lane_claims tree limits list asks steps h.1
+lane_claims tree limits list (requested ∷ asks) (Answered read ∷ steps) h = lane_claims tree limits list asks steps h.1
 
 -- who claims
 below_lane : (workers lane line : ℕ) (act : Act) → claim_in act ≡ None → ClaimsBelow workers (by.Lane lane line) act
@@ -145,21 +145,21 @@ lane_below : (workers : ℕ) (tree : DeskTrees) (limits : Limits) (list : List S
     → AllByRecursion (λ (p : Placed). ClaimsBelow workers p.event.by (act_name p.event.act)) (placed_of steps)
 lane_below workers tree limits list [] [] h = tt
 lane_below workers tree limits list [] (step ∷ steps) h = absurd h
-lane_below workers tree limits list (asked ∷ asks) [] h = absurd h
-lane_below workers tree limits list (asked ∷ asks) (Submitted p ∷ steps) h = (
+lane_below workers tree limits list (requested ∷ asks) [] h = absurd h
+lane_below workers tree limits list (requested ∷ asks) (Submitted p ∷ steps) h = (
   subst (λ source. ClaimsBelow workers source (act_name p.event.act)) (sym h.0.0)
-      (below_lane workers asked.request.lane asked.line (act_name p.event.act) (no_claim asked.request.act p.event.act h.0.1)),
+      (below_lane workers requested.request.lane requested.line (act_name p.event.act) (no_claim requested.request.act p.event.act h.0.1)),
   lane_below workers tree limits list asks steps h.1,
 )
-lane_below workers tree limits list (asked ∷ asks) (Answered read ∷ steps) h = lane_below workers tree limits list asks steps h.1
+lane_below workers tree limits list (requested ∷ asks) (Answered read ∷ steps) h = lane_below workers tree limits list asks steps h.1
 
 -- a lane from eight on has no requests
-no_requests : (lane : ℕ) (asked : List Requested) → 8 ≤ lane → AllByRecursion (λ (r : Requested). r.request.lane < 8) asked → lane_requests lane asked ≡ []
+no_requests : (lane : ℕ) (requested : List Requested) → 8 ≤ lane → AllByRecursion (λ (r : Requested). r.request.lane < 8) requested → lane_requests lane requested ≡ []
 no_requests lane [] high few = refl
-no_requests lane (r ∷ asked) high few =
+no_requests lane (r ∷ requested) high few =
     let low : r.request.lane < 8 = few.0 in
-    ap (λ found. cond found (r ∷ lane_requests lane asked) (lane_requests lane asked)) (ne_eqb r.request.lane lane (λ is. omega (arith, high, low, is)))
-    ∙ no_requests lane asked high few.1
+    ap (λ found. cond found (r ∷ lane_requests lane requested) (lane_requests lane requested)) (ne_eqb r.request.lane lane (λ is. omega (arith, high, low, is)))
+    ∙ no_requests lane requested high few.1
 
 -- ---- all events
 
@@ -197,12 +197,12 @@ each_lane P (read ∷ reads) all = (
 -- ---- a round
 
 -- what is known of a round: the parts of its lanes and its workers, and that its entries are their events and their reads
-pub record RoundParts (tree : DeskTrees) (limits : Limits) (before later : List Submission) (asked : List Requested) (others : List Entry) (workers : ℕ) (reads : ℕ → List ReadEntry) (layers : ℕ → List (List ℕ)) : Type 0 where
+pub record RoundParts (tree : DeskTrees) (limits : Limits) (before later : List Submission) (requested : List Requested) (others : List Entry) (workers : ℕ) (reads : ℕ → List ReadEntry) (layers : ℕ → List (List ℕ)) : Type 0 where
   pub known : IsKnown tree
-  pub ascend : RequestsAscend asked
-  pub few : AllByRecursion (λ (r : Requested). r.request.lane < 8) asked
+  pub ascend : RequestsAscend requested
+  pub in_range : AllByRecursion (λ (r : Requested). r.request.lane < 8) requested
   pub below : AllByRecursion (λ (e : Submission). e.seat < 8 + workers) later
-  pub lanes : (lane : ℕ) → lane < 8 → LanePart tree limits before later asked lane (reads lane)
+  pub lanes : (lane : ℕ) → lane < 8 → LanePart tree limits before later requested lane (reads lane)
   pub no_lanes : (lane : ℕ) → 8 ≤ lane → reads lane ≡ []
   pub desks : (worker : ℕ) → worker < workers → WorkerPart before later worker (layers worker)
   pub events : events_of others ≡ entries_from (length before + 1) later
@@ -210,15 +210,15 @@ pub record RoundParts (tree : DeskTrees) (limits : Limits) (before later : List 
   pub order : AreAscending others
 
 -- each event is of its seat
-pub round_fits : (tree : DeskTrees) (limits : Limits) (before later : List Submission) (asked : List Requested) (workers : ℕ) (reads : ℕ → List ReadEntry) (layers : ℕ → List (List ℕ))
-    → AllByRecursion (λ (e : Submission). e.seat < 8 + workers) later → ((lane : ℕ) → lane < 8 → LanePart tree limits before later asked lane (reads lane))
+pub round_fits : (tree : DeskTrees) (limits : Limits) (before later : List Submission) (requested : List Requested) (workers : ℕ) (reads : ℕ → List ReadEntry) (layers : ℕ → List (List ℕ))
+    → AllByRecursion (λ (e : Submission). e.seat < 8 + workers) later → ((lane : ℕ) → lane < 8 → LanePart tree limits before later requested lane (reads lane))
     → ((worker : ℕ) → worker < workers → WorkerPart before later worker (layers worker)) → AllByRecursion (λ (p : Placed). FitsSeat p.event.seat p.event.by) (placed_from (length before + 1) later)
-round_fits tree limits before later asked workers reads layers below lanes desks = each_known (λ seat p. FitsSeat seat p.event.by) (length before + 1) workers later below of_lane of_desk where
+round_fits tree limits before later requested workers reads layers below lanes desks = each_known (λ seat p. FitsSeat seat p.event.by) (length before + 1) workers later below of_lane of_desk where
   of_lane : (lane : ℕ) → lane < 8 → AllByRecursion (λ (p : Placed). FitsSeat lane p.event.by) (of_seat lane (length before + 1) later)
   of_lane lane low =
       let part = lanes lane low in
       subst (AllByRecursion (λ (p : Placed). FitsSeat lane p.event.by)) part.own
-      (lane_fits lane tree limits (before ++ later) (lane_requests lane asked) part.steps low (of_this_lane lane asked) part.answers)
+      (lane_fits lane tree limits (before ++ later) (lane_requests lane requested) part.steps low (of_this_lane lane requested) part.answers)
 
   of_desk : (worker : ℕ) → worker < workers → AllByRecursion (λ (p : Placed). FitsSeat (8 + worker) p.event.by) (of_seat (8 + worker) (length before + 1) later)
   of_desk worker low =
@@ -227,44 +227,44 @@ round_fits tree limits before later asked workers reads layers below lanes desks
       (all_weaker (IsByWorker worker) (λ (p : Placed). FitsSeat (8 + worker) p.event.by) part.own (λ p h. subst (FitsSeat (8 + worker)) (sym h.0) refl) part.by_worker)
 
 -- each event is what a request asks for, or what its worker says
-round_sourced : (tree : DeskTrees) (limits : Limits) (before later : List Submission) (asked : List Requested) (others : List Entry) (workers : ℕ) (reads : ℕ → List ReadEntry) (layers : ℕ → List (List ℕ))
-    → RoundParts tree limits before later asked others workers reads layers → AllByRecursion (IsSourced asked) later
-round_sourced tree limits before later asked others workers reads layers round =
-    all_later (IsSourced asked) (length before + 1) later (each_known (λ seat p. IsSourced asked p.event) (length before + 1) workers later round.below of_lane of_desk) where
-      of_lane : (lane : ℕ) → lane < 8 → AllByRecursion (λ (p : Placed). IsSourced asked p.event) (of_seat lane (length before + 1) later)
+round_sourced : (tree : DeskTrees) (limits : Limits) (before later : List Submission) (requested : List Requested) (others : List Entry) (workers : ℕ) (reads : ℕ → List ReadEntry) (layers : ℕ → List (List ℕ))
+    → RoundParts tree limits before later requested others workers reads layers → AllByRecursion (IsSourced requested) later
+round_sourced tree limits before later requested others workers reads layers round =
+    all_later (IsSourced requested) (length before + 1) later (each_known (λ seat p. IsSourced requested p.event) (length before + 1) workers later round.below of_lane of_desk) where
+      of_lane : (lane : ℕ) → lane < 8 → AllByRecursion (λ (p : Placed). IsSourced requested p.event) (of_seat lane (length before + 1) later)
       of_lane lane low =
           let part = round.lanes lane low in
-          subst (AllByRecursion (λ (p : Placed). IsSourced asked p.event)) part.own
-          (lane_sourced tree limits (before ++ later) asked (lane_requests lane asked) part.steps (found_of_lane lane asked round.ascend) part.answers)
+          subst (AllByRecursion (λ (p : Placed). IsSourced requested p.event)) part.own
+          (lane_sourced tree limits (before ++ later) requested (lane_requests lane requested) part.steps (found_of_lane lane requested round.ascend) part.answers)
 
-      of_desk : (worker : ℕ) → worker < workers → AllByRecursion (λ (p : Placed). IsSourced asked p.event) (of_seat (8 + worker) (length before + 1) later)
+      of_desk : (worker : ℕ) → worker < workers → AllByRecursion (λ (p : Placed). IsSourced requested p.event) (of_seat (8 + worker) (length before + 1) later)
       of_desk worker low =
           let part = round.desks worker low in
-          subst (AllByRecursion (λ (p : Placed). IsSourced asked p.event)) part.own_is
-          (all_weaker (IsByWorker worker) (λ (p : Placed). IsSourced asked p.event) part.own (λ p h. ap (λ source. submitted asked source (act_name p.event.act)) h.0 ∙ h.1) part.by_worker)
+          subst (AllByRecursion (λ (p : Placed). IsSourced requested p.event)) part.own_is
+          (all_weaker (IsByWorker worker) (λ (p : Placed). IsSourced requested p.event) part.own (λ p h. ap (λ source. submitted requested source (act_name p.event.act)) h.0 ∙ h.1) part.by_worker)
 
 -- each read is the answer to a request
-round_seen : (tree : DeskTrees) (limits : Limits) (before later : List Submission) (asked : List Requested) (others : List Entry) (workers : ℕ) (reads : ℕ → List ReadEntry) (layers : ℕ → List (List ℕ))
-    → RoundParts tree limits before later asked others workers reads layers → AllByRecursion (IsSeen (trees_of tree) limits (before ++ later) (length before) asked) (reads_of others)
-round_seen tree limits before later asked others workers reads layers round = each_lane (IsSeen (trees_of tree) limits (before ++ later) (length before) asked) (reads_of others) (λ lane. by_order lane (cases_lt lane 8)) where
-  by_order : (lane : ℕ) → (lane < 8) ⊎ (8 ≤ lane) → AllByRecursion (IsSeen (trees_of tree) limits (before ++ later) (length before) asked) (reads_by lane (reads_of others))
+round_seen : (tree : DeskTrees) (limits : Limits) (before later : List Submission) (requested : List Requested) (others : List Entry) (workers : ℕ) (reads : ℕ → List ReadEntry) (layers : ℕ → List (List ℕ))
+    → RoundParts tree limits before later requested others workers reads layers → AllByRecursion (IsSeen (trees_of tree) limits (before ++ later) (length before) requested) (reads_of others)
+round_seen tree limits before later requested others workers reads layers round = each_lane (IsSeen (trees_of tree) limits (before ++ later) (length before) requested) (reads_of others) (λ lane. by_order lane (cases_lt lane 8)) where
+  by_order : (lane : ℕ) → (lane < 8) ⊎ (8 ≤ lane) → AllByRecursion (IsSeen (trees_of tree) limits (before ++ later) (length before) requested) (reads_by lane (reads_of others))
   by_order lane (inl low) =
       let part = round.lanes lane low in
-      subst (AllByRecursion (IsSeen (trees_of tree) limits (before ++ later) (length before) asked)) (sym (round.by_lane lane ∙ part.reads_are))
-      (lane_seen tree limits (length before) (before ++ later) (before ++ later) asked (lane_requests lane asked) part.steps round.known (prefix_same (before ++ later)) (found_of_lane lane asked round.ascend)
+      subst (AllByRecursion (IsSeen (trees_of tree) limits (before ++ later) (length before) requested)) (sym (round.by_lane lane ∙ part.reads_are))
+      (lane_seen tree limits (length before) (before ++ later) (before ++ later) requested (lane_requests lane requested) part.steps round.known (prefix_same (before ++ later)) (found_of_lane lane requested round.ascend)
       part.answers part.from part.within)
-  by_order lane (inr high) = subst (AllByRecursion (IsSeen (trees_of tree) limits (before ++ later) (length before) asked)) (sym (round.by_lane lane ∙ round.no_lanes lane high)) tt
+  by_order lane (inr high) = subst (AllByRecursion (IsSeen (trees_of tree) limits (before ++ later) (length before) requested)) (sym (round.by_lane lane ∙ round.no_lanes lane high)) tt
 
 -- each request has one entry, and those of a lane stand in its order
-round_lines : (tree : DeskTrees) (limits : Limits) (before later : List Submission) (asked : List Requested) (others : List Entry) (workers : ℕ) (reads : ℕ → List ReadEntry) (layers : ℕ → List (List ℕ))
-    → RoundParts tree limits before later asked others workers reads layers → AllByRecursion (λ (p : Placed). FitsSeat p.event.seat p.event.by) (placed_from (length before + 1) later)
-    → (lane : ℕ) → lines_answered lane others ≡ lines_asked lane asked
-round_lines tree limits before later asked others workers reads layers round fits lane = by_order (cases_lt lane 8) where
-  by_order : (lane < 8) ⊎ (8 ≤ lane) → lines_answered lane others ≡ lines_asked lane asked
+round_lines : (tree : DeskTrees) (limits : Limits) (before later : List Submission) (requested : List Requested) (others : List Entry) (workers : ℕ) (reads : ℕ → List ReadEntry) (layers : ℕ → List (List ℕ))
+    → RoundParts tree limits before later requested others workers reads layers → AllByRecursion (λ (p : Placed). FitsSeat p.event.seat p.event.by) (placed_from (length before + 1) later)
+    → (lane : ℕ) → lines_answered lane others ≡ lines_requested lane requested
+round_lines tree limits before later requested others workers reads layers round fits lane = by_order (cases_lt lane 8) where
+  by_order : (lane < 8) ⊎ (8 ≤ lane) → lines_answered lane others ≡ lines_requested lane requested
   by_order (inl low) =
       let part = round.lanes lane low in
-      let asks = lane_requests lane asked in
-      let of = asks_of_lane lane asked round.ascend in
+      let asks = lane_requests lane requested in
+      let of = asks_of_lane lane requested round.ascend in
       lane_lines lane asks part.steps others round.order (steps_ascend lane tree limits (before ++ later) asks part.steps of part.answers part.in_turn)
       (ap (filter (λ (event : EventEntry). is_of_lane lane event.by)) round.events ∙ (lane_events lane (length before + 1) later low fits ∙ ap (map entry_of) (sym part.own)))
       (round.by_lane lane ∙ part.reads_are) (lane_on_lines lane tree limits (before ++ later) asks part.steps of part.answers)
@@ -272,7 +272,7 @@ round_lines tree limits before later asked others workers reads layers round fit
       no_lane_lines lane others round.order
       (ap (filter (λ (event : EventEntry). is_of_lane lane event.by)) round.events ∙ no_lane_events lane (length before + 1) later high fits)
       (round.by_lane lane ∙ round.no_lanes lane high)
-      ∙ sym (ap (map (λ (r : Requested). r.line)) (no_requests lane asked high round.few))
+      ∙ sym (ap (map (λ (r : Requested). r.line)) (no_requests lane requested high round.in_range))
 
 -- ---- claims
 
@@ -297,10 +297,10 @@ sum_above f k count total none some =
     omega (arith, sum_split f 0 k count, low, high, some)
 
 -- each layer of the queue is claimed once
-round_claims : (tree : DeskTrees) (limits : Limits) (before later : List Submission) (asked : List Requested) (others : List Entry) (workers : ℕ) (reads : ℕ → List ReadEntry) (queue jobs : List (List ℕ))
-    → RoundParts tree limits before later asked others workers reads (λ worker. layers_of queue (get_or jobs worker [])) → length jobs ≡ workers
+round_claims : (tree : DeskTrees) (limits : Limits) (before later : List Submission) (requested : List Requested) (others : List Entry) (workers : ℕ) (reads : ℕ → List ReadEntry) (queue jobs : List (List ℕ))
+    → RoundParts tree limits before later requested others workers reads (λ worker. layers_of queue (get_or jobs worker [])) → length jobs ≡ workers
     → ((h : ℕ → ℕ) → lists_weigh h jobs ≡ weigh_below h (length queue)) → (layer : List ℕ) → times layer (claims_of (events_of others)) ≡ times layer queue
-round_claims tree limits before later asked others workers reads queue jobs round many weights layer =
+round_claims tree limits before later requested others workers reads queue jobs round many weights layer =
     ap (λ events. times layer (claims_of events)) round.events
     ∙ (claims_by_seats layer (length before + 1) later (8 + workers) round.below
     ∙ (sum_above claimed 8 workers (lists_weigh found jobs) of_lane (sum_jobs found claimed 8 jobs workers many of_desk)
@@ -314,7 +314,7 @@ round_claims tree limits before later asked others workers reads queue jobs roun
       of_lane : (lane : ℕ) → lane < 8 → claimed lane ≡ 0
       of_lane lane low =
           let part = round.lanes lane low in
-          ap (λ own. times layer (claims_of (map entry_of own))) (sym part.own) ∙ ap (times layer) (lane_claims tree limits (before ++ later) (lane_requests lane asked) part.steps part.answers)
+          ap (λ own. times layer (claims_of (map entry_of own))) (sym part.own) ∙ ap (times layer) (lane_claims tree limits (before ++ later) (lane_requests lane requested) part.steps part.answers)
 
       of_desk : (worker : ℕ) → worker < workers → claimed (8 + worker) ≡ weigh found (get_or jobs worker [])
       of_desk worker low =
@@ -322,9 +322,9 @@ round_claims tree limits before later asked others workers reads queue jobs roun
           ap (λ own. times layer (claims_of (map entry_of own))) (sym part.own_is) ∙ (ap (times layer) part.claims ∙ jobs_weigh layer queue (get_or jobs worker []))
 
 -- claims are of workers
-round_claimers : (tree : DeskTrees) (limits : Limits) (before later : List Submission) (asked : List Requested) (others : List Entry) (workers : ℕ) (reads : ℕ → List ReadEntry) (layers : ℕ → List (List ℕ))
-    → RoundParts tree limits before later asked others workers reads layers → AllByRecursion (λ (event : EventEntry). ClaimsBelow workers event.by event.act) (events_of others)
-round_claimers tree limits before later asked others workers reads layers round =
+round_claimers : (tree : DeskTrees) (limits : Limits) (before later : List Submission) (requested : List Requested) (others : List Entry) (workers : ℕ) (reads : ℕ → List ReadEntry) (layers : ℕ → List (List ℕ))
+    → RoundParts tree limits before later requested others workers reads layers → AllByRecursion (λ (event : EventEntry). ClaimsBelow workers event.by event.act) (events_of others)
+round_claimers tree limits before later requested others workers reads layers round =
     subst (AllByRecursion (λ (event : EventEntry). ClaimsBelow workers event.by event.act)) (sym (round.events ∙ entries_placed (length before + 1) later))
     (all_entries (λ (event : EventEntry). ClaimsBelow workers event.by event.act) (placed_from (length before + 1) later)
     (each_known (λ seat p. ClaimsBelow workers p.event.by (act_name p.event.act)) (length before + 1) workers later round.below of_lane of_desk)) where
@@ -332,7 +332,7 @@ round_claimers tree limits before later asked others workers reads layers round 
       of_lane lane low =
           let part = round.lanes lane low in
           subst (AllByRecursion (λ (p : Placed). ClaimsBelow workers p.event.by (act_name p.event.act))) part.own
-          (lane_below workers tree limits (before ++ later) (lane_requests lane asked) part.steps part.answers)
+          (lane_below workers tree limits (before ++ later) (lane_requests lane requested) part.steps part.answers)
 
       of_desk : (worker : ℕ) → worker < workers → AllByRecursion (λ (p : Placed). ClaimsBelow workers p.event.by (act_name p.event.act)) (of_seat (8 + worker) (length before + 1) later)
       of_desk worker low =
@@ -342,10 +342,10 @@ round_claimers tree limits before later asked others workers reads layers round 
           (λ p h. subst (λ source. ClaimsBelow workers source (act_name p.event.act)) (sym h.0) (below_worker workers worker (act_name p.event.act) low)) part.by_worker)
 
 -- each worker ends what it claimed
-round_works : (tree : DeskTrees) (limits : Limits) (before later : List Submission) (asked : List Requested) (others : List Entry) (workers : ℕ) (reads : ℕ → List ReadEntry) (layers : ℕ → List (List ℕ))
-    → RoundParts tree limits before later asked others workers reads layers → AllByRecursion (λ (p : Placed). FitsSeat p.event.seat p.event.by) (placed_from (length before + 1) later)
+round_works : (tree : DeskTrees) (limits : Limits) (before later : List Submission) (requested : List Requested) (others : List Entry) (workers : ℕ) (reads : ℕ → List ReadEntry) (layers : ℕ → List (List ℕ))
+    → RoundParts tree limits before later requested others workers reads layers → AllByRecursion (λ (p : Placed). FitsSeat p.event.seat p.event.by) (placed_from (length before + 1) later)
     → (worker : ℕ) → Works None (events_by worker (events_of others)) None
-round_works tree limits before later asked others workers reads layers round fits worker = by_order (cases_lt worker workers) where
+round_works tree limits before later requested others workers reads layers round fits worker = by_order (cases_lt worker workers) where
   by_order : (worker < workers) ⊎ (workers ≤ worker) → Works None (events_by worker (events_of others)) None
   by_order (inl low) =
       let part = round.desks worker low in
@@ -365,13 +365,13 @@ pub round_legal : (tree : DeskTrees) (limits : Limits) (before later : List Subm
     → events_of others ≡ entries_from (length before + 1) later → ((lane : ℕ) → reads_by lane (reads_of others) ≡ get_or reads lane []) → AreAscending others
     → IsLegalRound (trees_of tree) workers (moment_of (trees_of tree) limits before) lines (refusals taken ++ others) (moment_of (trees_of tree) limits (before ++ later))
 round_legal tree limits before later lines last taken others workers reads queue jobs known read ascend few replayed below lanes eight desks many weights queue_is events by_lane order =
-    let asked = requests taken in
+    let requested = requests taken in
     let reads_at : ℕ → List ReadEntry = λ lane. get_or reads lane [] in
     let layers_at : ℕ → List (List ℕ) = λ worker. layers_of queue (get_or jobs worker []) in
-    let round : RoundParts tree limits before later asked others workers reads_at layers_at = record {
+    let round : RoundParts tree limits before later requested others workers reads_at layers_at = record {
       known = known;
       ascend = requests_ascend lines last taken read ascend;
-      few = few;
+      in_range = few;
       below = below;
       lanes = lanes;
       no_lanes = λ lane high. get_or_past reads lane [] (omega (arith, eight, high));
@@ -380,19 +380,19 @@ round_legal tree limits before later lines last taken others workers reads queue
       by_lane = by_lane;
       order = order;
     } in
-    let fits = round_fits tree limits before later asked workers reads_at layers_at below lanes desks in
+    let fits = round_fits tree limits before later requested workers reads_at layers_at below lanes desks in
     record {
       taken = taken;
       answers = read;
       others = others;
       parts = refl;
-      replays = replays (trees_of tree) limits before later asked others order events (replayed known)
-          (round_sourced tree limits before later asked others workers reads_at layers_at round) (round_seen tree limits before later asked others workers reads_at layers_at round);
+      replays = replays (trees_of tree) limits before later requested others order events (replayed known)
+          (round_sourced tree limits before later requested others workers reads_at layers_at round) (round_seen tree limits before later requested others workers reads_at layers_at round);
       ordered = reads_in_order others order;
-      lanes = round_lines tree limits before later asked others workers reads_at layers_at round fits;
-      claims = λ layer. round_claims tree limits before later asked others workers reads_at queue jobs round many weights layer ∙ ap (times layer) queue_is;
-      claimers = round_claimers tree limits before later asked others workers reads_at layers_at round;
-      works = round_works tree limits before later asked others workers reads_at layers_at round fits;
+      lanes = round_lines tree limits before later requested others workers reads_at layers_at round fits;
+      claims = λ layer. round_claims tree limits before later requested others workers reads_at queue jobs round many weights layer ∙ ap (times layer) queue_is;
+      claimers = round_claimers tree limits before later requested others workers reads_at layers_at round;
+      works = round_works tree limits before later requested others workers reads_at layers_at round fits;
     }
 
 -- ---- desks

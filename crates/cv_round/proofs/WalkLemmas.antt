@@ -87,21 +87,21 @@ one_did : (tree : DeskTrees) (limits : Limits) (asks : List Requested) (mid end 
 one_did tree limits asks mid end reads reads_now given is none h =
     subst (λ (rs : List ReadEntry). LaneDid tree limits asks mid rs end reads_now) none (subst (λ (qs : List Requested). LaneDid tree limits qs mid reads end reads_now) is h)
 
-pub each_lane_part : (tree : DeskTrees) (limits : Limits) (before later : List Submission) (asked : List Requested) (n : ℕ) (mids ends : List SeatView) (lanes lanes_after : List Lane)
-    → AreBegun before n mids → AreEnded (before ++ later) ends → AreDealt n asked lanes
+pub each_lane_part : (tree : DeskTrees) (limits : Limits) (before later : List Submission) (requested : List Requested) (n : ℕ) (mids ends : List SeatView) (lanes lanes_after : List Lane)
+    → AreBegun before n mids → AreEnded (before ++ later) ends → AreDealt n requested lanes
     → length ends ≡ length lanes → length mids ≡ length lanes → length lanes_after ≡ length lanes → LanesDid tree limits mids ends lanes lanes_after
-    → (k : ℕ) → k < length lanes → LanePart tree limits before later asked (n + k) (get_or (map (λ (lane : Lane). lane.reads.items) lanes_after) k [])
-each_lane_part tree limits before later asked n mids ends [] lanes_after b e d many same all h k low = absurd (omega (arith, low))
-each_lane_part tree limits before later asked n [] ends (l ∷ lanes) lanes_after b e d many same all h k low = absurd (omega (arith, same))
-each_lane_part tree limits before later asked n (m ∷ mids) [] (l ∷ lanes) lanes_after b e d many same all h k low = absurd (omega (arith, many))
-each_lane_part tree limits before later asked n (m ∷ mids) (x ∷ ends) (l ∷ lanes) [] b e d many same all h k low = absurd (omega (arith, all))
-each_lane_part tree limits before later asked n (m ∷ mids) (x ∷ ends) (l ∷ lanes) (t ∷ lanes_after) b e d many same all h zero low =
-    subst (λ (i : ℕ). LanePart tree limits before later asked i t.reads.items) (omega arith)
-    (lane_part tree limits before later asked n m x t.reads.items b.0 b.1 e.0 b.2 e.1
-    (one_did tree limits (lane_requests n asked) m x l.reads.items t.reads.items l.asked.items d.0.1 d.0.2 h.0.1))
-each_lane_part tree limits before later asked n (m ∷ mids) (x ∷ ends) (l ∷ lanes) (t ∷ lanes_after) b e d many same all h (suc k) low =
-    subst (λ (i : ℕ). LanePart tree limits before later asked i (get_or (map (λ (lane : Lane). lane.reads.items) lanes_after) k [])) (omega arith)
-    (each_lane_part tree limits before later asked (n + 1) mids ends lanes lanes_after b.3 e.2 d.1 (omega (arith, many)) (omega (arith, same)) (omega (arith, all)) h.1 k (omega (arith, low)))
+    → (k : ℕ) → k < length lanes → LanePart tree limits before later requested (n + k) (get_or (map (λ (lane : Lane). lane.reads.items) lanes_after) k [])
+each_lane_part tree limits before later requested n mids ends [] lanes_after b e d many same all h k low = absurd (omega (arith, low))
+each_lane_part tree limits before later requested n [] ends (l ∷ lanes) lanes_after b e d many same all h k low = absurd (omega (arith, same))
+each_lane_part tree limits before later requested n (m ∷ mids) [] (l ∷ lanes) lanes_after b e d many same all h k low = absurd (omega (arith, many))
+each_lane_part tree limits before later requested n (m ∷ mids) (x ∷ ends) (l ∷ lanes) [] b e d many same all h k low = absurd (omega (arith, all))
+each_lane_part tree limits before later requested n (m ∷ mids) (x ∷ ends) (l ∷ lanes) (t ∷ lanes_after) b e d many same all h zero low =
+    subst (λ (i : ℕ). LanePart tree limits before later requested i t.reads.items) (omega arith)
+    (lane_part tree limits before later requested n m x t.reads.items b.0 b.1 e.0 b.2 e.1
+    (one_did tree limits (lane_requests n requested) m x l.reads.items t.reads.items l.requested.items d.0.1 d.0.2 h.0.1))
+each_lane_part tree limits before later requested n (m ∷ mids) (x ∷ ends) (l ∷ lanes) (t ∷ lanes_after) b e d many same all h (suc k) low =
+    subst (λ (i : ℕ). LanePart tree limits before later requested i (get_or (map (λ (lane : Lane). lane.reads.items) lanes_after) k [])) (omega arith)
+    (each_lane_part tree limits before later requested (n + 1) mids ends lanes lanes_after b.3 e.2 d.1 (omega (arith, many)) (omega (arith, same)) (omega (arith, all)) h.1 k (omega (arith, low)))
 
 -- ---- hands
 

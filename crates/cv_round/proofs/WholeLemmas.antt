@@ -57,9 +57,9 @@ whole_of (x ∷ xs) (y ∷ ys) begins =
     let first : y ≡ x = cc (begins.1) in
     ap (λ z. z ∷ ys) first ∙ ap (λ zs. x ∷ zs) tail
 
-all_behind : {A : Type 0} (P : A → Type 0) (xs ys : List A) → AllByRecursion P (xs ++ ys) → AllByRecursion P ys
-all_behind P [] ys h = h
-all_behind P (x ∷ xs) ys h = all_behind P xs ys h.1
+all_after : {A : Type 0} (P : A → Type 0) (xs ys : List A) → AllByRecursion P (xs ++ ys) → AllByRecursion P ys
+all_after P [] ys h = h
+all_after P (x ∷ xs) ys h = all_after P xs ys h.1
 
 many_of : {A B : Type 0} (f : A → B) (xs : List A) → length (map f xs) ≡ length xs
 many_of f [] = refl
@@ -74,7 +74,7 @@ front_is (suc n) (x ∷ xs) ys is = ap (λ zs. x ∷ zs) (front_is n xs ys (omeg
 
 -- ---- the lanes and the workers
 
-module _ {D : Type 0} (listings faults : D → ℕ) (tree : DeskTrees) (limits : Limits) (before : List Submission) (asked : List Requested) (queue : List (List ℕ)) (olds mids ends : List SeatView) (lanes lanes_after : List Lane) (hands : List HandState) (ds es : List D) where
+module _ {D : Type 0} (listings faults : D → ℕ) (tree : DeskTrees) (limits : Limits) (before : List Submission) (requested : List Requested) (queue : List (List ℕ)) (olds mids ends : List SeatView) (lanes lanes_after : List Lane) (hands : List HandState) (ds es : List D) where
   -- what the calls up to the taking of the events ensure
   pub record Worked : Type 0 where
     pub seats : length olds ≡ 8 + length ds
@@ -84,7 +84,7 @@ module _ {D : Type 0} (listings faults : D → ℕ) (tree : DeskTrees) (limits :
     pub mids_many : length mids ≡ length olds
     pub ends_many : length ends ≡ length mids
     pub eight : length lanes ≡ 8
-    pub dealt : AreDealt 0 asked lanes
+    pub dealt : AreDealt 0 requested lanes
     pub lanes_many : length lanes_after ≡ length lanes
     pub lanes_did : LanesDid tree limits (take (length lanes) mids) (take (length lanes) ends) lanes lanes_after
     pub workers_did : WorkersDid listings faults queue 0 hands (drop (length lanes) mids) (drop (length lanes) ends) ds es
@@ -92,7 +92,7 @@ module _ {D : Type 0} (listings faults : D → ℕ) (tree : DeskTrees) (limits :
 
   -- the same, from what they ensure of the slice of the lanes
   pub worked_by : (slice : List Lane) → slice ≡ lanes → length olds ≡ 8 + length ds → AreNumbered 0 olds → AreAllReceipts before olds → AreRefreshed before olds mids → length mids ≡ length olds
-      → length ends ≡ length mids → length lanes ≡ 8 → AreDealt 0 asked lanes → length lanes_after ≡ length slice → LanesDid tree limits (take (length slice) mids) (take (length slice) ends) slice lanes_after
+      → length ends ≡ length mids → length lanes ≡ 8 → AreDealt 0 requested lanes → length lanes_after ≡ length slice → LanesDid tree limits (take (length slice) mids) (take (length slice) ends) slice lanes_after
       → WorkersDid listings faults queue 0 hands (drop (length slice) mids) (drop (length slice) ends) ds es → length hands ≡ length ds → Worked
   worked_by slice is seats numbered receipts fresh mids_many ends_many eight dealt lanes_many lanes_did workers_did hands_many = record {
     seats = seats;
@@ -122,7 +122,7 @@ module _ {D : Type 0} (listings faults : D → ℕ) (tree : DeskTrees) (limits :
 
   pub ran_of : (whole : List Submission) (jobs : List (List ℕ)) (events : List EventEntry) → Worked → jobs ≡ lists_of hands → ((h : ℕ → ℕ) → lists_weigh h jobs ≡ weigh_below h (length queue))
       → IsPrefix before whole → IsReplayed tree limits whole → events ≡ entries_from (length before + 1) (drop (length before) whole) → HaveSeen whole ends → AreAllReceipts whole ends
-      → AllByRecursion (λ (e : Submission). e.seat < length ends) whole → RoundRan tree limits listings faults before whole asked queue ds es events lanes_after
+      → AllByRecursion (λ (e : Submission). e.seat < length ends) whole → RoundRan tree limits listings faults before whole requested queue ds es events lanes_after
   ran_of whole jobs events w jobs_are weights begins replayed events_are seen receipts below =
       let later = drop (length before) whole in
       let is : whole ≡ before ++ later = whole_of before whole begins in
@@ -136,16 +136,16 @@ module _ {D : Type 0} (listings faults : D → ℕ) (tree : DeskTrees) (limits :
       let place : 0 + k ≡ 8 + 0 = omega (arith, eight) in
       let low : AllByRecursion (λ (e : Submission). e.seat < 8 + length ds) later =
       subst (λ (n : ℕ). AllByRecursion (λ (e : Submission). e.seat < n) later) seats_are
-      (all_behind (λ (e : Submission). e.seat < length ends) before later (subst (AllByRecursion (λ (e : Submission). e.seat < length ends)) is below)) in
-      let lanes_at = each_lane_part tree limits before later asked 0 (take k mids) (take k ends) lanes lanes_after (begun_take before k 0 mids start) (ended_take (before ++ later) k ends end) w.dealt
+      (all_after (λ (e : Submission). e.seat < length ends) before later (subst (AllByRecursion (λ (e : Submission). e.seat < length ends)) is below)) in
+      let lanes_at = each_lane_part tree limits before later requested 0 (take k mids) (take k ends) lanes lanes_after (begun_take before k 0 mids start) (ended_take (before ++ later) k ends end) w.dealt
       (took_many k (length ds) ends ends_are) (took_many k (length ds) mids mids_are) w.lanes_many w.lanes_did in
-      let lane_parts : (lane : ℕ) → lane < 8 → LanePart tree limits before later asked lane (get_or (map (λ (l : Lane). l.reads.items) lanes_after) lane []) =
-      λ lane less. subst (λ (i : ℕ). LanePart tree limits before later asked i (get_or (map (λ (l : Lane). l.reads.items) lanes_after) lane [])) (omega arith) (lanes_at lane (omega (arith, less, eight))) in
+      let lane_parts : (lane : ℕ) → lane < 8 → LanePart tree limits before later requested lane (get_or (map (λ (l : Lane). l.reads.items) lanes_after) lane []) =
+      λ lane less. subst (λ (i : ℕ). LanePart tree limits before later requested i (get_or (map (λ (l : Lane). l.reads.items) lanes_after) lane [])) (omega arith) (lanes_at lane (omega (arith, less, eight))) in
       let workers_at = each_worker_part listings faults queue before later (0 + k) 0 hands (drop k mids) (drop k ends) ds es place (begun_drop before k 0 mids start) (ended_drop (before ++ later) k ends end) w.workers_did in
       let worker_parts : (worker : ℕ) → worker < length ds → WorkerPart before later worker (layers_of queue (get_or jobs worker [])) =
       λ worker less. subst (λ (js : List (List ℕ)). WorkerPart before later worker (layers_of queue (get_or js worker []))) (sym jobs_are)
       (subst (λ (i : ℕ). WorkerPart before later i (layers_of queue (get_or (lists_of hands) worker []))) (omega arith) (workers_at worker (let many = w.hands_many in omega (arith, less, many)))) in
-      let fits = round_fits tree limits before later asked (length ds) (λ lane. get_or (map (λ (l : Lane). l.reads.items) lanes_after) lane []) (λ worker. layers_of queue (get_or jobs worker [])) low lane_parts worker_parts in
+      let fits = round_fits tree limits before later requested (length ds) (λ lane. get_or (map (λ (l : Lane). l.reads.items) lanes_after) lane []) (λ worker. layers_of queue (get_or jobs worker [])) low lane_parts worker_parts in
       record {
         later = later;
         whole_is = is;
@@ -166,13 +166,13 @@ module _ {D : Type 0} (listings faults : D → ℕ) (tree : DeskTrees) (limits :
 -- ---- the entries
 
 -- the lanes' reads, by lane
-reads_by_lane : (tree : DeskTrees) (limits : Limits) (before later : List Submission) (asked : List Requested) (reads : List (List ReadEntry)) → RequestsAscend asked → length reads ≡ 8
-    → ((lane : ℕ) → lane < 8 → LanePart tree limits before later asked lane (get_or reads lane [])) → AreByLane reads
-reads_by_lane tree limits before later asked reads ascend eight lanes lane = by_order (cases_lt lane 8) where
+reads_by_lane : (tree : DeskTrees) (limits : Limits) (before later : List Submission) (requested : List Requested) (reads : List (List ReadEntry)) → RequestsAscend requested → length reads ≡ 8
+    → ((lane : ℕ) → lane < 8 → LanePart tree limits before later requested lane (get_or reads lane [])) → AreByLane reads
+reads_by_lane tree limits before later requested reads ascend eight lanes lane = by_order (cases_lt lane 8) where
   by_order : (lane < 8) ⊎ (8 ≤ lane) → AreOfLane lane (get_or reads lane [])
   by_order (inl low) =
       let part = lanes lane low in
-      subst (AreOfLane lane) (sym part.reads_are) (reads_in_lane lane tree limits (before ++ later) (lane_requests lane asked) part.steps (asks_of_lane lane asked ascend) part.answers part.in_turn)
+      subst (AreOfLane lane) (sym part.reads_are) (reads_in_lane lane tree limits (before ++ later) (lane_requests lane requested) part.steps (asks_of_lane lane requested ascend) part.answers part.in_turn)
   by_order (inr high) = subst (AreOfLane lane) (sym (get_or_past reads lane [] (omega (arith, eight, high)))) (record { lanes = tt; ascending = tt })
 
 numbers_above : (first : EventEntry) (m : ℕ) (list : List Submission) → first.number < m → AllByRecursion (Precedes (entry.Event first)) (map entry.Event (entries_from m list))
@@ -184,12 +184,12 @@ events_ascend : (m : ℕ) (list : List Submission) → AreAscending (map entry.E
 events_ascend m [] = tt
 events_ascend m (e ∷ list) = (tt, numbers_above (event_entry m e.by e.act e.reply) (m + 1) list (omega arith), events_ascend (m + 1) list)
 
-module _ {D : Type 0} (listings faults : D → ℕ) (tree : DeskTrees) (limits : Limits) (before whole : List Submission) (taken : List Taken) (asked : List Requested) (queue : List (List ℕ)) (ds es : List D) (events : List EventEntry) (lanes : List Lane) (reads : List (List ReadEntry)) (refused others all : List Entry) where
+module _ {D : Type 0} (listings faults : D → ℕ) (tree : DeskTrees) (limits : Limits) (before whole : List Submission) (taken : List Taken) (requested : List Requested) (queue : List (List ℕ)) (ds es : List D) (events : List EventEntry) (lanes : List Lane) (reads : List (List ReadEntry)) (refused others all : List Entry) where
   -- what the calls of a round ensure
   pub record Joined : Type 0 where
-    pub ran : RoundRan tree limits listings faults before whole asked queue ds es events lanes
-    pub asked_is : asked ≡ requests taken
-    pub sound : AllByRecursion IsSoundRequest asked
+    pub ran : RoundRan tree limits listings faults before whole requested queue ds es events lanes
+    pub requested_is : requested ≡ requests taken
+    pub sound : AllByRecursion IsSoundRequest requested
     pub queue_is : IsKnown tree → queue ≡ queued (state_of (trees_of tree) limits before).layers
     pub reads_are : reads ≡ map (λ (l : Lane). l.reads.items) lanes
     pub events_are : events_of others ≡ events
@@ -210,10 +210,10 @@ module _ {D : Type 0} (listings faults : D → ℕ) (tree : DeskTrees) (limits :
       let ran = j.ran in
       let later = ran.later in
       let eight : length reads ≡ 8 = ap length j.reads_are ∙ (many_of (λ (l : Lane). l.reads.items) lanes ∙ ran.eight) in
-      let few : AllByRecursion (λ (r : Requested). r.request.lane < 8) (requests taken) = subst (AllByRecursion (λ (r : Requested). r.request.lane < 8)) j.asked_is (low_lanes asked j.sound) in
+      let few : AllByRecursion (λ (r : Requested). r.request.lane < 8) (requests taken) = subst (AllByRecursion (λ (r : Requested). r.request.lane < 8)) j.requested_is (low_lanes requested j.sound) in
       let lane_parts : (lane : ℕ) → lane < 8 → LanePart tree limits before later (requests taken) lane (get_or reads lane []) =
       λ lane low. subst (λ (rs : List (List ReadEntry)). LanePart tree limits before later (requests taken) lane (get_or rs lane [])) (sym j.reads_are)
-      (subst (λ (qs : List Requested). LanePart tree limits before later qs lane (get_or (map (λ (l : Lane). l.reads.items) lanes) lane [])) j.asked_is (ran.lane_parts lane low)) in
+      (subst (λ (qs : List Requested). LanePart tree limits before later qs lane (get_or (map (λ (l : Lane). l.reads.items) lanes) lane [])) j.requested_is (ran.lane_parts lane low)) in
       let by = reads_by_lane tree limits before later (requests taken) reads (requests_ascend lines last taken read ascend) eight lane_parts in
       let order = j.order (subst (λ (vs : List EventEntry). AreAscending (map entry.Event vs)) (sym ran.events_are) (events_ascend (length before + 1) later)) by in
       subst (λ (es : List Entry). IsLegalRound (trees_of tree) (length ds) (moment_of (trees_of tree) limits before) lines es (moment_of (trees_of tree) limits whole)) (sym (joined_is j))

@@ -47,8 +47,8 @@ pub fn run_round<D: Desk + Drop + Send + Sync, L: Identity + Send + Sync, W: Thr
     ensures room { OnOk result (AllByRecursion (λ desk. D.listings desk ≤ 2 ^ 62 + length hub.new) desks.new) }
 {
     let queue = hub.queued(rt, alloc)?;
-    let (refused, asked) = divide(alloc, taken)?;
-    let (events, lanes) = run_parts(rt, alloc, hub, queue.as_slice(), asked, seats, desks)?;
+    let (refused, requested) = divide(alloc, taken)?;
+    let (events, lanes) = run_parts(rt, alloc, hub, queue.as_slice(), requested, seats, desks)?;
     let reads = reads_of(alloc, lanes)?;
     let others = merge(alloc, Seq::of(events), reads)?;
     joined(refused, others.into_vec())
@@ -60,19 +60,19 @@ fn run_parts<D: Desk + Drop + Send + Sync, L: Identity + Send + Sync, W: Threads
     alloc: Global,
     hub: &mut Hub<D, L>,
     queue: &[Digest],
-    asked: Vec<Requested>,
+    requested: Vec<Requested>,
     seats: &mut [Seat<D, L>],
     desks: &mut [D],
 ) -> Result<(Vec<EventEntry>, Vec<Lane>), NoMemory>
     requires workers { (1 ≤ length desks.old) × (length desks.old ≤ 8) }
     requires seats { AreRoundSeats L.parts (length desks.old) hub.old seats.old }
-    requires sound { AllByRecursion IsSoundRequest asked.items }
+    requires sound { AllByRecursion IsSoundRequest requested.items }
     requires room { AllByRecursion (λ desk. D.listings desk ≤ 2 ^ 62 + length hub.old) desks.old }
-    ensures ran { IfOk result (λ ran. RoundRan D.tree L.limits D.listings D.faults hub.old hub.new asked.items queue.now desks.old desks.new ran.0.items ran.1.items) }
+    ensures ran { IfOk result (λ ran. RoundRan D.tree L.limits D.listings D.faults hub.old hub.new requested.items queue.now desks.old desks.new ran.0.items ran.1.items) }
     ensures seats { OnOk result (AreRoundSeats L.parts (length desks.new) hub.new seats.new) }
     ensures room { OnOk result (AllByRecursion (λ desk. D.listings desk ≤ 2 ^ 62 + length hub.new) desks.new) }
 {
-    let mut lanes = lanes_of(alloc, asked)?;
+    let mut lanes = lanes_of(alloc, requested)?;
     let mut hands = hands_of(alloc, queue.len(), desks.len())?;
     refresh(rt, hub, seats);
     run_all(

@@ -22,7 +22,7 @@ use Rattle.cv_machine.specs.Scans.{Trees}
 use Rattle.cv_machine.specs.declared.act.WholeAct.{WholeAct}
 use Rattle.cv_legal.specs.Legal.{AreLast, AreLegal, AreLegalRounds}
 use Rattle.cv_legal.specs.Parts.{event_by, events_by}
-use Rattle.cv_legal.specs.Replay.{IsEvent, Moment, Replays, asked_at, event_of, submitted}
+use Rattle.cv_legal.specs.Replay.{IsEvent, Moment, Replays, event_of, requested_at, submitted}
 use Rattle.cv_legal.specs.Round.{IsLegalRound}
 use Rattle.cv_legal.specs.Rounds.{Round}
 use Rattle.cv_legal.specs.Taken.{refusal_at, refusals}
@@ -46,7 +46,7 @@ request_fault (request.Page number size page) = tt
 request_fault request.List = tt
 request_fault (request.Ack number) = refl
 
-lane_fault : (asked : Option RequestAct) → NoFault (option_and_then event_of asked)
+lane_fault : (requested : Option RequestAct) → NoFault (option_and_then event_of requested)
 lane_fault None = tt
 lane_fault (Some act) = request_fault act
 
@@ -57,22 +57,22 @@ IsOfWorker (by.Worker worker) = ⊤
 abbrev IsBlamed : EventEntry → Type 0
 IsBlamed event = is_fault event.act ≡ true → IsOfWorker event.by
 
-source_fault : (asked : List Requested) (source : By) (named : Act) (act : WholeAct) → submitted asked source named ≡ Some act → named ≡ act_name act
+source_fault : (requested : List Requested) (source : By) (named : Act) (act : WholeAct) → submitted requested source named ≡ Some act → named ≡ act_name act
     → is_fault named ≡ true → IsOfWorker source
-source_fault asked (by.Worker worker) named act from same fault = tt
-source_fault asked (by.Lane lane line) named act from same fault =
-    let none = subst (λ o. NoFault o) from (lane_fault (asked_at asked lane line)) in
+source_fault requested (by.Worker worker) named act from same fault = tt
+source_fault requested (by.Lane lane line) named act from same fault =
+    let none = subst (λ o. NoFault o) from (lane_fault (requested_at requested lane line)) in
     absurd (true≢false (sym fault ∙ ap is_fault same ∙ none))
 
-blamed : (trees : Trees) (asked : List Requested) (before after : Moment) (event : EventEntry) → IsEvent trees asked before event after → IsBlamed event
-blamed trees asked before after event h fault = source_fault asked event.by event.act h.act h.source (ap (λ (e : EventEntry). e.act) h.is) fault
+blamed : (trees : Trees) (requested : List Requested) (before after : Moment) (event : EventEntry) → IsEvent trees requested before event after → IsBlamed event
+blamed trees requested before after event h fault = source_fault requested event.by event.act h.act h.source (ap (λ (e : EventEntry). e.act) h.is) fault
 
-all_blamed : (trees : Trees) (asked : List Requested) (before after : Moment) (entries : List Entry) → Replays trees asked before entries after
+all_blamed : (trees : Trees) (requested : List Requested) (before after : Moment) (entries : List Entry) → Replays trees requested before entries after
     → AllByRecursion IsBlamed (events_of entries)
-all_blamed trees asked before after [] h = tt
-all_blamed trees asked before after (entry.Refused line error ∷ entries) h = absurd h
-all_blamed trees asked before after (entry.Event event ∷ entries) h = (blamed trees asked before h.0 event h.1, all_blamed trees asked h.0 after entries h.2)
-all_blamed trees asked before after (entry.Read read ∷ entries) h = all_blamed trees asked before after entries h.1
+all_blamed trees requested before after [] h = tt
+all_blamed trees requested before after (entry.Refused line error ∷ entries) h = absurd h
+all_blamed trees requested before after (entry.Event event ∷ entries) h = (blamed trees requested before h.0 event h.1, all_blamed trees requested h.0 after entries h.2)
+all_blamed trees requested before after (entry.Read read ∷ entries) h = all_blamed trees requested before after entries h.1
 
 -- ---- a worker whose number is too great has no event
 

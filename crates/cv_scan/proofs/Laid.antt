@@ -14,7 +14,7 @@ use Rattle.cv_base.specs.InOrder.{in_order}
 use Rattle.cv_base.specs.Path.{Path, path_cmp, same_path}
 use Rattle.cv_base.specs.declared.tree.Node.{Node}
 use Rattle.cv_base.specs.declared.tree.TreeEntry.{TreeEntry}
-use Rattle.cv_base.proofs.InOrder.{after_lower, any_order, order_rises, turned}
+use Rattle.cv_base.proofs.InOrder.{after_lower, any_order, in_order_sorted, turned}
 use Rattle.cv_base.proofs.Same.{path_is, path_self, path_total, tied_path}
 use Rattle.cv_overlay.specs.Lay.{hides, is_plain, lay, node_at, plain_at, root_from, root_of}
 use Rattle.cv_overlay.specs.Mark.{mark}
@@ -113,7 +113,7 @@ node_root trees p =
 -- and ascend
 pub root_ascends : (trees : List (List TreeEntry)) → AreAscending (root_entries trees)
 unfolding root_entries
-root_ascends trees = entries_ascend (root_of trees) (paths_of trees) (order_rises path_total (all_paths trees))
+root_ascends trees = entries_ascend (root_of trees) (paths_of trees) (in_order_sorted path_total (all_paths trees))
 
 -- Two ascending lists that have the same nodes are one.
 

@@ -9,13 +9,13 @@ use Rattle.cv_base.specs.declared.advisory.Advisory.{Advisory}
 use Rattle.cv_base.specs.declared.manifest.Manifest.{Manifest}
 use Rattle.cv_io.specs.declared.line.Line.TheVariants.{Text}
 use Rattle.cv_io.specs.declared.line.LineError.TheVariants as line
-use Rattle.cv_io.specs.Lines.{LF, HasNoLineEnd, Reading, Finished, line_then, lines_then, stopped, text_of}
+use Rattle.cv_io.specs.Lines.{Finished, HasNoLineEnd, LF, Reading, line_then, lines_then, stopped, text_of}
 use Rattle.cv_io.specs.Reader.{Reader, Step, progress_of, room_of, ungiven}
 use Rattle.cv_io.specs.Takes.{Takes}
 use Rattle.cv_request.specs.declared.error.RequestFault.{RequestFault}
-use Rattle.cv_scan_input.specs.Request.{request_after, manifest_or, record_lines}
-use Rattle.cv_scan_input.specs.code.Remaining.{remaining_request, line_after, refused_at}
-use Rattle.cv_scan_input.specs.code.Accepted.{Begun, IsBegun, IsAccepted, IsUnrefusedAfter, Accepted, UnrefusedAfter}
+use Rattle.cv_scan_input.specs.Request.{manifest_or, record_lines, request_after}
+use Rattle.cv_scan_input.specs.code.Remaining.{line_after, refused_at, remaining_request}
+use Rattle.cv_scan_input.specs.code.Accepted.{Accepted, Begun, IsAccepted, IsBegun, IsUnrefusedAfter, UnrefusedAfter}
 use Rattle.cv_scan_input.specs.Unrefused.{IsPiece, IsUnrefused, Unrefused, ended_lines, is_refusal}
 use Rattle.cv_scan_input.proofs.Lines.{line_taken}
 
@@ -71,7 +71,7 @@ module _ (before now : Reader) (l m : Option (List ℕ)) (inputs : now.max_input
   -- the source failed
   record IsFailed : Type 0 where
     held : IsPiece now.held
-    going : before.ended ≡ false
+    not_ended : before.ended ≡ false
     room : length now.held < room_of before
     parts : IfSome (ungiven before l) (λ bytes. IsSomeAnd m (λ rest. bytes ≡ now.held ++ rest))
 
@@ -86,10 +86,10 @@ module _ (before now : Reader) (l m : Option (List ℕ)) (inputs : now.max_input
       let x = s.answers.0 in
       record {
         held = record { whole = subst HasNoLineEnd (sym x.held) x.whole; short = omega (arith, ap length x.held, x.short, limit) };
-        going = went before.ended now.ended _ s.takes.over x.going;
+        not_ended = went before.ended now.ended _ s.takes.over x.not_ended;
         room = omega (arith, room_by s.bytes s.takes s.within, ap length x.held, s.answers.1);
         parts = failed_by (ungiven before l) m s.bytes now.held x.held
-            (tail_by before.ended now.ended before.held s.takes.more s.bytes l m s.takes.joined s.takes.consumed s.takes.over x.going);
+            (tail_by before.ended now.ended before.held s.takes.more s.bytes l m s.takes.joined s.takes.consumed s.takes.over x.not_ended);
       }
 
 -- ---- lines after line 1

@@ -21,17 +21,6 @@ pub enum InputError {
     NoMemory,
 }
 
-impl From<NoMemory> for InputError {
-    ghost use Rattle.std.specs.Prelude.{◌≡◌};
-    ghost use Rattle.cv_scan_input.specs.declared.error.InputError.TheVariants as error;
-
-    ghost from_gives = { λ _ e. e ≡ error.NoMemory };
-
-    fn from(_error: NoMemory) -> InputError {
-        InputError::NoMemory
-    }
-}
-
 impl From<LineError> for InputError {
     ghost use Rattle.std.specs.Prelude.{◌≡◌};
     ghost use Rattle.cv_scan_input.specs.Answer.{stop_error};
@@ -45,5 +34,16 @@ impl From<LineError> for InputError {
             LineError::InputTooLong => InputError::InputTooLong,
             LineError::NoMemory => InputError::NoMemory,
         }
+    }
+}
+
+impl From<NoMemory> for InputError {
+    ghost use Rattle.std.specs.Prelude.{◌≡◌};
+    ghost use Rattle.cv_scan_input.specs.declared.error.InputError.TheVariants as error;
+
+    ghost from_gives = { λ _ e. e ≡ error.NoMemory };
+
+    fn from(_error: NoMemory) -> InputError {
+        InputError::NoMemory
     }
 }

@@ -4,7 +4,7 @@ ghost use Rattle.cv_seq.specs.Cause.{CausedBy};
 ghost use Rattle.cv_io.specs.Reader.{reading, room_of, ungiven};
 ghost use Rattle.cv_osv.specs.Records.{HasDistinctIds};
 ghost use Rattle.cv_scan_input.specs.Answer.{IsRequest, is_input_fault};
-ghost use Rattle.cv_scan_input.specs.Request.{scan_request_of, input_of};
+ghost use Rattle.cv_scan_input.specs.Request.{input_of, scan_request_of};
 ghost use Rattle.cv_scan_input.specs.Taken.{IsTaken, IsTakenWithin};
 ghost use Rattle.cv_scan_input.specs.Unrefused.{Unrefused};
 ghost use Rattle.cv_scan_input.specs.code.Accepted.{Begun, UnrefusedAfter};
@@ -61,7 +61,7 @@ fn read_first<S: Source>(
     reader: &mut LineReader,
     input: &mut S,
 ) -> Result<Manifest, InputError>
-    requires going { reader.old.spent ≡ false }
+    requires not_spent { reader.old.spent ≡ false }
     requires seen { reader.old.ended ≡ true → IsAtEnd (S.remaining input.old) }
     requires limit { reader.old.max_line ≡ 67108864 }
     requires inputs { reader.old.max_input ≡ 2 ^ 36 }
@@ -73,7 +73,7 @@ fn read_first<S: Source>(
     ensures begun { IfOk result (λ manifest. reader.new.ended ≡ false →
         Begun manifest reader.old reader.new (S.remaining input.old) (S.remaining input.new)) }
     ensures unrefused { IsErrOf result error.ReadFault → Unrefused (ungiven reader.old (S.remaining input.old)) (S.remaining input.new) }
-    ensures going { OnOk result (reader.new.spent ≡ false) }
+    ensures not_spent { OnOk result (reader.new.spent ≡ false) }
     ensures limit { OnOk result (reader.new.max_line ≡ 67108864) }
     ensures inputs { OnOk result (reader.new.max_input ≡ 2 ^ 36) }
     ensures seen { reader.new.ended ≡ true → IsAtEnd (S.remaining input.new) }
@@ -96,7 +96,7 @@ fn read_rest<S: Source>(
     input: &mut S,
     manifest: Manifest,
 ) -> Result<ScanInput, InputError>
-    requires going { reader.spent ≡ false }
+    requires not_spent { reader.spent ≡ false }
     requires seen { reader.ended ≡ true → IsAtEnd (S.remaining input.old) }
     requires limit { reader.max_line ≡ 67108864 }
     requires inputs { reader.max_input ≡ 2 ^ 36 }

@@ -24,7 +24,7 @@ use Rattle.cv_machine.specs.declared.act.WholeAct.{WholeAct}
 use Rattle.cv_machine.specs.declared.act.WholeAct.TheVariants as whole
 use Rattle.cv_legal.specs.Legal.{AreLast, AreLegal, AreLegalRounds}
 use Rattle.cv_legal.specs.Parts.{event_by, events_by}
-use Rattle.cv_legal.specs.Replay.{Moment, Replays, asked_at, beginning, event_of, submitted}
+use Rattle.cv_legal.specs.Replay.{Moment, Replays, beginning, event_of, requested_at, submitted}
 use Rattle.cv_legal.specs.Round.{IsLegalRound}
 use Rattle.cv_legal.specs.Rounds.{Round}
 use Rattle.cv_legal.specs.Taken.{refusal_at, refusals, requests}
@@ -134,7 +134,7 @@ idle trees workers worker before rounds entries after h high =
 abbrev AreFree : List Entry → Type 0
 AreFree entries = (worker : ℕ) → fault_count (events_by worker (events_of entries)) ≡ 0
 
-request_fault : (asked : RequestAct) (act : WholeAct) → event_of asked ≡ Some act → is_fault (act_name act) ≡ false
+request_fault : (requested : RequestAct) (act : WholeAct) → event_of requested ≡ Some act → is_fault (act_name act) ≡ false
 request_fault (request.Register manifest) act is = sym (ap (λ a. is_fault (act_name a)) (same_Some (whole.Register manifest) act is))
 request_fault (request.DropImage image) act is = sym (ap (λ a. is_fault (act_name a)) (same_Some (whole.DropImage image) act is))
 request_fault (request.Update feed records) act is = sym (ap (λ a. is_fault (act_name a)) (same_Some (whole.Update feed records) act is))
@@ -143,9 +143,9 @@ request_fault (request.Page number size page) act is = absurd (cc is)
 request_fault request.List act is = absurd (cc is)
 request_fault (request.Ack number) act is = sym (ap (λ a. is_fault (act_name a)) (same_Some (whole.Ack number) act is))
 
-lane_fault : (asked : Option RequestAct) (act : WholeAct) → option_and_then event_of asked ≡ Some act → is_fault (act_name act) ≡ false
+lane_fault : (requested : Option RequestAct) (act : WholeAct) → option_and_then event_of requested ≡ Some act → is_fault (act_name act) ≡ false
 lane_fault None act is = absurd (cc is)
-lane_fault (Some asked) act is = request_fault asked act is
+lane_fault (Some requested) act is = request_fault requested act is
 
 -- the events of a worker that says that its desk failed
 one_fault : (worker : ℕ) (event : EventEntry) → event.by ≡ by.Worker worker → is_fault event.act ≡ true → fault_count (events_by worker (event ∷ [])) ≡ 1
@@ -154,13 +154,13 @@ one_fault worker event source fault =
     ∙ ap (λ b. fault_count (cons_option (cond b (Some event) None) [])) (eq-eqb worker worker refl)
     ∙ ap (λ b. length (cond b (event ∷ []) [])) fault
 
-not_fault : (asked : List Requested) (event : EventEntry) (act : WholeAct) → submitted asked event.by event.act ≡ Some act → event.act ≡ act_name act
+not_fault : (requested : List Requested) (event : EventEntry) (act : WholeAct) → submitted requested event.by event.act ≡ Some act → event.act ≡ act_name act
     → AreFree (entry.Event event ∷ []) → is_fault event.act ≡ false
-not_fault asked event act source named free = by_test (is_fault event.act) refl where
+not_fault requested event act source named free = by_test (is_fault event.act) refl where
   by_source : (who : By) → event.by ≡ who → is_fault event.act ≡ true → ⊥
   by_source (by.Lane lane line) is fault =
-      let at : submitted asked (by.Lane lane line) event.act ≡ Some act = ap (λ who. submitted asked who event.act) (sym is) ∙ source in
-      let none : is_fault event.act ≡ false = ap is_fault named ∙ lane_fault (asked_at asked lane line) act at in
+      let at : submitted requested (by.Lane lane line) event.act ≡ Some act = ap (λ who. submitted requested who event.act) (sym is) ∙ source in
+      let none : is_fault event.act ≡ false = ap is_fault named ∙ lane_fault (requested_at requested lane line) act at in
       absurd (cc (none, fault))
   by_source (by.Worker worker) is fault = absurd (omega (arith, one_fault worker event is fault, free worker))
 
@@ -187,16 +187,16 @@ memory_parts xs ys none = or_parts (list_any is_memory_line xs) (list_any is_mem
 none_joined : (xs ys : List Entry) → HasNoFault xs → HasNoFault ys → HasNoFault (xs ++ ys)
 none_joined xs ys h k = list_any-append complete.is_fault xs ys ∙ ap (λ b. b || list_any complete.is_fault ys) h ∙ k
 
-replayed_quiet : (trees : Trees) (asked : List Requested) (before : Moment) (entries : List Entry) (after : Moment) → Replays trees asked before entries after
+replayed_quiet : (trees : Trees) (requested : List Requested) (before : Moment) (entries : List Entry) (after : Moment) → Replays trees requested before entries after
     → AreFree entries → HasNoMemoryLine entries → HasNoFault entries
-replayed_quiet trees asked before [] after h free none = refl
-replayed_quiet trees asked before (entry.Refused line error ∷ entries) after h free none = absurd h
-replayed_quiet trees asked before (entry.Read read ∷ entries) after h free none = replayed_quiet trees asked before entries after h.1 free none
-replayed_quiet trees asked before (entry.Event event ∷ entries) after h free none =
+replayed_quiet trees requested before [] after h free none = refl
+replayed_quiet trees requested before (entry.Refused line error ∷ entries) after h free none = absurd h
+replayed_quiet trees requested before (entry.Read read ∷ entries) after h free none = replayed_quiet trees requested before entries after h.1 free none
+replayed_quiet trees requested before (entry.Event event ∷ entries) after h free none =
     let frees = free_parts (entry.Event event ∷ []) entries free in
     let nones = or_parts (is_memory event.act) (list_any is_memory_line entries) none in
-    let here = not_back event.act (not_fault asked event h.1.act h.1.source (ap (λ (e : EventEntry). e.act) h.1.is) frees.0) nones.0 in
-    ap (λ b. b || list_any complete.is_fault entries) here ∙ replayed_quiet trees asked h.0 entries after h.2 frees.1 nones.1
+    let here = not_back event.act (not_fault requested event h.1.act h.1.source (ap (λ (e : EventEntry). e.act) h.1.is) frees.0) nones.0 in
+    ap (λ b. b || list_any complete.is_fault entries) here ∙ replayed_quiet trees requested h.0 entries after h.2 frees.1 nones.1
 
 refused_quiet : (taken : List Taken) → HasNoFault (refusals taken)
 refused_quiet [] = refl

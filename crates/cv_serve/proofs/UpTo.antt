@@ -125,7 +125,7 @@ module _ (before now : Reader) (first l m : Option (List ℕ)) (limit : now.max_
       let x = s.answers.0 in
       all_bytes Finished (Err line.ReadFault) h s inputs
       (λ room whole count. stop_last room s.bytes x.whole (omega (arith, x.short, limit)) (omega (arith, whole, count, s.answers.1, inputs)))
-  none_left line.ReadFault (inr h) s inputs = absurd (false≢true (sym s.answers.0.going ∙ (s.takes.over h.1).1))
+  none_left line.ReadFault (inr h) s inputs = absurd (false≢true (sym s.answers.0.not_ended ∙ (s.takes.over h.1).1))
   none_left line.LineTooLong (inl h) s inputs =
       all_bytes LongLine (Err line.LineTooLong) h s inputs
       (λ room whole count. subst (λ most. (reading_of most room s.bytes).stop ≡ LongLine) limit
@@ -136,7 +136,7 @@ module _ (before now : Reader) (first l m : Option (List ℕ)) (limit : now.max_
       let x = s.answers.0 in
       all_bytes LongInput (Err line.InputTooLong) h s inputs
       (λ room whole count. stop_cut 67108864 room s.bytes x.whole (omega (arith, x.short, limit)) (omega (arith, whole, count, s.answers.1, inputs)))
-  none_left line.InputTooLong (inr h) s inputs = absurd (false≢true (sym s.answers.0.going ∙ (s.takes.over h.1).1))
+  none_left line.InputTooLong (inr h) s inputs = absurd (false≢true (sym s.answers.0.not_ended ∙ (s.takes.over h.1).1))
 
   pub stop_given : (error : LineError) (r : Result Unit Stopped) → AreTaken before first l → Step before now l m (Err error) → now.max_input ≡ 2 ^ 36
       → IsErrAnd r (λ e. e ≡ stop.Input error) → TakesUpTo first m (end_of r)

@@ -175,7 +175,7 @@ fn read_lines<
     reader: &mut LineReader,
     round: &mut Round,
 ) -> Result<(), Stop>
-    requires going { reader.old.spent ≡ false }
+    requires not_spent { reader.old.spent ≡ false }
     requires begins { reader.old.ended ≡ false }
     requires input { room_of reader.old ≤ 2 ^ 36 }
     requires limits { (reader.old.max_line ≡ 67108864) × (reader.old.max_input ≡ 2 ^ 36) }

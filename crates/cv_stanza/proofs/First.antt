@@ -46,20 +46,20 @@ from_block fault before w k (t ∷ u ∷ ts) fs h =
     (from_at k (fault before t) _ (from_lower k (k + 1) _ (omega arith) next))
 
 -- blocks of lines that are numbered on, from this one
-abbrev Rises : ℕ → List (List Line) → Type 0
-Rises k [] = ⊤
-Rises k (b ∷ bs) = (ts : List (List ℕ)) × (n : ℕ) × (b ≡ numbered k ts) × (k + length ts ≤ n) × Rises n bs
+abbrev Ascends : ℕ → List (List Line) → Type 0
+Ascends k [] = ⊤
+Ascends k (b ∷ bs) = (ts : List (List ℕ)) × (n : ℕ) × (b ≡ numbered k ts) × (k + length ts ≤ n) × Ascends n bs
 
-rises_onto : (k : ℕ) (t : List ℕ) (bs : List (List Line)) → Rises (k + 1) bs → Rises k (onto_first (record { number = k; text = t }) bs)
-rises_onto k t [] h = (t ∷ [], k + 1, refl, omega arith, tt)
-rises_onto k t (b ∷ bs) h = (t ∷ h.0, h.1, ap (λ q. record { number = k; text = t } ∷ q) h.2, omega (arith, h.3), h.4)
+ascends_onto : (k : ℕ) (t : List ℕ) (bs : List (List Line)) → Ascends (k + 1) bs → Ascends k (onto_first (record { number = k; text = t }) bs)
+ascends_onto k t [] h = (t ∷ [], k + 1, refl, omega arith, tt)
+ascends_onto k t (b ∷ bs) h = (t ∷ h.0, h.1, ap (λ q. record { number = k; text = t } ∷ q) h.2, omega (arith, h.3), h.4)
 
-rises : (k : ℕ) (ts : List (List ℕ)) → Rises k (slice_split is_gap (numbered k ts))
-rises k [] = ([], k, refl, omega arith, tt)
-rises k ([] ∷ ts) = ([], k + 1, refl, omega arith, rises (k + 1) ts)
-rises k ((x ∷ xs) ∷ ts) = rises_onto k (x ∷ xs) (slice_split is_gap (numbered (k + 1) ts)) (rises (k + 1) ts)
+ascends : (k : ℕ) (ts : List (List ℕ)) → Ascends k (slice_split is_gap (numbered k ts))
+ascends k [] = ([], k, refl, omega arith, tt)
+ascends k ([] ∷ ts) = ([], k + 1, refl, omega arith, ascends (k + 1) ts)
+ascends k ((x ∷ xs) ∷ ts) = ascends_onto k (x ∷ xs) (slice_split is_gap (numbered (k + 1) ts)) (ascends (k + 1) ts)
 
-from_blocks : {A : Type 0} (rules : BlockRules A) (k : ℕ) (bs : List (List Line)) → Rises k bs → From k (flat_map (faults rules) bs)
+from_blocks : {A : Type 0} (rules : BlockRules A) (k : ℕ) (bs : List (List Line)) → Ascends k bs → From k (flat_map (faults rules) bs)
 from_blocks rules k [] h = tt
 from_blocks rules k (b ∷ bs) h =
     let rest : From (k + length h.0) (flat_map (faults rules) bs) = from_lower (k + length h.0) h.1 (flat_map (faults rules) bs) h.3 (from_blocks rules h.1 bs h.4) in
@@ -81,7 +81,7 @@ first_of k (g ∷ fs) x f h e = let same : g.line ≡ f.line = ap err_line e in 
 
 first_by : {A : Type 0} (rules : BlockRules A) (lines : List (List ℕ)) (o : Option FileBad) → IfSome o (λ f. read_blocks rules lines ≡ Err f) → IfSome o (IsFirstBad rules lines)
 first_by rules lines None h = tt
-first_by rules lines (Some f) h = first_of 1 (all_faults rules lines) _ f (from_blocks rules 1 (slice_split is_gap (numbered 1 lines)) (rises 1 lines)) h
+first_by rules lines (Some f) h = first_of 1 (all_faults rules lines) _ f (from_blocks rules 1 (slice_split is_gap (numbered 1 lines)) (ascends 1 lines)) h
 
 -- the fault that is answered is the first one
 pub is_first : {A X : Type 0} (rules : BlockRules A) (lines : List (List ℕ)) (view : X → List A) (r : Result X ReadBad) → Yields read_fault view r (read_blocks rules lines)

@@ -16,7 +16,7 @@ use Rattle.cv_records.specs.declared.read.ReadEntry.{ReadEntry}
 use Rattle.cv_request.specs.declared.error.RequestError.{RequestError}
 use Rattle.cv_request.specs.declared.error.RequestError.TheVariants as error
 use Rattle.cv_transcript.specs.declared.entry.Entry.{Entry}
-use Rattle.cv_transcript.specs.declared.entry.Entry.TheVariants.{Refused, Event, Read}
+use Rattle.cv_transcript.specs.declared.entry.Entry.TheVariants.{Event, Read, Refused}
 use Rattle.cv_transcript.specs.Event.{act_name}
 
 -- a refused line: the number of the input line, and whether it is refused because memory ran out
@@ -31,7 +31,7 @@ pub data Tag : Type 0 where
 
 -- ---- from the data of a line
 
--- whether a member is there
+-- whether a member is present
 abbrev pub has : List ℕ → Data → Bool
 has name line = is_some (get name line)
 

@@ -108,7 +108,7 @@ fn act_name(act: &Act) -> &'static str
 }
 
 /// The printed name of a reply.
-fn reply_name(reply: &Reply) -> &'static str
+pub fn reply_name(reply: &Reply) -> &'static str
     ensures { result.now ≡ reply_name reply.now }
 {
     match reply {

@@ -17,5 +17,6 @@ pub use cv_scan_output::{
     no_manifest_line, refusal_line,
 };
 pub use entry::{Entry, entry_line};
+pub use event::reply_name;
 pub use rows::rows_value;
 pub use tag::tag_laws;

@@ -113,7 +113,7 @@ impl Machine {
             return show_conflict(out, kept);
         }
         if self.registered() >= self.limits.images {
-            return out.word("too many images");
+            return out.word("too_many_images");
         }
         self.set_layers(letter, Some(layers));
         for layer in layers {
@@ -126,7 +126,7 @@ impl Machine {
 
     fn drop_image(&mut self, letter: u8) -> &'static str {
         let Some(layers) = self.layers_of(letter) else {
-            return "not registered";
+            return "not_registered";
         };
         self.set_layers(letter, None);
         for layer in layers {
@@ -151,7 +151,7 @@ impl Machine {
     /// A worker is done with a layer, or gives it back.
     fn finish(&mut self, work: Work, next: Status, reply: &'static str) -> &'static str {
         if self.status(work.layer) != Some(Status::Claimed(work.worker)) {
-            return "not claimed";
+            return "not_claimed";
         }
         if !self.is_named(work.layer) {
             self.set_status(work.layer, None);
@@ -169,7 +169,7 @@ impl Machine {
         out: &mut Lines,
     ) -> Result<(), NoMemory> {
         if self.is_full(feed) {
-            out.word("too many feeds");
+            out.word("too_many_feeds");
             return Ok(());
         }
         self.generation = self.generation.saturating_add(1);
@@ -236,7 +236,7 @@ impl Machine {
 
     fn ack(&mut self, number: u64) -> &'static str {
         if !self.has_notification(number) {
-            return "no notification";
+            return "no_notification";
         }
         self.rows.retain(|row| row.number != number);
         "acked"

@@ -1,10 +1,11 @@
-use crate::show::{show_reply, show_state, word_of};
+use crate::show::{show_reply, show_state};
 use crate::step::{Service, apply};
 use cv_base::NoMemory;
+use cv_transcript::reply_name;
 use plain_machine::{Lines, Step};
 use std::alloc::Global;
 
-/// Applies an event, and writes the reply and the state after it. It gives the word of the reply.
+/// Applies an event, and writes the reply and the state after it. It gives the name of the reply.
 pub fn report_step(
     alloc: Global,
     core: &mut Service,
@@ -22,7 +23,7 @@ fn write_reply(alloc: Global, core: &mut Service, step: Step<'_>, out: &mut Line
     match apply(alloc, core, step) {
         Ok(Some(reply)) => {
             show_reply(out, &reply);
-            word_of(&reply)
+            reply_name(&reply)
         }
         Ok(None) => {
             out.word("not an event for a core");

@@ -3,6 +3,7 @@ use crate::step::Service;
 use cv_base::{Digest, Finding, NoMemory, Row};
 use cv_core::{NoticeHead, Notices, PageError, Reply, ReportRefusal};
 use cv_overlay::{ImageFault, TreeFault};
+use cv_transcript::reply_name;
 use plain_machine::{Found, IMAGES, Lines};
 use std::alloc::Global;
 
@@ -11,30 +12,7 @@ pub fn show_reply(out: &mut Lines, reply: &Reply) {
     match reply {
         Reply::Conflict { kept } => show_layers(out, "conflict, kept", kept.as_slice()),
         Reply::Updated { generation, rows } => out.updated(*generation, *rows),
-        _ => out.word(word_of(reply)),
-    }
-}
-
-/// The word of a reply.
-pub fn word_of(reply: &Reply) -> &'static str {
-    match reply {
-        Reply::Registered => "registered",
-        Reply::Already => "already",
-        Reply::Conflict { .. } => "conflict",
-        Reply::TooManyImages => "too many images",
-        Reply::Dropped => "dropped",
-        Reply::NotRegistered => "not registered",
-        Reply::Claimed => "claimed",
-        Reply::Taken => "taken",
-        Reply::Unwanted => "unwanted",
-        Reply::Entered => "entered",
-        Reply::Discarded => "discarded",
-        Reply::Requeued => "requeued",
-        Reply::NotClaimed => "not claimed",
-        Reply::Updated { .. } => "updated",
-        Reply::TooManyFeeds => "too many feeds",
-        Reply::Acked => "acked",
-        Reply::NoNotification => "no notification",
+        _ => out.word(reply_name(reply)),
     }
 }
 

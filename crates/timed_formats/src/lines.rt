@@ -2,16 +2,14 @@ ghost use Rattle.std.specs.Prelude.{◌^◌, IfSome};
 ghost use Rattle.cv_seq.specs.Cause.{CausedBy};
 ghost use Rattle.cv_io.specs.Fault.{is_read_fault};
 ghost use Rattle.cv_io.specs.Lines.{reading_of};
+ghost use Rattle.cv_scan_input.specs.declared.input.TheConstants.{MAX_INPUT, MAX_LINE};
 ghost use Rattle.timed_formats.specs.Lines.{IsCountOf};
 
 use cv_base::NoMemory;
 use cv_io::{Line, LineError, LineReader, Source, StdSource};
+use cv_scan_input::{MAX_INPUT, MAX_LINE};
 use std::alloc::Global;
 use std::io::Read;
-
-pub const MAX_LINE: usize = 67_108_864;
-
-pub const MAX_INPUT: u64 = 68_719_476_736;
 
 /// The lines of a stream. One that cannot be read has none.
 pub fn lines_in<R: Read + Drop>(alloc: Global, stream: R) -> Result<u64, NoMemory> {

@@ -1,6 +1,7 @@
-use crate::lines::{MAX_INPUT, MAX_LINE, count_of};
+use crate::lines::count_of;
 use cv_base::NoMemory;
 use cv_io::{Line, LineError, LineReader, Source, StdSource};
+use cv_scan_input::{MAX_INPUT, MAX_LINE};
 use serde_json::Value;
 use std::alloc::Global;
 use std::io::Read;

@@ -6,10 +6,10 @@ use Rattle.cv_base.specs.declared.fault.What.TheVariants.{NoColon, Repeated}
 use Rattle.cv_stanza.specs.code.Steps.{BlockSteps, or_fault}
 use Rattle.cv_apkdb.specs.Installed.{value_fault, whole_fault}
 use Rattle.cv_apkdb.specs.Package.{Entry, Facts, entry_of, package_in}
-use Rattle.cv_apkdb.specs.declared.facts.Facts as held
+use Rattle.cv_apkdb.specs.declared.facts.Facts as declared
 use Rattle.cv_apkdb.specs.declared.letter.Entry as line
 use Rattle.cv_apkdb.specs.declared.letter.Letter.{Letter}
-use Rattle.cv_apkdb.specs.declared.letter.Letter.TheVariants.{Name, Version, Arch, Origin, Unused}
+use Rattle.cv_apkdb.specs.declared.letter.Letter.TheVariants.{Arch, Name, Origin, Unused, Version}
 use Rattle.cv_apkdb.specs.declared.package.ApkPackage.{ApkPackage}
 
 -- an entry as the code holds it
@@ -17,7 +17,7 @@ abbrev pub entry_view : line.Entry → Entry
 entry_view e = record { letter = e.letter; value = e.value.now }
 
 -- the values of the used letters, as the code holds them
-abbrev pub facts_view : held.Facts → Facts
+abbrev pub facts_view : declared.Facts → Facts
 facts_view f = record {
   name = option_map (λ x. x.now) f.name;
   version = option_map (λ x. x.now) f.version;

@@ -5,14 +5,14 @@ use Rattle.std.specs.List.{list_any}
 use Rattle.std.specs.Option.{option_map}
 use Rattle.std.specs.Ordering.{is_eq}
 use Rattle.cv_base.specs.declared.fault.What.{What}
-use Rattle.cv_base.specs.declared.fault.What.TheVariants.{NoColon, BadField, RepeatedField, LooseContinuation}
+use Rattle.cv_base.specs.declared.fault.What.TheVariants.{BadField, LooseContinuation, NoColon, RepeatedField}
 use Rattle.cv_stanza.specs.code.Steps.{BlockSteps, or_fault}
 use Rattle.cv_dpkg.specs.Fields.{Facts, Origin, Pair, is_continuation, is_name, named, origin_of, pair_in, same_name, source_name, source_version, state_of}
 use Rattle.cv_dpkg.specs.Status.{package_in, value_fault, whole_fault}
 use Rattle.cv_dpkg.specs.code.Names.{name_cmp}
-use Rattle.cv_dpkg.specs.declared.facts.Facts as held
+use Rattle.cv_dpkg.specs.declared.facts.Facts as declared
 use Rattle.cv_dpkg.specs.declared.field.Field.{Field}
-use Rattle.cv_dpkg.specs.declared.field.Field.TheVariants.{Package, Status, Version, Source, Architecture, Unused}
+use Rattle.cv_dpkg.specs.declared.field.Field.TheVariants.{Architecture, Package, Source, Status, Unused, Version}
 use Rattle.cv_dpkg.specs.declared.names.FieldName.{FieldName}
 use Rattle.cv_dpkg.specs.declared.package.DebPackage.{DebPackage}
 use Rattle.cv_dpkg.specs.declared.paragraph.Paragraph.{Paragraph}
@@ -24,7 +24,7 @@ abbrev pub source_view : parts.Source → Origin
 source_view s = record { name = option_map (λ t. t.now) s.name; version = option_map (λ t. t.now) s.version }
 
 -- what the lines say, as the code holds it
-abbrev pub facts_view : held.Facts → Facts
+abbrev pub facts_view : declared.Facts → Facts
 facts_view f = record {
   name = option_map (λ x. x.now) f.name;
   state = option_map (λ x. x.now) f.state;

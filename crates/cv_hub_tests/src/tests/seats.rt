@@ -1,36 +1,39 @@
 ghost use Rattle.std.specs.Prelude.{◌≡◌, ◌≤◌, length, IfOk};
 ghost use Rattle.sample_events.specs.Core.{opened};
 
+use super::taken;
 use cv_base::{Digest, Manifest, Seq};
 use cv_core::{Core, Event, Report, ReportRefusal};
 use cv_hub::{Blank, Hub, Identity, Seat};
 use cv_seq::NoMemory;
-use sample_events::{By, Reply, SampleDesk, hash, new_core};
+use sample_events::{By, EventEntry, Reply, SampleDesk, hash, new_core};
 use std::alloc::Global;
 use std::marker::Brand;
 use std::sync::Wait;
 use std::test::Fail;
 
-/// What two seats see of an event of the first one: its number and its reply, what the first one's view shows, and the front of the other
-/// one's view after it learned the receipt's note.
+/// What two seats see of an event of the first one: its number and its reply, what the first one's view shows, how many events the
+/// other one has seen once it learned the receipt's note, and the entries that both take.
 #[derive(Drop)]
 struct Learned {
     number: u64,
     reply: Reply,
     front: u64,
     is_pending: bool,
-    learned_front: u64,
+    learned: u64,
+    entries: Vec<EventEntry>,
 }
 
 #[test]
-fn a_learned_note_shows_in_the_next_view(rt: HostRuntime) -> Result<(), Fail> {
+fn a_seat_has_seen_the_events_of_a_note_that_it_learned(rt: HostRuntime) -> Result<(), Fail> {
     let core = new_core(rt.alloc())?;
     let seen = learn_and_view::<Brand, _>(&rt, rt.alloc(), Blank::new(2), core)?;
     assert_eq!(rt; seen.number, 1);
     assert_eq!(rt; seen.reply, Reply::Registered);
     assert_eq!(rt; seen.front, 1);
     assert!(rt; seen.is_pending);
-    assert_eq!(rt; seen.learned_front, 1);
+    assert_eq!(rt; seen.learned, 1);
+    assert_eq!(rt; seen.entries.len(), 1);
     Ok(())
 }
 
@@ -46,20 +49,22 @@ fn learn_and_view<L: Identity, W: Wait>(
     requires book { blank.book ≡ L.book }
     requires core { core ≡ opened L.limits }
 {
-    let (hub, mut seats) = Hub::<SampleDesk, L>::start(alloc, blank, core, 2)?;
+    let (mut hub, mut seats) = Hub::<SampleDesk, L>::start(alloc, blank, core, 2)?;
     let event = Event::Register(manifest(alloc)?);
     let by = By::Lane { lane: 0, line: 1 };
     let receipt = hub.submit(rt, alloc, &mut seats[0], by, event)?;
     let (front, is_pending) = viewed(rt, &hub, &mut seats[0]);
     seats[1].learn(receipt.note);
-    let learned_front = hub.view(rt, &mut seats[1]).front();
+    let learned = seats[1].seen().len();
+    let entries = taken(rt, &mut hub, seats.as_mut_slice(), 2)?;
     hub.end(seats);
     Ok(Learned {
         number: receipt.number,
         reply: receipt.reply,
         front,
         is_pending,
-        learned_front,
+        learned,
+        entries,
     })
 }
 

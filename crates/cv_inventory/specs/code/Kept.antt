@@ -14,8 +14,8 @@ use Rattle.cv_knowledge.specs.Knowledge.{HaveAtMost128Layers, KnowledgeView}
 use Rattle.cv_inventory.specs.Holdings.{Holdings}
 
 -- what is held by a registry and by feeds
-abbrev pub held : Registrations → FeedTable → Holdings
-held r table = record { images = r.images; layers = r.layers; feeds = table.feeds; limits = record { images = r.limit; feeds = table.limit } }
+abbrev pub holdings_of : Registrations → FeedTable → Holdings
+holdings_of r table = record { images = r.images; layers = r.layers; feeds = table.feeds; limits = record { images = r.limit; feeds = table.limit } }
 
 -- what of it a registry holds
 abbrev pub registrations : Holdings → Registrations

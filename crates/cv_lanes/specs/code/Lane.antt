@@ -44,13 +44,13 @@ reads_in steps = filter_map read_in steps
 
 -- a read has the machine's answer after as many events of a list as its front says, or says that memory ran out
 abbrev pub IsAnswered : DeskTrees → Limits → List Submission → Requested → ReadEntry → Type 0
-IsAnswered tree limits list asked read =
-    IsKnown tree → (read.answer ≡ answer.NoMemory) ⊎ (option_map (answer_to (trees_of tree) (state_of (trees_of tree) limits (take read.front list))) (read_of asked.request.act) ≡ Some read.answer)
+IsAnswered tree limits list requested read =
+    IsKnown tree → (read.answer ≡ answer.NoMemory) ⊎ (option_map (answer_to (trees_of tree) (state_of (trees_of tree) limits (take read.front list))) (read_of requested.request.act) ≡ Some read.answer)
 
 -- a step answers a request
 abbrev pub Answers : DeskTrees → Limits → List Submission → Requested → Step → Type 0
-Answers tree limits list asked (Submitted p) = (p.event.by ≡ by.Lane asked.request.lane asked.line) × (event_of asked.request.act ≡ Some p.event.act)
-Answers tree limits list asked (Answered read) = (read.lane ≡ asked.request.lane) × (read.line ≡ asked.line) × IsAnswered tree limits list asked read
+Answers tree limits list requested (Submitted p) = (p.event.by ≡ by.Lane requested.request.lane requested.line) × (event_of requested.request.act ≡ Some p.event.act)
+Answers tree limits list requested (Answered read) = (read.lane ≡ requested.request.lane) × (read.line ≡ requested.line) × IsAnswered tree limits list requested read
 
 -- a step stands after so many events
 abbrev pub IsFrom : ℕ → Step → Type 0
@@ -75,18 +75,18 @@ AreInTurn [] = ⊤
 AreInTurn (step ∷ later) = AllByRecursion (Follows step) later × AreInTurn later
 
 -- one request led to one step
-pub record OneStep (tree : DeskTrees) (limits : Limits) (asked : Requested) (before after : SeatView) (step : Step) : Type 0 where
+pub record OneStep (tree : DeskTrees) (limits : Limits) (requested : Requested) (before after : SeatView) (step : Step) : Type 0 where
   pub made : Made before after (placed_of (step ∷ []))
-  pub answers : Answers tree limits after.list asked step
+  pub answers : Answers tree limits after.list requested step
   pub from : IsFrom (length before.list) step
   pub within : IsWithin (length after.list) step
 
 -- requests led to a step each, in their order
-pub record LaneDid (tree : DeskTrees) (limits : Limits) (asked : List Requested) (before : SeatView) (reads : List ReadEntry) (after : SeatView) (reads_after : List ReadEntry) : Type 0 where
+pub record LaneDid (tree : DeskTrees) (limits : Limits) (requested : List Requested) (before : SeatView) (reads : List ReadEntry) (after : SeatView) (reads_after : List ReadEntry) : Type 0 where
   pub steps : List Step
   pub made : Made before after (placed_of steps)
   pub reads_are : reads_after ≡ reads ++ reads_in steps
-  pub answers : AllZip (Answers tree limits after.list) asked steps
+  pub answers : AllZip (Answers tree limits after.list) requested steps
   pub from : AllByRecursion (IsFrom (length before.list)) steps
   pub within : AllByRecursion (IsWithin (length after.list)) steps
   pub in_turn : AreInTurn steps
@@ -94,11 +94,11 @@ pub record LaneDid (tree : DeskTrees) (limits : Limits) (asked : List Requested)
 -- requests of one lane on ascending lines
 abbrev pub AreRequestsOf : ℕ → List Requested → Type 0
 AreRequestsOf lane [] = ⊤
-AreRequestsOf lane (asked ∷ later) = (asked.request.lane ≡ lane) × AllByRecursion (λ (other : Requested). asked.line < other.line) later × AreRequestsOf lane later
+AreRequestsOf lane (requested ∷ later) = (requested.request.lane ≡ lane) × AllByRecursion (λ (other : Requested). requested.line < other.line) later × AreRequestsOf lane later
 
--- a lane did its requests, and none remains
+-- a lane did its requests
 abbrev pub LaneAt : DeskTrees → Limits → SeatView → SeatView → Lane → Lane → Type 0
-LaneAt tree limits before after lane lane_after = (lane_after.number ≡ lane.number) × LaneDid tree limits lane.asked.items before lane.reads.items after lane_after.reads.items
+LaneAt tree limits before after lane lane_after = (lane_after.number ≡ lane.number) × LaneDid tree limits lane.requested.items before lane.reads.items after lane_after.reads.items
 
 -- the lanes in turn, each at a seat of its own, as far as there are seats
 abbrev pub LanesDid : DeskTrees → Limits → List SeatView → List SeatView → List Lane → List Lane → Type 0

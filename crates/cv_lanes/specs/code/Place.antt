@@ -13,14 +13,14 @@ use Rattle.cv_lanes.specs.declared.request.Look.TheVariants as look
 use Rattle.cv_lanes.specs.declared.request.Place.{Place}
 
 -- the request at a place
-abbrev pub requested : Place → Act → Requested
-requested place act = record { line = place.line; request = record { lane = place.lane; act = act } }
+abbrev pub request_of : Place → Act → Requested
+request_of place act = record { line = place.line; request = record { lane = place.lane; act = act } }
 
 -- the request of a read
-abbrev pub asked_by : Look → Act
-asked_by (look.Report image) = act.Report image
-asked_by (look.Page number size page) = act.Page number size page
-asked_by look.List = act.List
+abbrev pub requested_by : Look → Act
+requested_by (look.Report image) = act.Report image
+requested_by (look.Page number size page) = act.Page number size page
+requested_by look.List = act.List
 
 -- an answer, or that memory ran out
 abbrev pub answer_of : Result Answer NoMemory → Answer

@@ -4,7 +4,7 @@ use mathlib.Core.List.{IsPrefix}
 use Rattle.cv_hub.specs.Seats.{SeatView}
 use Rattle.cv_lanes.specs.code.Own.{Submission}
 
--- each seat has seen at least the events of a list and those that it had seen, and is else as it was
+-- each seat has seen at least the events of a list and those that it had seen, and is otherwise unchanged
 abbrev pub AreRefreshed : List Submission → List SeatView → List SeatView → Type 0
 AreRefreshed list [] [] = ⊤
 AreRefreshed list (before ∷ seats) (after ∷ seats_after) =

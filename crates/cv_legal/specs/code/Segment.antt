@@ -12,13 +12,13 @@ use Rattle.cv_machine.specs.Scans.{Trees}
 use Rattle.cv_machine.specs.Step.{step}
 use Rattle.cv_machine.specs.declared.act.WholeAct.{WholeAct}
 use Rattle.cv_legal.specs.Parts.{claims_of, events_by}
-use Rattle.cv_legal.specs.Replay.{Moment, Replays, asked_at}
+use Rattle.cv_legal.specs.Replay.{Moment, Replays, requested_at}
 use Rattle.cv_legal.specs.Turns.{ClaimsBelow, Works}
 use Rattle.cv_legal.specs.declared.taken.Requested.{Requested}
 
 -- a request is found by its lane and its line
 abbrev pub IsFound : List Requested → Requested → Type 0
-IsFound all asked = asked_at all asked.request.lane asked.line ≡ Some asked.request.act
+IsFound all requested = requested_at all requested.request.lane requested.line ≡ Some requested.request.act
 
 -- the lane and the line of an entry that answers a request
 pub record Address : Type 0 where
@@ -37,12 +37,12 @@ address_in (entry.Read read) = Some (record { lane = read.lane; line = read.line
 
 -- the lane and the line of a request
 abbrev pub address_of : Requested → Address
-address_of asked = record { lane = asked.request.lane; line = asked.line }
+address_of requested = record { lane = requested.request.lane; line = requested.line }
 
 -- entries that answer these requests and claim these layers, in this order, from one moment to another
-pub record Segment (trees : Trees) (workers : ℕ) (asked : List Requested) (jobs : List (List ℕ)) (before : Moment) (entries : List Entry) (after : Moment) : Type 0 where
-  pub replays : (all : List Requested) → AllByRecursion (IsFound all) asked → Replays trees all before entries after
-  pub addresses : filter_map address_in entries ≡ map address_of asked
+pub record Segment (trees : Trees) (workers : ℕ) (requested : List Requested) (jobs : List (List ℕ)) (before : Moment) (entries : List Entry) (after : Moment) : Type 0 where
+  pub replays : (all : List Requested) → AllByRecursion (IsFound all) requested → Replays trees all before entries after
+  pub addresses : filter_map address_in entries ≡ map address_of requested
   pub claims : claims_of (events_of entries) ≡ jobs
   pub claimers : AllByRecursion (λ event. ClaimsBelow workers event.by event.act) (events_of entries)
   pub works : (worker : ℕ) → Works None (events_by worker (events_of entries)) None
@@ -55,9 +55,9 @@ entry_at trees before source act = entry.Event (event_entry (before.count + 1) s
 
 -- the requests of a lane
 abbrev pub lane_requests : ℕ → List Requested → List Requested
-lane_requests lane asked = filter (λ r. r.request.lane == lane) asked
+lane_requests lane requested = filter (λ r. r.request.lane == lane) requested
 
 -- the requests of so many lanes from this one on, lane after lane
 abbrev pub lanes_from : ℕ → ℕ → List Requested → List Requested
-lanes_from lane zero asked = []
-lanes_from lane (suc count) asked = lane_requests lane asked ++ lanes_from (lane + 1) count asked
+lanes_from lane zero requested = []
+lanes_from lane (suc count) requested = lane_requests lane requested ++ lanes_from (lane + 1) count requested

@@ -11,7 +11,7 @@ use Rattle.cv_machine.specs.History.{act_name}
 use Rattle.cv_machine.specs.Scans.{Trees}
 use Rattle.cv_machine.specs.declared.limits.Limits.{Limits}
 use Rattle.cv_legal.specs.Parts.{claims_of}
-use Rattle.cv_legal.specs.Replay.{asked_at, read_of, submitted}
+use Rattle.cv_legal.specs.Replay.{read_of, requested_at, submitted}
 use Rattle.cv_legal.specs.Turns.{Works}
 use Rattle.cv_legal.specs.code.Segment.{lane_requests}
 use Rattle.cv_legal.specs.declared.taken.Requested.{Requested}
@@ -27,12 +27,12 @@ placed_from number (event ∷ events) = placed number event ∷ placed_from (num
 
 -- an event is what the request on its line asks for, or what its worker says
 abbrev pub IsSourced : List Requested → Submission → Type 0
-IsSourced asked event = submitted asked event.by (act_name event.act) ≡ Some event.act
+IsSourced requested event = submitted requested event.by (act_name event.act) ≡ Some event.act
 
 -- a read answers the request on its line, after as many events as its front says, which are no fewer than those before the round
-pub record IsSeen (trees : Trees) (limits : Limits) (list : List Submission) (before : ℕ) (asked : List Requested) (read : ReadEntry) : Type 0 where
+pub record IsSeen (trees : Trees) (limits : Limits) (list : List Submission) (before : ℕ) (requested : List Requested) (read : ReadEntry) : Type 0 where
   pub act : Act
-  pub source : asked_at asked read.lane read.line ≡ Some act
+  pub source : requested_at requested read.lane read.line ≡ Some act
   pub low : before ≤ read.front
   pub high : read.front ≤ length list
   pub is : (read.answer ≡ answer.NoMemory) ⊎ (option_map (answer_to trees (state_of trees limits (take read.front list))) (read_of act) ≡ Some read.answer)
@@ -53,11 +53,11 @@ sum_seats weight first zero = 0
 sum_seats weight first (suc count) = weight first + sum_seats weight (first + 1) count
 
 -- what is known of a lane after a round: each of its requests led to a step, and its events are all of its seat
-pub record LanePart (tree : DeskTrees) (limits : Limits) (before later : List Submission) (asked : List Requested) (lane : ℕ) (reads : List ReadEntry) : Type 0 where
+pub record LanePart (tree : DeskTrees) (limits : Limits) (before later : List Submission) (requested : List Requested) (lane : ℕ) (reads : List ReadEntry) : Type 0 where
   pub steps : List Step
   pub own : placed_of steps ≡ of_seat lane (length before + 1) later
   pub reads_are : reads ≡ reads_in steps
-  pub answers : AllZip (Answers tree limits (before ++ later)) (lane_requests lane asked) steps
+  pub answers : AllZip (Answers tree limits (before ++ later)) (lane_requests lane requested) steps
   pub from : AllByRecursion (IsFrom (length before)) steps
   pub within : AllByRecursion (IsWithin (length (before ++ later))) steps
   pub in_turn : AreInTurn steps

@@ -17,12 +17,12 @@ use Rattle.cv_round.specs.Round.{DesksCounted}
 use Rattle.cv_round.specs.code.Parts.{LanePart, WorkerPart}
 
 -- what is known of each lane and of each worker by its number, of the jobs that the workers took, and of the events
-pub record RoundRan {D : Type 0} (tree : DeskTrees) (limits : Limits) (listings faults : D → ℕ) (before whole : List Submission) (asked : List Requested) (queue : List (List ℕ)) (desks desks_after : List D) (events : List EventEntry) (lanes : List Lane) : Type 0 where
+pub record RoundRan {D : Type 0} (tree : DeskTrees) (limits : Limits) (listings faults : D → ℕ) (before whole : List Submission) (requested : List Requested) (queue : List (List ℕ)) (desks desks_after : List D) (events : List EventEntry) (lanes : List Lane) : Type 0 where
   pub later : List Submission
   pub whole_is : whole ≡ before ++ later
   pub replayed : IsReplayed tree limits (before ++ later)
   pub below : AllByRecursion (λ (e : Submission). e.seat < 8 + length desks) later
-  pub lane_parts : (lane : ℕ) → lane < 8 → LanePart tree limits before later asked lane (get_or (map (λ (l : Lane). l.reads.items) lanes) lane [])
+  pub lane_parts : (lane : ℕ) → lane < 8 → LanePart tree limits before later requested lane (get_or (map (λ (l : Lane). l.reads.items) lanes) lane [])
   pub eight : length lanes ≡ 8
   pub jobs : List (List ℕ)
   pub worker_parts : (worker : ℕ) → worker < length desks → WorkerPart before later worker (layers_of queue (get_or jobs worker []))

@@ -41,7 +41,7 @@ pub record WorkerDid (worker : ℕ) (layers : List (List ℕ)) (before : SeatVie
   pub listed : listings_after ≡ listings + grant_count (map entry_of own)
   pub failed : RoseBy (fault_count (map entry_of own)) faults faults_after
 
--- the workers in turn, from this one on, each with a hand, a seat and a desk of its own: each took the jobs that its hand had not before
+-- the workers in turn, from this one on, each with a hand, a seat and a desk of its own: each did the jobs of its hand
 abbrev pub WorkersDid : {D : Type 0} → (D → ℕ) → (D → ℕ) → List (List ℕ) → ℕ → List HandState → List SeatView → List SeatView → List D → List D → Type 0
 WorkersDid listings faults queue worker [] [] [] [] [] = ⊤
 WorkersDid listings faults queue worker (hand ∷ hands) (before ∷ seats) (after ∷ seats_after) (desk ∷ desks) (desk_after ∷ desks_after) =
@@ -87,7 +87,7 @@ abbrev pub AreDone : List HandState → Type 0
 AreDone [] = ⊤
 AreDone (hand ∷ hands) = (hand.done ≡ true) × AreDone hands
 
--- a desk has listed few layers for what its worker's seat has seen, so that it can list more
+-- a desk has listed at most 2^62 layers more than its worker's seat has seen events, so that it can list more
 abbrev pub HasRoom : {D : Type 0} → (D → ℕ) → SeatView → D → Type 0
 HasRoom listings seat desk = listings desk ≤ 2 ^ 62 + length seat.list
 

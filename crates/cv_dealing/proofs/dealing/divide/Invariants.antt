@@ -6,5 +6,5 @@ use Rattle.cv_dealing.proofs.dealing.divide.Given as goal
 abbrev pub invariant-loop-line : goal.invariant-loop-line
 invariant-loop-line l = record {
   refused : l.refused.items ≡ refusals l.yielded;
-  asked : l.asked.items ≡ requests l.yielded;
+  requested : l.requested.items ≡ requests l.yielded;
 }

@@ -6,7 +6,7 @@ use Rattle.cv_dealing.proofs.dealing.lanes_of.Given as goal
 
 abbrev pub invariant-loop-number : goal.invariant-loop-number
 invariant-loop-number l = record {
-  rest : (other : ℕ) → l.number ≤ other → lane_requests other l.rest.items ≡ lane_requests other l.fn.asked.items;
+  rest : (other : ℕ) → l.number ≤ other → lane_requests other l.rest.items ≡ lane_requests other l.fn.requested.items;
   count : length l.lanes.items ≡ l.number;
-  dealt : AreDealt 0 l.fn.asked.items l.lanes.items;
+  dealt : AreDealt 0 l.fn.requested.items l.lanes.items;
 }

@@ -4,8 +4,8 @@ use Rattle.cv_legal.specs.code.Segment.{lane_requests}
 use Rattle.cv_dealing.specs.code.Dealt.{of_other_lane}
 use Rattle.cv_dealing.proofs.dealing.of_lane.Given as goal
 
-abbrev pub invariant-loop-requested : goal.invariant-loop-requested
-invariant-loop-requested l = record {
+abbrev pub invariant-loop-one : goal.invariant-loop-one
+invariant-loop-one l = record {
   mine : l.mine.items ≡ lane_requests l.fn.lane l.yielded;
   others : l.others.items ≡ filter (of_other_lane l.fn.lane) l.yielded;
 }

@@ -7,5 +7,5 @@ use Rattle.cv_drill.proofs.totals.findings.Given as goal
 abbrev pub invariant-loop-value : goal.invariant-loop-value
 invariant-loop-value l = record {
   summed : l.sum + findings (map view (drop l.value-index l.values)) ≡ findings (map view l.values);
-  few : l.sum ≤ l.value-index * 2 ^ 64;
+  at_most : l.sum ≤ l.value-index * 2 ^ 64;
 }

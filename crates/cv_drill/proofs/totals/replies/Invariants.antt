@@ -7,5 +7,5 @@ use Rattle.cv_drill.proofs.totals.replies.Given as goal
 abbrev pub invariant-loop-value : goal.invariant-loop-value
 invariant-loop-value l = record {
   counted : l.count + replies l.word (map view (drop l.value-index l.values)) ≡ replies l.word (map view l.values);
-  few : l.count ≤ l.value-index;
+  at_most : l.count ≤ l.value-index;
 }

@@ -7,5 +7,5 @@ use Rattle.cv_drill.proofs.totals.rows.Given as goal
 abbrev pub invariant-loop-notice : goal.invariant-loop-notice
 invariant-loop-notice l = record {
   summed : l.sum + rows (map view (drop l.notice-index l.notices)) ≡ rows (map view l.notices);
-  few : l.sum ≤ l.notice-index * 2 ^ 64;
+  at_most : l.sum ≤ l.notice-index * 2 ^ 64;
 }

@@ -2,7 +2,7 @@ use Rattle.std.proofs.Common.{rules, ◌≡◌, ◌∙◌, ap}
 use Rattle.std.specs.BTreeMap.{get}
 use Rattle.cv_match.specs.Keys.{name_cmp}
 use Rattle.cv_feed.specs.code.Index.{indices_in, once}
-use Rattle.cv_feed.proofs.Put.{lent_is, put_is}
+use Rattle.cv_feed.proofs.PutLemmas.{lent_is, put_is}
 use Rattle.cv_feed.proofs.index.add_index.Goals as goal
 
 -- the key of the entry is the name

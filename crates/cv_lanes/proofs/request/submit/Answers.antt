@@ -2,7 +2,7 @@ use Rattle.std.proofs.Common.{subst}
 use Rattle.cv_steps.specs.Core.{act_of}
 use Rattle.cv_hub.specs.Seats.{SeatView}
 use Rattle.cv_lanes.specs.code.Lane.{Answered, OneStep}
-use Rattle.cv_lanes.specs.code.Place.{requested}
+use Rattle.cv_lanes.specs.code.Place.{request_of}
 use Rattle.cv_lanes.proofs.RequestLemmas.{submitted_one}
 use Rattle.cv_lanes.proofs.request.submit.Goals as goal
 
@@ -13,5 +13,5 @@ returns-clause-event g c = λ act is.
 
 pub returns-in_default-clause-read : goal.returns-in_default-clause-read
 returns-in_default-clause-read g c = λ act is.
-    subst (λ (before : SeatView). OneStep g.D.Desk.tree g.L.Identity.limits (requested c.args.place act) before c.no_memory_at.new.seat (Answered c.no_memory_at.result))
+    subst (λ (before : SeatView). OneStep g.D.Desk.tree g.L.Identity.limits (request_of c.args.place act) before c.no_memory_at.new.seat (Answered c.no_memory_at.result))
     c.in_default.ensures.err (c.no_memory_at.ensures act)

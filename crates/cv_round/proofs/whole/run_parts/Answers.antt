@@ -20,7 +20,7 @@ run_all-requires-clause-same g c κs within =
 
 pub run_all-requires-clause-lanes : goal.run_all-requires-clause-lanes
 run_all-requires-clause-lanes g c κs within =
-    subst (AllByRecursion IsLanePrepared) (sym c.as_mut_slice.ensures.value) (dealt_prepared 0 c.args.asked.items c.in_ok-lanes.lanes.items c.requires.sound c.in_ok-lanes.ensures.dealt)
+    subst (AllByRecursion IsLanePrepared) (sym c.as_mut_slice.ensures.value) (dealt_prepared 0 c.args.requested.items c.in_ok-lanes.lanes.items c.requires.sound c.in_ok-lanes.ensures.dealt)
 
 pub run_all-requires-clause-hands : goal.run_all-requires-clause-hands
 run_all-requires-clause-hands g c κs within =
@@ -47,14 +47,14 @@ gather-took-requires g c =
 
 pub take_events-events-requires-clause-numbered : goal.take_events-events-requires-clause-numbered
 take_events-events-requires-clause-numbered g c =
-    let worked = worked_by g.D.Desk.listings g.D.Desk.faults g.D.Desk.tree g.L.Identity.limits c.args.hub.now c.args.asked.items c.args.queue.now c.args.seats.now c.refresh.new.seats c.run_all.new.seats c.in_ok-lanes.lanes.items c.run_all.new.lanes c.run_all.new.hands c.args.desks.now c.run_all.new.desks
+    let worked = worked_by g.D.Desk.listings g.D.Desk.faults g.D.Desk.tree g.L.Identity.limits c.args.hub.now c.args.requested.items c.args.queue.now c.args.seats.now c.refresh.new.seats c.run_all.new.seats c.in_ok-lanes.lanes.items c.run_all.new.lanes c.run_all.new.hands c.args.desks.now c.run_all.new.desks
     _ c.as_mut_slice.ensures.value c.requires.seats.count c.requires.seats.numbered c.requires.seats.receipts c.refresh.ensures c.refresh.auto.seats c.run_all.auto.seats c.in_ok-lanes.ensures.count c.in_ok-lanes.ensures.dealt c.run_all.auto.lanes c.in_ok-run_all.ensures.lanes c.in_ok-run_all.ensures.workers
     (c.run_all.auto.hands ∙ (ap length c.as_mut_slice-2.ensures.value ∙ (ap length c.in_ok-hands.ensures.new ∙ new_many c.in_ok-hands.ensures.fill 0 (length c.args.desks.now)))) in
-    ends_numbered g.D.Desk.listings g.D.Desk.faults g.D.Desk.tree g.L.Identity.limits c.args.hub.now c.args.asked.items c.args.queue.now c.args.seats.now c.refresh.new.seats c.run_all.new.seats c.in_ok-lanes.lanes.items c.run_all.new.lanes c.run_all.new.hands c.args.desks.now c.run_all.new.desks worked
+    ends_numbered g.D.Desk.listings g.D.Desk.faults g.D.Desk.tree g.L.Identity.limits c.args.hub.now c.args.requested.items c.args.queue.now c.args.seats.now c.refresh.new.seats c.run_all.new.seats c.in_ok-lanes.lanes.items c.run_all.new.lanes c.run_all.new.hands c.args.desks.now c.run_all.new.desks worked
 
 pub returns-clause-ran : goal.returns-clause-ran
 returns-clause-ran g c =
-    let worked = worked_by g.D.Desk.listings g.D.Desk.faults g.D.Desk.tree g.L.Identity.limits c.args.hub.now c.args.asked.items c.args.queue.now c.args.seats.now c.refresh.new.seats c.run_all.new.seats c.in_ok-lanes.lanes.items c.run_all.new.lanes c.run_all.new.hands c.args.desks.now c.run_all.new.desks
+    let worked = worked_by g.D.Desk.listings g.D.Desk.faults g.D.Desk.tree g.L.Identity.limits c.args.hub.now c.args.requested.items c.args.queue.now c.args.seats.now c.refresh.new.seats c.run_all.new.seats c.in_ok-lanes.lanes.items c.run_all.new.lanes c.run_all.new.hands c.args.desks.now c.run_all.new.desks
     _ c.as_mut_slice.ensures.value c.requires.seats.count c.requires.seats.numbered c.requires.seats.receipts c.refresh.ensures c.refresh.auto.seats c.run_all.auto.seats c.in_ok-lanes.ensures.count c.in_ok-lanes.ensures.dealt c.run_all.auto.lanes c.in_ok-run_all.ensures.lanes c.in_ok-run_all.ensures.workers
     (c.run_all.auto.hands ∙ (ap length c.as_mut_slice-2.ensures.value ∙ (ap length c.in_ok-hands.ensures.new ∙ new_many c.in_ok-hands.ensures.fill 0 (length c.args.desks.now)))) in
     let new = c.in_ok-hands.ensures in
@@ -71,16 +71,16 @@ returns-clause-ran g c =
     let lane_size = ap length c.as_mut_slice.ensures.value in
     let lanes_front = front_is c.in_ok-lanes.lanes.len c.run_all.new.lanes (drop (length c.run_all.new.lanes) c.in_ok-lanes.lanes.items) (c.in_ok-lanes.lanes.ok.0 ∙ sym (c.run_all.auto.lanes ∙ lane_size)) in
     rw lanes_front
-    (ran_of g.D.Desk.listings g.D.Desk.faults g.D.Desk.tree g.L.Identity.limits c.args.hub.now c.args.asked.items c.args.queue.now c.args.seats.now c.refresh.new.seats c.run_all.new.seats c.in_ok-lanes.lanes.items c.run_all.new.lanes c.run_all.new.hands c.args.desks.now c.run_all.new.desks c.take_events-events.new.self c.gather-took.result.lists c.take_events-events.result.items worked (c.gather-took.ensures.lists ∙ ap lists_of front)
+    (ran_of g.D.Desk.listings g.D.Desk.faults g.D.Desk.tree g.L.Identity.limits c.args.hub.now c.args.requested.items c.args.queue.now c.args.seats.now c.refresh.new.seats c.run_all.new.seats c.in_ok-lanes.lanes.items c.run_all.new.lanes c.run_all.new.hands c.args.desks.now c.run_all.new.desks c.take_events-events.new.self c.gather-took.result.lists c.take_events-events.result.items worked (c.gather-took.ensures.lists ∙ ap lists_of front)
     (λ h. c.gather-took.ensures.all new.fill of done h ∙ ap (weigh_below h) new.jobs_below)
     c.take_events-events.ensures.more c.take_events-events.ensures.replayed c.take_events-events.ensures.entries c.take_events-events.ensures.seen c.take_events-events.ensures.receipts c.take_events-events.ensures.of_seats)
 
 pub returns-clause-seats : goal.returns-clause-seats
 returns-clause-seats g c =
-    let worked = worked_by g.D.Desk.listings g.D.Desk.faults g.D.Desk.tree g.L.Identity.limits c.args.hub.now c.args.asked.items c.args.queue.now c.args.seats.now c.refresh.new.seats c.run_all.new.seats c.in_ok-lanes.lanes.items c.run_all.new.lanes c.run_all.new.hands c.args.desks.now c.run_all.new.desks
+    let worked = worked_by g.D.Desk.listings g.D.Desk.faults g.D.Desk.tree g.L.Identity.limits c.args.hub.now c.args.requested.items c.args.queue.now c.args.seats.now c.refresh.new.seats c.run_all.new.seats c.in_ok-lanes.lanes.items c.run_all.new.lanes c.run_all.new.hands c.args.desks.now c.run_all.new.desks
     _ c.as_mut_slice.ensures.value c.requires.seats.count c.requires.seats.numbered c.requires.seats.receipts c.refresh.ensures c.refresh.auto.seats c.run_all.auto.seats c.in_ok-lanes.ensures.count c.in_ok-lanes.ensures.dealt c.run_all.auto.lanes c.in_ok-run_all.ensures.lanes c.in_ok-run_all.ensures.workers
     (c.run_all.auto.hands ∙ (ap length c.as_mut_slice-2.ensures.value ∙ (ap length c.in_ok-hands.ensures.new ∙ new_many c.in_ok-hands.ensures.fill 0 (length c.args.desks.now)))) in
-    let numbered = ends_numbered g.D.Desk.listings g.D.Desk.faults g.D.Desk.tree g.L.Identity.limits c.args.hub.now c.args.asked.items c.args.queue.now c.args.seats.now c.refresh.new.seats c.run_all.new.seats c.in_ok-lanes.lanes.items c.run_all.new.lanes c.run_all.new.hands c.args.desks.now c.run_all.new.desks worked in
+    let numbered = ends_numbered g.D.Desk.listings g.D.Desk.faults g.D.Desk.tree g.L.Identity.limits c.args.hub.now c.args.requested.items c.args.queue.now c.args.seats.now c.refresh.new.seats c.run_all.new.seats c.in_ok-lanes.lanes.items c.run_all.new.lanes c.run_all.new.hands c.args.desks.now c.run_all.new.desks worked in
     rw c.take_events-events.ensures.seats (record {
       count = c.run_all.auto.seats ∙ (c.refresh.auto.seats ∙ (c.requires.seats.count ∙ ap (λ n. 8 + n) (sym c.run_all.auto.desks)));
       all = c.run_all.auto.seats ∙ (c.refresh.auto.seats ∙ c.requires.seats.all);

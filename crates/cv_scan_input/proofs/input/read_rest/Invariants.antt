@@ -9,7 +9,7 @@ use Rattle.cv_scan_input.proofs.input.read_rest.Given as goal
 
 abbrev pub invariant-loop-records : goal.invariant-loop-records
 invariant-loop-records g l = record {
-  going : l.reader.spent ≡ false;
+  not_spent : l.reader.spent ≡ false;
   request : Progress l.fn.manifest (reading l.fn.reader (g.S.Source.remaining l.fn.input)) (reading l.reader (g.S.Source.remaining l.input)) l.records (l.number + 1);
   before : l.reader.ended ≡ false → l.fn.reader.ended ≡ false;
   accepted : l.reader.ended ≡ false → Accepted l.fn.manifest l.fn.reader l.reader l.records (l.number + 1) (g.S.Source.remaining l.fn.input) (g.S.Source.remaining l.input);

@@ -15,7 +15,7 @@ use Rattle.cv_serve.proofs.service.read_lines.Goals as goal
 
 pub loop-text-init : goal.loop-text-init
 loop-text-init g c = record {
-  going = c.requires.going;
+  not_spent = c.requires.not_spent;
   lines = ([], refl, reads_none (reading c.args.reader.now (g.S.Source.remaining c.args.input.now)), λ known workers many begun. begun);
   seen = λ e. absurd (false≢true (sym c.requires.begins ∙ e));
   limits = c.requires.limits;
@@ -47,7 +47,7 @@ loop-text-preserved g c =
     ap (cut_lines round_limits) (numbered_more 1 texts text) ∙ cut_more round_limits (numbered 1 texts) (line_at (1 + length texts) text)
     ∙ ap (λ n. cut_line round_limits cut (line_at n text)) at ∙ ap (λ t. cut_line round_limits cut (line_at number t)) (sym c.as_slice.ensures) in
     record {
-      going = c.in_ok-text.ensures.spent;
+      not_spent = c.in_ok-text.ensures.spent;
       lines = (
         texts ++ text ∷ [],
         long,

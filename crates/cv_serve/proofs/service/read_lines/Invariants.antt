@@ -11,7 +11,7 @@ use Rattle.cv_serve.proofs.service.read_lines.Given as goal
 
 abbrev pub invariant-loop-text : goal.invariant-loop-text
 invariant-loop-text g l = record {
-  going : l.reader.spent ≡ false;
+  not_spent : l.reader.spent ≡ false;
   lines : (texts : List (List ℕ)) × (length texts ≡ l.number) × HasRead (reading l.fn.reader (g.S.Source.remaining l.fn.input)) (reading l.reader (g.S.Source.remaining l.input)) texts
       × (IsKnown g.D.Desk.tree → (workers : ℕ) → length l.fn.desks ≡ workers
       → Done (trees_of g.D.Desk.tree) workers g.D.Desk.listings g.D.Desk.faults [] l.fn.round.taken l.fn.round.bytes (moment_of (trees_of g.D.Desk.tree) g.L.Identity.limits l.fn.service.hub) (g.K.Sink.contents l.fn.output) (g.K.Sink.contents l.fn.output) l.fn.desks l.fn.desks

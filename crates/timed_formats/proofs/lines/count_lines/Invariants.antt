@@ -5,7 +5,7 @@ use Rattle.timed_formats.proofs.lines.count_lines.Given as goal
 
 abbrev pub invariant-loop-reader : goal.invariant-loop-reader
 invariant-loop-reader g l = record {
-  going : l.reader.spent ≡ false;
+  not_spent : l.reader.spent ≡ false;
   bound : l.lines + room_of l.reader ≤ 2 ^ 36;
   remaining : Remaining (reading l.initial.reader (g.S.Source.remaining l.initial.input)) (reading l.reader (g.S.Source.remaining l.input)) l.lines;
   later : g.S.Source.faults l.initial.input ≤ g.S.Source.faults l.input;
