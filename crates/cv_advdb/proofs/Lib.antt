@@ -2,7 +2,6 @@ pub mod Crossing
 pub mod FeedLemmas
 pub mod IndexLemmas
 pub mod NameLemmas
-pub mod Ordered
 pub mod SortedLists
 pub mod TouchedLemmas
 pub mod Walked

@@ -10,6 +10,7 @@ use Rattle.std.specs.declared.cmp.Ordering.TheVariants.{Less, Equal, Greater}
 use Rattle.std.proofs.Common.{ap, append_assoc, sym, ◌∙◌}
 use Rattle.std.proofs.lemmas.List.{drop_more}
 use Rattle.std.proofs.lemmas.List.Folds.{list_any-append}
+use Rattle.std.proofs.Math.Bool.{or-false}
 use Rattle.cv_base.specs.InOrder.{in_order}
 use Rattle.cv_base.specs.declared.advisory.Advisory.{Advisory}
 use Rattle.cv_base.specs.declared.advisory.Affected.{Affected}
@@ -30,7 +31,7 @@ name_total = then_total (on_total (λ (n : PackageName). n.ecosystem) nat_list_c
 pub never_below : {K : Type 0} {cmp : K → K → Ordering} → IsTotalOrder cmp → (x : K) → cmp x x ≡ Less → ⊥
 never_below {K} {cmp} o x h = let e : Less ≡ Greater = sym h ∙ o.antisymm x x ∙ ap ordering_reverse h in cc
 
-turned_eq : (r : Ordering) → is_eq (ordering_reverse r) ≡ is_eq r
+pub turned_eq : (r : Ordering) → is_eq (ordering_reverse r) ≡ is_eq r
 turned_eq Less = refl
 turned_eq Equal = refl
 turned_eq Greater = refl
@@ -63,10 +64,7 @@ has_append key xs ys = list_any-append (λ name. is_key key (Some name)) xs ys
 
 entry_has : (key : PackageName) (name : Option PackageName) → has_name key (option_to_list name) ≡ is_key key name
 entry_has key None = refl
-entry_has key (Some name) = or_false (is_key key (Some name)) where
-  or_false : (b : Bool) → (b || false) ≡ b
-  or_false true = refl
-  or_false false = refl
+entry_has key (Some name) = or-false (is_key key (Some name))
 
 entries_have : (key : PackageName) (entries : List Affected)
     → has_name key (flat_map (λ (entry : Affected). option_to_list entry.«package») entries) ≡ list_any (λ (entry : Affected). is_key key entry.«package») entries

@@ -6,6 +6,7 @@ use Rattle.std.specs.List.Sorted.{IsStrictlySortedBy}
 use Rattle.std.specs.declared.cmp.Ordering.{Ordering}
 use Rattle.std.specs.declared.cmp.Ordering.TheVariants.{Less}
 use Rattle.std.proofs.Common.{inl, inr, subst, sym, ◌∙◌}
+use Rattle.cv_base.proofs.Lists.{same_cons}
 use Rattle.cv_advdb.proofs.NameLemmas.{never_below}
 
 -- an item stands in a list
@@ -28,9 +29,6 @@ tail_by : {K : Type 0} {cmp : K → K → Ordering} → IsTotalOrder cmp → (x 
 tail_by {K} {cmp} o x y z ys e h (inl k) = absurd (never_below o x (subst (λ (w : K). cmp x w ≡ Less) (k ∙ sym e) h))
 tail_by o x y z ys e h (inr k) = k
 
-same_cons : {K : Type 0} (x y : K) (xs ys : List K) → x ≡ y → xs ≡ ys → x ∷ xs ≡ y ∷ ys
-same_cons x y xs ys e f = λ i. e i ∷ f i
-
 -- sorted lists that have the same items are equal
 pub sorted_same : {K : Type 0} {cmp : K → K → Ordering} → IsTotalOrder cmp → (xs ys : List K) → IsStrictlySortedBy cmp xs → IsStrictlySortedBy cmp ys
     → ((z : K) → Has z xs → Has z ys) → ((z : K) → Has z ys → Has z xs) → xs ≡ ys
@@ -46,21 +44,6 @@ sorted_same {K} {cmp} o (x ∷ xs) (y ∷ ys) s t f g =
     same_cons x y xs ys heads tails
 
 -- ---- items that pass a test
-
-all_filter : {K : Type 0} (P : K → Type 0) (test : K → Bool) (xs : List K) → AllByRecursion P xs → AllByRecursion P (filter test xs)
-all_filter P test [] h = tt
-all_filter {K} P test (x ∷ xs) h = by_test (test x) (all_filter P test xs h.1) where
-  by_test : (b : Bool) → AllByRecursion P (filter test xs) → AllByRecursion P (cond b (x ∷ filter test xs) (filter test xs))
-  by_test true k = (h.0, k)
-  by_test false k = k
-
-pub filter_sorted : {K : Type 0} (cmp : K → K → Ordering) (test : K → Bool) (xs : List K) → IsStrictlySortedBy cmp xs → IsStrictlySortedBy cmp (filter test xs)
-unfolding IsStrictlySortedBy
-filter_sorted cmp test [] s = tt
-filter_sorted {K} cmp test (x ∷ xs) s = by_test (test x) (filter_sorted cmp test xs s.1) where
-  by_test : (b : Bool) → IsStrictlySortedBy cmp (filter test xs) → IsStrictlySortedBy cmp (cond b (x ∷ filter test xs) (filter test xs))
-  by_test true k = (all_filter (λ y. cmp x y ≡ Less) test xs s.0, k)
-  by_test false k = k
 
 pub has_filter : {K : Type 0} (test : K → Bool) (z : K) (xs : List K) → test z ≡ true → Has z xs → Has z (filter test xs)
 has_filter test z [] h k = k

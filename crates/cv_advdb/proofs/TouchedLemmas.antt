@@ -10,6 +10,8 @@ use Rattle.std.specs.declared.cmp.Ordering.{Ordering}
 use Rattle.std.specs.declared.cmp.Ordering.TheVariants.{Less, Equal, Greater}
 use Rattle.std.proofs.Common.{ap, inl, inr, subst, sym, ◌∙◌}
 use Rattle.std.proofs.lemmas.Map.Lookups.{exact_bytes}
+use Rattle.std.proofs.lemmas.Bool.{or_parts}
+use Rattle.std.proofs.lemmas.List.Kept.{IsStrictlySortedBy-filter}
 use Rattle.cv_base.specs.declared.advisory.Advisory.{Advisory}
 use Rattle.cv_base.specs.declared.finding.Finding.{Finding}
 use Rattle.cv_base.specs.declared.«package».Package.{Package}
@@ -21,8 +23,7 @@ use Rattle.cv_match.proofs.Keys.{found_about}
 use Rattle.cv_advdb.specs.Feeds.{id_cmp, id_total, records_of}
 use Rattle.cv_advdb.specs.Touched.{IsTouched, has_name, is_touched, records_under}
 use Rattle.cv_advdb.proofs.NameLemmas.{key_is, key_self, name_total}
-use Rattle.cv_advdb.proofs.SortedLists.{Has, filter_has, filter_sorted, has_filter, sorted_same}
-use Rattle.cv_advdb.proofs.Walked.{either_false}
+use Rattle.cv_advdb.proofs.SortedLists.{Has, filter_has, has_filter, sorted_same}
 
 abbrev pub FeedList : Type 0
 FeedList = List (List ℕ × List Advisory)
@@ -35,11 +36,11 @@ stays : (before after : List Advisory) (touched : List PackageName)
     → (a : Advisory) (ks : List PackageName) → list_any (λ key. has_name key touched) ks ≡ false → list_any (λ key. is_named key a) ks ≡ true → Has a before → Has a after
 stays before after touched u a [] h k m = let e : true ≡ false = sym k in cc
 stays before after touched u a (key ∷ ks) h k m =
-    by_test (is_named key a) refl k (λ g. stays before after touched u a ks (either_false (has_name key touched) (list_any (λ q. has_name q touched) ks) h).1 g m)
+    by_test (is_named key a) refl k (λ g. stays before after touched u a ks (or_parts (has_name key touched) (list_any (λ q. has_name q touched) ks) h).1 g m)
   where
     by_test : (b : Bool) → is_named key a ≡ b → (b || list_any (λ q. is_named q a) ks) ≡ true → (list_any (λ q. is_named q a) ks ≡ true → Has a after) → Has a after
     by_test true n g more =
-        let same = u key (either_false (has_name key touched) (list_any (λ q. has_name q touched) ks) h).0 in
+        let same = u key (or_parts (has_name key touched) (list_any (λ q. has_name q touched) ks) h).0 in
         (filter_has (is_named key) a after (subst (Has a) same (has_filter (is_named key) a before n m))).0
     by_test false n g more = more g
 
@@ -47,7 +48,7 @@ stays before after touched u a (key ∷ ks) h k m =
 about_same : (p : Package) (before after : List Advisory) (touched : List PackageName) → IsStrictlySortedBy id_cmp before → IsStrictlySortedBy id_cmp after
     → IsTouched before after touched → is_touched touched p ≡ false → filter (is_about p) before ≡ filter (is_about p) after
 about_same p before after touched s t h k = sorted_same id_total (filter (is_about p) before) (filter (is_about p) after)
-    (filter_sorted id_cmp (is_about p) before s) (filter_sorted id_cmp (is_about p) after t)
+    (IsStrictlySortedBy-filter id_cmp (is_about p) before s) (IsStrictlySortedBy-filter id_cmp (is_about p) after t)
     (λ a m. let r = filter_has (is_about p) a before m in has_filter (is_about p) a after r.1 (stays before after touched h.untouched a (keys.keys_of p) k r.1 r.0))
     (λ a m. let r = filter_has (is_about p) a after m in has_filter (is_about p) a before r.1 (stays after before touched (λ key n. sym (h.untouched key n)) a (keys.keys_of p) k r.1 r.0))
 

@@ -1,9 +1,10 @@
 -- One step of the walk over two lists of records, and the walk as a whole.
-use Rattle.std.specs.Prelude.{◌≡◌, ◌<◌, Bool, true, false, cond, ◌||◌, List, [], ◌∷◌, ◌++◌, length, refl}
+use Rattle.std.specs.Prelude.{◌≡◌, ◌<◌, Bool, true, false, cond, List, [], ◌∷◌, ◌++◌, length, refl}
 use Rattle.std.specs.List.Sorted.{IsStrictlySortedBy}
 use Rattle.std.specs.Ordering.{ordering_reverse}
 use Rattle.std.specs.declared.cmp.Ordering.TheVariants.{Less, Equal}
 use Rattle.std.proofs.Common.{ap, arith, sym, subst, ◌∙◌}
+use Rattle.std.proofs.lemmas.Bool.{or_parts, both_ways, or_from}
 use Rattle.cv_base.proofs.InOrder.{after_lower}
 use Rattle.cv_base.specs.InOrder.{in_order}
 use Rattle.cv_base.specs.declared.advisory.Advisory.{Advisory}
@@ -15,24 +16,16 @@ use Rattle.cv_advdb.specs.code.Index.{names_in}
 use Rattle.cv_advdb.specs.code.Walk.{DiffersBy, IsBelow, IsLess, IsStep}
 use Rattle.cv_advdb.proofs.NameLemmas.{has_append, has_order, names_have, never_below, order_sorted}
 
-pub either_false : (a b : Bool) → (a || b) ≡ false → (a ≡ false) × (b ≡ false)
-either_false true b h = cc
-either_false false b h = (refl, h)
-
-both_false : (a b : Bool) → a ≡ false → b ≡ false → (a || b) ≡ false
-both_false true b h k = h
-both_false false b h k = k
-
 -- a key is not among these names and those of a record
 unnamed : (key : PackageName) (names : List PackageName) (x : Advisory) → has_name key (names ++ names_in x) ≡ false
     → (has_name key names ≡ false) × (is_named key x ≡ false)
 unnamed key names x h =
-    let parts = either_false (has_name key names) (has_name key (names_in x)) (sym (has_append key names (names_in x)) ∙ h) in
+    let parts = or_parts (has_name key names) (has_name key (names_in x)) (sym (has_append key names (names_in x)) ∙ h) in
     (parts.0, sym (names_have key x) ∙ parts.1)
 
 named_by : (key : PackageName) (names : List PackageName) (x : Advisory) → has_name key names ≡ false → is_named key x ≡ false
     → has_name key (names ++ names_in x) ≡ false
-named_by key names x h k = has_append key names (names_in x) ∙ both_false (has_name key names) (has_name key (names_in x)) h (names_have key x ∙ k)
+named_by key names x h k = has_append key names (names_in x) ∙ or_from (has_name key names) (has_name key (names_in x)) h (names_have key x ∙ k)
 
 -- a record that does not name the key does not stand under it
 skip : (key : PackageName) (x : Advisory) (xs : List Advisory) → is_named key x ≡ false → records_under key (x ∷ xs) ≡ records_under key xs
@@ -114,7 +107,7 @@ both_changed olds x y xs ys apart hx hy = record {
       (named_by key (olds ++ names_in x) y (named_by key olds x k n) m, sym (skip key x xs n) ∙ e ∙ skip key y ys m);
 }
 
--- nothing is left
+-- nothing remains
 pub none_left : (olds : List PackageName) (xs ys : List Advisory) → IsStep xs ys olds xs ys olds
 none_left olds xs ys = record { same = λ key k. (k, λ e. e); exact = λ key k e. (k, e) }
 
@@ -130,15 +123,11 @@ walk_goes_on before after xs ys ls rs olds news d s = record {
   exact = λ key e. let n = d.exact key e in s.exact key n.0 n.1;
 }
 
-not_both : (b : Bool) → b ≡ true → b ≡ false → ⊥
-not_both true h k = absurd (cc)
-not_both false h k = absurd (cc)
-
 -- after the last step, the names in order are the touched keys
 pub walk_ends : (before after : List Advisory) (names : List PackageName) → DiffersBy before after [] [] names → IsTouched before after (in_order name_cmp names)
 walk_ends before after names d = record {
   sorted = order_sorted names;
-  touched = λ key k e. not_both (has_name key names) (sym (has_order key names) ∙ k) (d.exact key e).0;
+  touched = λ key k e. both_ways (has_name key names) (d.exact key e).0 (sym (has_order key names) ∙ k);
   untouched = λ key k. d.same key (sym (has_order key names) ∙ k) refl;
 }
 

@@ -1,3 +1,6 @@
+ghost use Rattle.std.specs.Prelude.{◌≡◌};
+ghost use Rattle.cv_advdb.specs.declared.error.AdvError.TheVariants as error;
+
 use cv_base::NoMemory;
 use thiserror::Error;
 
@@ -11,9 +14,6 @@ pub enum AdvError {
 }
 
 impl From<NoMemory> for AdvError {
-    ghost use Rattle.std.specs.Prelude.{◌≡◌};
-    ghost use Rattle.cv_advdb.specs.declared.error.AdvError.TheVariants as error;
-
     ghost from_gives = { λ e r. r ≡ error.NoMemory };
 
     fn from(_error: NoMemory) -> AdvError {

@@ -98,7 +98,8 @@ impl Feeds {
     }
 
     /// The record with this index, from 0, among those that have an entry about the key, in the order of feed and id, and as it is
-    /// prepared for a kind of package. It takes no memory. The time is log n in the names that the records of each feed have.
+    /// prepared for a kind of package; `None` if there are at most `index` of them. It takes no memory. The time is log n in the
+    /// names that the records of each feed have.
     pub fn under(&self, key: &PackageName, kind: PackageKind, index: u64) -> Option<Listed<'_>>
         ensures value { option_map (λ listed. (listed.feed.now, listed.advisory.now)) result ≡ slice_get (listed_under key.now self.now.feeds) index }
         ensures prepared { IfSome result (λ listed. listed.ready.now ≡ record { kind = kind; advisory = listed.advisory.now }) }

@@ -28,7 +28,7 @@ fn push_name(names: &mut Vec<PackageName>, entry: &Affected) -> Result<(), NoMem
 }
 
 /// Names by ecosystem and then by name, each once. The time is n log n in the names.
-#[tactic(auto, using(crate::proofs::Ordered::put_last, crate::proofs::Ordered::put_none))]
+#[tactic(auto, using(cv_base::proofs::Ordered::put_last, cv_base::proofs::Ordered::put_none))]
 pub fn in_name_order(
     alloc: Global,
     mut names: Vec<PackageName>,

@@ -92,8 +92,6 @@ fn prepare(alloc: Global, advisory: Advisory) -> Result<PreparedRecord, NoMemory
 
 /// A clone is one more owner. It takes no memory, and fails only at the last value of the count of owners.
 impl Clone for StoredRecord {
-    ghost use Rattle.std.specs.Prelude.{◌≡◌};
-
     ghost is_clone = { λ x y. y ≡ x };
 
     fn clone(&self) -> Result<StoredRecord, AllocError> {
@@ -156,7 +154,7 @@ impl Ord for StoredRecord {
 }
 
 /// Records in the order of their ids. Of those that have one id the last one stays. The time is n log n in the records.
-#[tactic(auto, using(crate::proofs::Ordered::put_last, crate::proofs::Ordered::put_none))]
+#[tactic(auto, using(cv_base::proofs::Ordered::put_last, cv_base::proofs::Ordered::put_none))]
 pub fn in_id_order(alloc: Global, mut records: Vec<Advisory>) -> Result<Vec<StoredRecord>, NoMemory>
     ensures { IfOk result (λ stored. stored.items ≡ by_id records.items) }
 {

@@ -102,8 +102,6 @@ impl Stock {
 
 /// A clone is one more owner. It takes no memory, and fails only at the last value of the count of owners.
 impl Clone for Stock {
-    ghost use Rattle.std.specs.Prelude.{◌≡◌};
-
     ghost is_clone = { λ x y. y ≡ x };
 
     fn clone(&self) -> Result<Stock, AllocError> {

@@ -1,18 +1,24 @@
 -- Keys that are put in order ascend strictly, are those that were given, and none is lost but for one that the order holds
 -- equal to it.
-use Rattle.std.specs.Prelude.{◌≡◌, Bool, true, false, ◌||◌, List, [], ◌∷◌, refl}
+use Rattle.std.specs.Prelude.{◌≡◌, ℕ, ◌<◌, Bool, true, false, ◌||◌, List, [], ◌∷◌, refl}
 use Rattle.std.specs.BTreeSet.{insert_key}
 use Rattle.std.specs.Cmp.{IsTotalOrder}
 use Rattle.std.specs.List.{All, AllByRecursion, list_any}
 use Rattle.std.specs.List.Sorted.{IsStrictlySortedBy}
-use Rattle.std.specs.Ordering.{match_ordering, ordering_reverse}
+use Rattle.std.specs.Ordering.{match_ordering, nat_cmp, ordering_reverse}
 use Rattle.std.specs.declared.cmp.Ordering.{Ordering}
 use Rattle.std.specs.declared.cmp.Ordering.TheVariants.{Less, Equal, Greater}
 use Rattle.std.proofs.Common.{ap, sym, ◌∙◌}
 use Rattle.std.proofs.lemmas.List.Elements.{All-head, All-tail}
 use Rattle.std.proofs.lemmas.Map.Views.{All-insert_key}
+use Rattle.std.proofs.lemmas.Bool.{lt-ltb}
+use Rattle.cv_seq.proofs.Orders.{turned}
 use Rattle.cv_base.specs.InOrder.{in_order}
 use Rattle.cv_path.proofs.Bools.{or_swap_inner}
+
+-- of two numbers
+pub nat_less : (m n : ℕ) → m < n → nat_cmp m n ≡ Less
+nat_less m n h = rw (lt-ltb m n h) refl
 
 -- what comes after a key comes after one before it
 pub after_lower : {K A : Type 0} {cmp : K → K → Ordering} → IsTotalOrder cmp → (key : A → K) (p q : K) (xs : List A) → cmp p q ≡ Less
@@ -30,10 +36,6 @@ after_put {K} cmp p q (x ∷ xs) h k = by_order (cmp q x) (after_put cmp p q xs 
   by_order Less rest = (h, k)
   by_order Equal rest = k
   by_order Greater rest = (k.0, rest)
-
--- of two keys the one that is not after is before
-pub turned : {K : Type 0} {cmp : K → K → Ordering} → IsTotalOrder cmp → (p q : K) → cmp p q ≡ Greater → cmp q p ≡ Less
-turned o p q h = o.antisymm q p ∙ ap ordering_reverse h
 
 insert_key_sorted : {K : Type 0} {cmp : K → K → Ordering} → IsTotalOrder cmp → (qs : List K) (q : K) → IsStrictlySortedBy cmp qs → IsStrictlySortedBy cmp (insert_key cmp qs q)
 unfolding IsStrictlySortedBy

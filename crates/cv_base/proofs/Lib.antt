@@ -1,3 +1,5 @@
+pub use Rattle.cv_seq.proofs.AllItems
+pub use Rattle.cv_seq.proofs.Orders
 pub use Rattle.cv_path.proofs.Bools
 pub use Rattle.cv_path.proofs.Cuts
 pub use Rattle.cv_path.proofs.Ends
@@ -12,5 +14,7 @@ pub mod DigestLemmas
 mod Examples
 pub mod InOrder
 pub mod Lists
+pub mod Options
+pub mod Ordered
 pub mod Printing
 pub mod Results

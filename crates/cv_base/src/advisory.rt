@@ -1,3 +1,5 @@
+ghost use Rattle.std.specs.Prelude.{◌≡◌};
+
 use crate::package::PackageName;
 use cv_seq::{Seq, Text};
 use std::alloc::AllocError;
@@ -45,8 +47,6 @@ pub struct Advisory {
 }
 
 impl Clone for Range {
-    ghost use Rattle.std.specs.Prelude.{◌≡◌};
-
     ghost is_clone = { λ x y. y ≡ x };
 
     fn clone(&self) -> Result<Range, AllocError> {
@@ -58,8 +58,6 @@ impl Clone for Range {
 }
 
 impl Clone for Affected {
-    ghost use Rattle.std.specs.Prelude.{◌≡◌};
-
     ghost is_clone = { λ x y. y ≡ x };
 
     fn clone(&self) -> Result<Affected, AllocError> {

@@ -1,7 +1,7 @@
 use cv_base::{
     Advisory, Affected, BadDigest, Content, Digest, FileBad, Finding, Kind, ListEntry, Manifest,
-    Node, Package, PackageKind, PackageName, PathError, Place, Range, RangeKind, ReadBad, Reason,
-    RelPath, Row, Seq, Text, Tree, TreeEntry, Turn, What,
+    NoMemory, Node, Package, PackageKind, PackageName, PathError, Place, Range, RangeKind, ReadBad,
+    Reason, RelPath, Row, Seq, Text, Tree, TreeEntry, Turn, What,
 };
 use std::test::Fail;
 
@@ -9,33 +9,11 @@ fn is_shared<T: Send + Sync>() {}
 
 #[test]
 fn plain_data_is_shared_by_threads() {
-    is_shared::<Advisory>();
-    is_shared::<Affected>();
-    is_shared::<BadDigest>();
-    is_shared::<Content>();
-    is_shared::<Digest>();
-    is_shared::<FileBad>();
-    is_shared::<Finding>();
-    is_shared::<Kind>();
-    is_shared::<ListEntry>();
-    is_shared::<Manifest>();
-    is_shared::<Node>();
-    is_shared::<Package>();
-    is_shared::<PackageKind>();
-    is_shared::<PackageName>();
-    is_shared::<PathError>();
-    is_shared::<Place>();
-    is_shared::<Range>();
-    is_shared::<RangeKind>();
-    is_shared::<ReadBad>();
-    is_shared::<Reason>();
-    is_shared::<RelPath>();
-    is_shared::<Row>();
-    is_shared::<Seq<Text>>();
-    is_shared::<Tree>();
-    is_shared::<TreeEntry>();
-    is_shared::<Turn>();
-    is_shared::<What>();
+    is_shared::<(Advisory, Affected, BadDigest, Content, Digest)>();
+    is_shared::<(FileBad, Finding, Kind, ListEntry, Manifest, NoMemory, Node)>();
+    is_shared::<(Package, PackageKind, PackageName, PathError, Place)>();
+    is_shared::<(Range, RangeKind, ReadBad, Reason, RelPath, Row)>();
+    is_shared::<(Seq<Text>, Tree, TreeEntry, Turn, What)>();
 }
 
 #[test]

@@ -14,7 +14,7 @@ use Rattle.cv_overlay.specs.Lay.{is_plain, lay, node_at, root_from, root_of}
 use Rattle.cv_overlay.specs.Mark.{mark}
 use Rattle.cv_overlay.proofs.MergeLemmas.{ComesAfter, ascending_kept, ascending_merged, node_kept, node_merged, nothing_before}
 use Rattle.cv_scan.specs.Root.{root_entries}
-use Rattle.cv_scan.proofs.Laid.{node_root, root_ascends, same_entries}
+use Rattle.cv_scan.proofs.Laid.{node_root, root_ascends, same_entries, none_either}
 use Rattle.cv_coalesce.specs.code.Trees.{AllAscend, gathered_entries, hidden_by, is_file, is_placed_file, layer_files, root_files, tree_hides, visible_entries}
 use Rattle.cv_coalesce.proofs.OneLayer.{file_node, layer_away, one_layer}
 
@@ -53,10 +53,6 @@ layers_file root (tree ∷ trees) p h g =
     ∙ ap (λ (found : Option Node). option_or (node_at (gathered_entries trees) p) (if hidden_by trees p then None else found)) (one_layer root tree p h.0 g)
     ∙ joined (node_at (gathered_entries trees) p) (node_at (layer_files tree) p) (hidden_by trees p) (tree_hides tree p) (file_node (root p))
     ∙ ap (λ (found : Option Node). option_or found (if tree_hides tree p || hidden_by trees p then None else file_node (root p))) (sym (gathered_more tree trees p h))
-
-none_either : (b : Bool) (found : Option Node) → found ≡ None → (if b then None else found) ≡ None
-none_either true found h = refl
-none_either false found h = h
 
 pub gathered_away : (trees : List (List TreeEntry)) (p : Path) → AllAscend trees → is_place p ≡ false → node_at (gathered_entries trees) p ≡ None
 gathered_away [] p h g = refl
@@ -103,10 +99,6 @@ or_none : (found : Option Node) → option_or found None ≡ found
 or_none None = refl
 or_none (Some n) = refl
 
-none_or_none : (b : Bool) (none : Option Node) → none ≡ None → (if b then None else none) ≡ None
-none_or_none true none h = refl
-none_or_none false none h = h
-
 -- at each path the gathered files are the files at places of a root that has what the layers make of it
 pub gathered_node : (trees : List (List TreeEntry)) (es : List TreeEntry) → AllAscend trees → AreAscending es → ((p : Path) → node_at es p ≡ root_of trees p)
     → (p : Path) → node_at (gathered_entries trees) p ≡ node_at (root_files es) p
@@ -114,7 +106,7 @@ gathered_node trees es h k same p = by_place (is_place p) refl where
   by_place : (b : Bool) → is_place p ≡ b → node_at (gathered_entries trees) p ≡ node_at (root_files es) p
   by_place true g =
       sym (or_none (node_at (gathered_entries trees) p))
-      ∙ ap (option_or (node_at (gathered_entries trees) p)) (sym (none_or_none (hidden_by trees p) None refl))
+      ∙ ap (option_or (node_at (gathered_entries trees) p)) (sym (none_either (hidden_by trees p) None refl))
       ∙ sym (layers_file (λ q. None) trees p h g)
       ∙ ap file_node (sym (same p)) ∙ sym (files_place es p k g)
   by_place false g = gathered_away trees p h g ∙ sym (files_away es p g)

@@ -6,6 +6,7 @@ use Rattle.std.specs.Option.{is_some, option_or}
 use Rattle.std.specs.declared.cmp.Ordering.TheVariants.{Less, Equal}
 use Rattle.std.proofs.Common.{ap, sym, ◌∙◌, subst}
 use Rattle.std.proofs.lemmas.Cmp.{tied_itself}
+use Rattle.std.proofs.Math.Bool.{or-false}
 use Rattle.cv_base.specs.Path.{Path, is_above, parent_of, path_cmp, same_path}
 use Rattle.cv_base.specs.declared.tree.Node.{Node}
 use Rattle.cv_base.specs.declared.tree.Node.TheVariants as node
@@ -79,10 +80,6 @@ hides_more e es p =
 
 -- What one entry hides at a place: what its layer hides by it, and its own path if it is plain.
 
-here : (s : Bool) → (s || false) ≡ s
-here true = refl
-here false = refl
-
 away : (s : Bool) → (s ≡ true → false ≡ true) → false ≡ s
 away true h = h refl
 away false h = refl
@@ -120,7 +117,7 @@ one_is Plain n q p g h = by_dir (is_dir_node n) g h where
       → (list_any (λ c. at_or_above c p) (cons_option (if not dir then Some q else None) [])
       || list_any (λ d. same_path d p) (cons_option (if dir && g then Some q else None) []))
       ≡ ((not dir && is_above q p) || same_path q p)
-  by_dir true true h = here (same_path q p)
+  by_dir true true h = or-false (same_path q p)
   by_dir true false h = away (same_path q p) h
   by_dir false g h = file_there (same_path q p) (is_above q p)
 

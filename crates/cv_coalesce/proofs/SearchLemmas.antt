@@ -8,7 +8,7 @@ use Rattle.std.specs.Result.{is_ok}
 use Rattle.std.specs.declared.cmp.Ordering.{Ordering}
 use Rattle.std.specs.declared.cmp.Ordering.TheVariants.{Less, Equal, Greater}
 use Rattle.std.proofs.Common.{zero, suc, ap, sym, ◌∙◌, inl, inr, get_or, arith, subst}
-use Rattle.std.proofs.lemmas.Bool.{cases_lt}
+use Rattle.std.proofs.lemmas.Bool.{cases_lt, or_parts, both_ways}
 use Rattle.std.proofs.lemmas.Cmp.{tied_itself}
 use Rattle.std.proofs.lemmas.List.Folds.{list_any_at, list_any_none}
 use Rattle.std.proofs.lemmas.List.Sorted.{searchable_from_sorted}
@@ -111,10 +111,6 @@ least Less h = refl
 least Equal h = absurd (omega (arith, h))
 least Greater h = absurd (omega (arith, h))
 
-no_lower : (b : Bool) → b ≡ false → b ≡ true → ⊥
-no_lower true h k = cc
-no_lower false h k = cc
-
 -- an entry from the next one on is no front of the path
 later_apart : (ts : List Path) (p : Path) (i m k : ℕ) (d : Path) → IsSorted path_cmp ts → is_lower (slice_get ts i) p ≡ false → i ≤ m → m < length ts → k < length p
     → same_path (get_or ts m d) (take k p) ≡ false
@@ -125,7 +121,7 @@ later_apart ts p i m k d sorted last g l h = by_test (same_path (get_or ts m d) 
       let less : path_cmp (get_or ts m d) p ≡ Less = ap (λ (x : Path). path_cmp x p) (path_is (get_or ts m d) (take k p) e) ∙ front_less p k h in
       let ranks : ordering_index (path_cmp (get_or ts i d) p) ≤ ordering_index (path_cmp (get_or ts m d) p) = searchable_from_sorted path_total (λ (t : Path). t) ts p sorted i m d g l in
       let rank : ordering_index (path_cmp (get_or ts i d) p) ≤ 0 = subst (λ (o : Ordering). ordering_index (path_cmp (get_or ts i d) p) ≤ ordering_index o) less ranks in
-      absurd (no_lower (is_lower (slice_get ts i) p) last (ap (λ (t : Option Path). is_lower t p) (got ts i d (omega (arith, g, l))) ∙ least (path_cmp (get_or ts i d) p) rank))
+      absurd (both_ways (is_lower (slice_get ts i) p) last (ap (λ (t : Option Path). is_lower t p) (got ts i d (omega (arith, g, l))) ∙ least (path_cmp (get_or ts i d) p) rank))
 
 pub last_front : (ts : List Path) (p : Path) (depth i : ℕ) → IsSorted path_cmp ts → IsBinarySearchResult (λ t. path_cmp t (take depth p)) ts (Err i)
     → is_lower (slice_get ts i) p ≡ false → (k : ℕ) → depth ≤ k → k < length p → has_front ts p k ≡ false
@@ -153,29 +149,17 @@ weaker f g (t ∷ ts) h e = by_test (f t) refl e (weaker f g ts h) where
 pub some_front : (ts : List Path) (p : Path) (k : ℕ) → k < length p → list_any (λ t. same_path t (take k p)) ts ≡ true → list_any (λ t. is_above t p) ts ≡ true
 some_front ts p k h e = weaker (λ t. same_path t (take k p)) (λ t. is_above t p) ts (λ t f. front_above t p k h f) e
 
-false_true : (b : Bool) → b ≡ true → b ≡ false → ⊥
-false_true true h k = cc
-false_true false h k = cc
-
-or_left : (a b : Bool) → (a || b) ≡ false → a ≡ false
-or_left true b h = cc
-or_left false b h = refl
-
-or_right : (a b : Bool) → (a || b) ≡ false → b ≡ false
-or_right true b h = cc
-or_right false b h = h
-
 -- no front is
 pub no_front : (ts : List Path) (p : Path) → ((k : ℕ) → k < length p → list_any (λ t. same_path t (take k p)) ts ≡ false) → list_any (λ t. is_above t p) ts ≡ false
 no_front [] p h = refl
 no_front (t ∷ ts) p h =
     by_test (is_above t p) refl
-    (no_front ts p (λ k l. or_right (same_path t (take k p)) (list_any (λ t. same_path t (take k p)) ts) (h k l))) where
+    (no_front ts p (λ k l. (or_parts (same_path t (take k p)) (list_any (λ t. same_path t (take k p)) ts) (h k l)).1)) where
       by_test : (b : Bool) → is_above t p ≡ b → list_any (λ t. is_above t p) ts ≡ false → (b || list_any (λ t. is_above t p) ts) ≡ false
       by_test true e rest =
           let front = above_front t p e in
-          absurd (false_true (same_path t (take (length t) p)) front.1
-          (or_left (same_path t (take (length t) p)) (list_any (λ u. same_path u (take (length t) p)) ts) (h (length t) front.0)))
+          absurd (both_ways (same_path t (take (length t) p))
+          (or_parts (same_path t (take (length t) p)) (list_any (λ u. same_path u (take (length t) p)) ts) (h (length t) front.0)).0 front.1)
       by_test false e rest = rest
 
 either : (ts : List Path) (p : Path) → (list_any (λ t. same_path t p) ts || list_any (λ t. is_above t p) ts) ≡ list_any (λ t. at_or_above t p) ts

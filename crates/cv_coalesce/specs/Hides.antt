@@ -1,6 +1,6 @@
 -- What a layer hides of the layers below it, by its reduction, after the OCI image specification 1.1, layer.md, "Whiteouts" and
 -- "Applying Changesets": a whiteout hides its target and all below it, an opaque mark all below its directory, and what a layer
--- has at a path takes the place of what was there, with all below it where it is no directory. Defined by this project: only the
+-- has at a path takes the place of what was there, with all below it if it is not a directory. Defined by this project: only the
 -- places of package files count.
 use Rattle.std.specs.Prelude.{Bool, ◌||◌, List}
 use Rattle.std.specs.List.{list_any}

@@ -10,7 +10,7 @@ use std::process::ExitCode;
 pub enum Status {
     /// All was printed: the findings, also if there are none, the transcript, the summary of one, or how two versions compare.
     Done,
-    /// The arguments are not a command; the usage line was printed.
+    /// The arguments are not a command, or ask for more workers than there are desks; the usage line was printed.
     Usage,
     /// Reading the input failed. A scan printed nothing.
     ReadFault,
@@ -22,7 +22,8 @@ pub enum Status {
     LineTooLong,
     /// The input has 2^36 bytes or more. A scan printed nothing, and none of its lines before that is refused.
     InputTooLong,
-    /// A line of a scan's input or the image was refused, or a text is not a valid version; the line that says so was printed.
+    /// A scan's input has no line, one of its lines or the image was refused, or a text is not a valid version; the line that says
+    /// so was printed.
     Refused,
     /// A `desk_fault` line of a scan was printed.
     DeskFault,
@@ -46,17 +47,17 @@ impl Status {
         }
     }
 
-    /// What the program ends with.
+    /// The exit code of the program.
     pub fn exit_code(self) -> ExitCode
         ensures { exit_status result ≡ status_code self }
     {
         ExitCode::from(self.code())
     }
 
-    /// What the program ends with, if a command ended so; or as for out of memory, if none could be started.
+    /// The exit code of a program whose command ended with this status, or that of out of memory if no command could be started.
     pub fn exit_code_of<E: Drop>(ended: Result<Status, E>) -> ExitCode
         ensures ended { IfOk ended (λ status. exit_status result ≡ status_code status) }
-        ensures not_started { IfErr ended (λ error. exit_status result ≡ 5) }
+        ensures not_started { IfErr ended (λ error. exit_status result ≡ status_code Status.NoMemory) }
     {
         ended.unwrap_or(Status::NoMemory).exit_code()
     }

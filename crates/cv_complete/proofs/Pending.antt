@@ -2,7 +2,7 @@
 use Rattle.std.specs.Prelude.{◌≡◌, ℕ, ◌≤◌, ◌⊎◌, Bool, true, false, ◌||◌, cond, not, List, [], ◌∷◌, ◌++◌, find, Option, Some, None, Result, Ok, Err, option_map, refl}
 use Rattle.std.specs.List.{cons_option, flat_map, list_any}
 use Rattle.std.proofs.Common.{ap, arith, inl, inr, subst, sym, ◌∙◌}
-use Rattle.std.proofs.lemmas.Bool.{or_parts}
+use Rattle.std.proofs.lemmas.Bool.{or_parts, not-true}
 use Rattle.std.proofs.lemmas.List.Folds.{list_any-append}
 use Rattle.std.proofs.lemmas.List.Concat.{flat_map-cons}
 use Rattle.std.proofs.lemmas.Option.{same_Some}
@@ -114,10 +114,6 @@ find_has test (first ∷ xs) x is = by_test (test first) refl (find_has test xs 
       (ap (λ k. test k) (sym one) ∙ passes, ap (λ b. b || has_text xs x) (ap (λ k. same first k) (sym one) ∙ same_self first))
   by_test false fails rest is = ((rest is).0, later (same first x) (rest is).1)
 
-not_true : (b : Bool) → not b ≡ true → b ≡ false
-not_true true h = absurd (cc h)
-not_true false h = refl
-
 pending_at : (trees : Trees) (state : State) (image layer : List ℕ) → report_of trees state image ≡ report.Pending layer → IsPending state image layer
 pending_at trees state image layer says = by_found (value_at state.images image) refl says where
   by_pending : (layers : List (List ℕ)) → value_at state.images image ≡ Some layers → (found : Option (List ℕ)) (scanned : Scanned)
@@ -125,7 +121,7 @@ pending_at trees state image layer says = by_found (value_at state.images image)
   by_pending layers registered (Some first) scanned is says =
       let one : first ≡ layer = cc says in
       let both = find_has (λ k. not (is_indexed_as (value_at state.layers k))) layers layer (is ∙ ap (λ k. Some k) one) in
-      record { layers = layers; registered = registered; has = both.1; pending = not_true (is_indexed_as (value_at state.layers layer)) both.0 }
+      record { layers = layers; registered = registered; has = both.1; pending = not-true (is_indexed_as (value_at state.layers layer)) both.0 }
   by_pending layers registered None (Ok findings) is says = absurd (cc says)
   by_pending layers registered None (Err bad) is says = absurd (cc says)
 

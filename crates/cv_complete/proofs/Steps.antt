@@ -1,9 +1,6 @@
 -- What an event leaves of an image that is registered before and after it, and of the layers of that image.
 use Rattle.std.specs.Prelude.{◌≡◌, ℕ, ◌≤◌, Bool, true, false, ◌||◌, cond, nat_lt, List, length, Option, Some, None, refl}
 use Rattle.std.specs.BTreeMap.{is_at}
-use Rattle.std.specs.Cmp.Lexicographic.{nat_list_cmp_total, texts_ties}
-use Rattle.std.specs.List.Sorted.{IsStrictlySortedBy}
-use Rattle.std.specs.Map.{keys_of}
 use Rattle.std.specs.Option.{is_some, option_or}
 use Rattle.std.proofs.Common.{ap, arith, subst, sym, ◌∙◌}
 use Rattle.cv_base.specs.Texts.{has_text, same}
@@ -28,17 +25,11 @@ use Rattle.cv_machine.specs.declared.act.WholeAct.TheVariants as act
 use Rattle.cv_machine.specs.declared.status.Status.{Status}
 use Rattle.cv_machine.specs.declared.status.Status.TheVariants as status
 use Rattle.cv_machine.proofs.Consistent.{either}
-use Rattle.cv_machine.proofs.Entries.{any_cut, lookup_cut}
-use Rattle.cv_machine.proofs.LayerTables.{entered_found, remaining_found, staying, value_put}
+use Rattle.cv_machine.proofs.Entries.{any_cut}
+use Rattle.cv_machine.proofs.LayerTables.{entered_found, remaining_found, staying, value_put, value_cut}
 use Rattle.cv_complete.specs.Complete.{gives_back, registers_by}
 
 -- ---- tables
-
--- what is found with one value less
-pub value_cut : {V : Type 0} (entries : List (List ℕ × V)) (key q : List ℕ) → IsStrictlySortedBy text_cmp (keys_of entries)
-    → value_at (without_value entries key) q ≡ cond (same key q) None (value_at entries q)
-value_cut entries key q sorted =
-    lookup_cut nat_list_cmp_total entries key q sorted ∙ ap (λ b. cond b None (value_at entries q)) (sym (texts_ties key q))
 
 -- a registered image names its layers
 pub image_names : (images : Images) (image : List ℕ) (layers : List (List ℕ)) (layer : List ℕ) → value_at images image ≡ Some layers

@@ -31,12 +31,12 @@ use Rattle.cv_machine.specs.declared.act.WholeAct.TheVariants as act
 use Rattle.cv_machine.specs.declared.status.Status.{Status}
 use Rattle.cv_machine.specs.declared.status.Status.TheVariants as status
 use Rattle.cv_machine.proofs.Consistent.{either, step_consistent}
-use Rattle.cv_machine.proofs.LayerTables.{entered_found, remaining_found, staying, stays, value_put}
+use Rattle.cv_machine.proofs.LayerTables.{entered_found, remaining_found, staying, stays, value_put, value_cut}
 use Rattle.cv_legal.specs.Parts.{event_by, events_by}
 use Rattle.cv_legal.specs.Replay.{IsEvent, Moment, Replays, event_of, moment_after, requested_at, submitted, worker_event}
 use Rattle.cv_legal.specs.Turns.{FitsWork, Works, work_after}
 use Rattle.cv_legal.specs.declared.taken.Requested.{Requested}
-use Rattle.cv_complete.proofs.Steps.{ack_leaves, update_leaves, value_cut}
+use Rattle.cv_complete.proofs.Steps.{ack_leaves, update_leaves}
 
 -- no layer is Claimed
 abbrev pub NoneClaimed : Layers → Type 0

@@ -5,6 +5,7 @@ use Rattle.std.proofs.Common.{ap, arith, inl, inr, length-append, subst, sym, �
 use Rattle.std.proofs.lemmas.Bool.{ne_eqb}
 use Rattle.std.proofs.lemmas.Bool.Decides.{eqb_tells}
 use Rattle.std.proofs.lemmas.List.{append-nil}
+use Rattle.cv_base.proofs.AllItems.{all_kept}
 use Rattle.cv_request.specs.Limits.{IsWithinLimits}
 use Rattle.cv_request.specs.declared.error.RequestError.{RequestError}
 use Rattle.cv_request.specs.declared.request.Request.{Request}
@@ -88,13 +89,6 @@ lane_of_others lane other (r ∷ rs) h =
         ∙ ap (λ b. first_if b (lane_requests other rs)) (sym (ne_eqb r.request.lane other (λ e. omega (arith, e, same.1, h))))
     by_test (inr apart) later =
         ap (λ b. lane_requests other (first_if (not b) rest)) apart.0 ∙ ap (first_if (r.request.lane == other)) later
-
-pub all_kept : {A : Type 0} (P : A → Type 0) (f : A → Bool) (xs : List A) → AllByRecursion P xs → AllByRecursion P (filter f xs)
-all_kept P f [] h = tt
-all_kept {A} P f (x ∷ xs) h = by_test (f x) (all_kept P f xs h.1) where
-  by_test : (b : Bool) → AllByRecursion P (filter f xs) → AllByRecursion P (cond b (x ∷ filter f xs) (filter f xs))
-  by_test true later = (h.0, later)
-  by_test false later = later
 
 -- ---- lanes that were dealt
 

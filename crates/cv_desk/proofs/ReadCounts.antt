@@ -1,5 +1,5 @@
 -- How many reads a load makes.
-use Rattle.std.proofs.Common.{◌≡◌, ℕ, zero, suc, ◌+◌, ◌-◌, ◌^◌, ◌==◌, ◌≤◌, Bool, true, false, ◌&&◌, ◌||◌, not, cond, min, List, [], ◌∷◌, ◌++◌, map, Option, Some, None, is_none, refl, sym, ◌∙◌, ap, arith}
+use Rattle.std.proofs.Common.{◌≡◌, ℕ, zero, suc, ◌+◌, ◌-◌, ◌^◌, ◌≤◌, Bool, true, false, ◌&&◌, ◌||◌, not, cond, min, List, [], ◌∷◌, ◌++◌, map, Option, Some, None, is_none, refl, sym, ◌∙◌, ap, arith}
 use Rattle.std.specs.Prelude.{IfOk, IfSome, OnOk, Result, Ok, Err}
 use Rattle.std.specs.Option.{option_map}
 use Rattle.std.specs.List.{count_by}
@@ -21,7 +21,7 @@ use Rattle.cv_desk.specs.Stored.{Item, Dir, File, Other, Stored, listed}
 use Rattle.cv_desk.specs.code.Listed.{FitsFound, FitsReads, IsAnswer, files_to_read, is_file_kind, is_to_read}
 
 -- one item more at the front
-count_by-cons : {X : Type 0} (p : X → Bool) (x : X) (xs : List X) → count_by p (x ∷ xs) ≡ cond (p x) 1 0 + count_by p xs
+pub count_by-cons : {X : Type 0} (p : X → Bool) (x : X) (xs : List X) → count_by p (x ∷ xs) ≡ cond (p x) 1 0 + count_by p xs
 count_by-cons p x xs = sum_by-cons (λ y. cond (p y) 1 0) x xs
 
 -- one item more at the end
@@ -35,7 +35,7 @@ count_by-snoc {X} p xs x =
 min_twice : (count some more most : ℕ) → min (min (count + suc some) most + suc more) most ≡ min (count + suc (some + suc more)) most
 min_twice count some more most = omega arith
 
-count_after-more : (count some more : ℕ) → count_after (count_after count some) more ≡ count_after count (some + more)
+pub count_after-more : (count some more : ℕ) → count_after (count_after count some) more ≡ count_after count (some + more)
 count_after-more count some zero = let e : some ≡ some + 0 = omega arith in ap (count_after count) e
 count_after-more count zero (suc more) = let e : suc more ≡ 0 + suc more = omega arith in ap (count_after count) e
 count_after-more count (suc some) (suc more) =

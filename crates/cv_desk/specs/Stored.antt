@@ -1,8 +1,8 @@
 -- A layer as it is stored: a list of paths, each with a directory, a file with its bytes, or something else
 -- (after the OCI image specification 1.1, layer.md; a link or a special file is "something else", defined by this project).
-use Rattle.std.specs.Prelude.{◌≡◌, ℕ, Bool, true, ◌&&◌, not, nat_lt, if◌then◌else◌, List, [], ◌∷◌, length, Option, Some, None}
-use Rattle.std.specs.List.{list_any}
-use Rattle.cv_base.specs.Path.{Path, same_path}
+use Rattle.std.specs.Prelude.{◌≡◌, ℕ, Bool, true, ◌&&◌, not, nat_lt, if◌then◌else◌, List, [], ◌∷◌, length, Option, Some, None, Ok}
+use Rattle.std.specs.List.{AllByRecursion, list_any}
+use Rattle.cv_base.specs.Path.{Path, path_of, same_path}
 use Rattle.cv_base.specs.declared.tree.Kind.{Kind}
 use Rattle.cv_base.specs.declared.tree.Kind.TheVariants as kind
 use Rattle.cv_base.specs.declared.tree.ListEntry.{ListEntry}
@@ -63,3 +63,13 @@ abbrev pub IsDistinctIn : Option (Option (List Stored)) → Type 0
 IsDistinctIn None = Unit {0}
 IsDistinctIn (Some None) = Unit {0}
 IsDistinctIn (Some (Some entries)) = is_distinct entries ≡ true
+
+-- a path is read from some text
+abbrev pub IsRead : Path → Type 0
+IsRead path = (text : List ℕ) × (path_of text ≡ Ok path)
+
+-- the path of each entry is read from some text
+abbrev pub ArePathsIn : Option (Option (List Stored)) → Type 0
+ArePathsIn None = Unit {0}
+ArePathsIn (Some None) = Unit {0}
+ArePathsIn (Some (Some entries)) = AllByRecursion (λ (e : Stored). IsRead e.path) entries

@@ -2,7 +2,8 @@ ghost use Rattle.std.specs.Prelude.{◌≡◌, ℕ, ◌+◌, ◌^◌, ◌<◌, L
 ghost use Rattle.std.specs.Option.{option_map};
 ghost use Rattle.cv_seq.specs.Cause.{CausedBy, next_count};
 ghost use Rattle.cv_desk.specs.Fault.{is_failed};
-ghost use Rattle.cv_desk.specs.Stored.{IsDistinctIn, Stored, file_read, item_in, listed};
+ghost use Rattle.cv_desk.specs.Stored.{ArePathsIn, IsDistinctIn, Stored, file_read, item_in, listed};
+ghost use Rattle.cv_desk.specs.declared.desk.DeskFault.TheVariants as desk;
 
 use cv_base::{Digest, ListEntry, RelPath};
 use cv_seq::{NoMemory, Seq};
@@ -18,23 +19,23 @@ pub enum DeskFault {
     NoMemory,
 }
 
-impl From<NoMemory> for DeskFault {
-    ghost use Rattle.std.specs.Prelude.{◌≡◌};
-    ghost use Rattle.cv_desk.specs.declared.desk.DeskFault.TheVariants as desk;
-
-    ghost from_gives = { λ _ e. e ≡ desk.NoMemory };
-
-    fn from(_error: NoMemory) -> DeskFault {
-        DeskFault::NoMemory
-    }
-}
-
 /// What a read gives: the bytes of a file, or why there are none.
 #[derive(Clone, Debug, PartialEq, Eq, Drop)]
 pub enum FileRead {
     Bytes(Seq<u8>),
     TooLarge,
     NotFile,
+}
+
+/// The answer to a read, or why the desk gave none.
+pub type ReadResult = Result<FileRead, DeskFault>;
+
+impl From<NoMemory> for DeskFault {
+    ghost from_gives = { λ _ e. e ≡ desk.NoMemory };
+
+    fn from(_error: NoMemory) -> DeskFault {
+        DeskFault::NoMemory
+    }
 }
 
 /// Where layers are kept. A desk's type names the tree of each digest that has a layer, if the trees are known. A desk counts
@@ -63,13 +64,7 @@ pub trait Desk {
 
     /// Reads a file of a layer: its bytes, if there are at most `limit` of them, and else `TooLarge`. A path at which there
     /// is no file is `NotFile`. `Failed` says that the storage failed, which is counted.
-    fn read(
-        &mut self,
-        alloc: Global,
-        layer: &Digest,
-        path: &RelPath,
-        limit: u32,
-    ) -> Result<FileRead, DeskFault>
+    fn read(&mut self, alloc: Global, layer: &Digest, path: &RelPath, limit: u32) -> ReadResult
         ensures file { IfSome (tree layer.now) (λ t. IfOk result (λ found. found ≡ file_read (item_in t path.now) limit)) }
         ensures cause { CausedBy (faults self.old) (faults self.new) (is_failed result) }
         ensures same { listings self.new ≡ listings self.old }
@@ -77,4 +72,7 @@ pub trait Desk {
 
     /// No path stands twice in a tree.
     ghost distinct: { (digest : List ℕ) → IsDistinctIn (tree digest) };
+
+    /// Each path in a tree is read from some text.
+    ghost paths: { (digest : List ℕ) → ArePathsIn (tree digest) };
 }

@@ -10,6 +10,6 @@ mod desk;
 mod loading;
 mod table;
 
-pub use desk::{Desk, DeskFault, FileRead};
+pub use desk::{Desk, DeskFault, FileRead, ReadResult};
 pub use loading::load;
 pub use table::{Table, TableDesk, TableEntry};

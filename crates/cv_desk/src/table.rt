@@ -7,7 +7,7 @@ ghost use Rattle.cv_desk.specs.Table.{is_path, item_of, tree_of_rows};
 ghost use Rattle.cv_desk.specs.code.TableRow.{row_of, stored_of};
 ghost use Rattle.cv_desk.specs.code.TableSteps.{HasPaths, first_at, with_entry, with_row};
 
-use crate::desk::{Desk, DeskFault, FileRead};
+use crate::desk::{Desk, DeskFault, FileRead, ReadResult};
 use cv_base::{Digest, Kind, ListEntry, PathError, RelPath};
 use cv_seq::{NoMemory, Seq};
 use std::alloc::Global;
@@ -20,6 +20,25 @@ pub struct TableEntry {
     pub path: &'static str,
     pub kind: Kind,
     pub bytes: &'static [u8],
+}
+
+/// A row of a table: a folder by its path, a file by its path and bytes, or an entry of a named kind. The caller imports
+/// `cv_base::Kind`.
+#[macro_export]
+macro_rules! entry {
+    ($path:expr) => {
+        $crate::entry!($path, Dir, b"")
+    };
+    ($path:expr, $bytes:expr) => {
+        $crate::entry!($path, File, $bytes)
+    };
+    ($path:expr, $kind:ident, $bytes:expr) => {
+        $crate::TableEntry {
+            path: $path,
+            kind: Kind::$kind,
+            bytes: $bytes,
+        }
+    };
 }
 
 /// A fixed table of layers. Its rows are given once more as plain data, and the clause says that both are equal.
@@ -59,7 +78,7 @@ impl<T: Table> Desk for TableDesk<T> {
     ghost use Rattle.std.specs.Prelude.{Some};
     ghost use Rattle.std.specs.Option.{option_map};
     ghost use Rattle.cv_desk.specs.Table.{tree_of_rows};
-    ghost use Rattle.cv_desk.specs.code.TableLaws.{table_distinct};
+    ghost use Rattle.cv_desk.specs.code.TableLaws.{table_distinct, table_paths};
 
     ghost tree = { λ d. Some (option_map tree_of_rows (T.rows d)) };
 
@@ -71,6 +90,8 @@ impl<T: Table> Desk for TableDesk<T> {
 
     ghost distinct = { λ d. table_distinct (T.rows d) };
 
+    ghost paths = { λ d. table_paths (T.rows d) };
+
     fn list(&mut self, alloc: Global, layer: &Digest) -> Result<Option<Seq<ListEntry>>, DeskFault> {
         self.listings += 1;
         match T::layer(layer) {
@@ -79,13 +100,7 @@ impl<T: Table> Desk for TableDesk<T> {
         }
     }
 
-    fn read(
-        &mut self,
-        alloc: Global,
-        layer: &Digest,
-        path: &RelPath,
-        limit: u32,
-    ) -> Result<FileRead, DeskFault> {
+    fn read(&mut self, alloc: Global, layer: &Digest, path: &RelPath, limit: u32) -> ReadResult {
         self.reads = self.reads.saturating_add(1);
         match T::layer(layer) {
             None => Ok(FileRead::NotFile),

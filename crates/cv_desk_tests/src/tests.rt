@@ -2,7 +2,7 @@ ghost use Rattle.std.specs.Prelude.{◌≡◌};
 ghost use Rattle.cv_desk_tests.specs.Sample.{sample_rows};
 
 use cv_base::{Digest, Kind, ListEntry, RelPath};
-use cv_desk::{Desk, DeskFault, FileRead, Table, TableDesk, TableEntry};
+use cv_desk::{Desk, DeskFault, FileRead, Table, TableDesk, TableEntry, entry};
 use cv_desk_wrappers::{Faulty, GateDesk};
 use cv_drill_desk::GenDesk;
 use cv_folder_desk::FolderDesk;
@@ -10,16 +10,6 @@ use cv_seq::Seq;
 use std::alloc::Global;
 use std::str;
 use std::test::Fail;
-
-macro_rules! entry {
-    ($path:literal, $kind:ident, $bytes:literal) => {
-        TableEntry {
-            path: $path,
-            kind: Kind::$kind,
-            bytes: $bytes,
-        }
-    };
-}
 
 static ROWS: [TableEntry; 5] = [
     entry!("etc", Dir, b""),
@@ -121,13 +111,9 @@ fn is_shared<T: Send + Sync>() {}
 
 #[test]
 fn threads_may_share_desks() {
-    is_shared::<TableDesk<Sample>>();
-    is_shared::<Faulty<TableDesk<Sample>>>();
-    is_shared::<FolderDesk<HostRuntime>>();
-    is_shared::<GateDesk<TableDesk<Sample>>>();
-    is_shared::<GenDesk>();
-    is_shared::<DeskFault>();
-    is_shared::<FileRead>();
+    is_shared::<(TableDesk<Sample>, Faulty<TableDesk<Sample>>)>();
+    is_shared::<(FolderDesk<HostRuntime>, GateDesk<TableDesk<Sample>>)>();
+    is_shared::<(GenDesk, DeskFault, FileRead)>();
 }
 
 #[test]

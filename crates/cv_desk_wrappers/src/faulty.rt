@@ -6,7 +6,7 @@ ghost use Rattle.cv_desk.specs.Fault.{is_failed};
 ghost use Rattle.cv_desk.specs.Stored.{file_read, item_in, listed};
 
 use cv_base::{Digest, ListEntry, RelPath};
-use cv_desk::{Desk, DeskFault, FileRead};
+use cv_desk::{Desk, DeskFault, ReadResult};
 use cv_seq::Seq;
 use std::alloc::Global;
 use std::marker::Model;
@@ -81,6 +81,8 @@ impl<D: Desk> Desk for Faulty<D> {
 
     ghost distinct = { D.distinct };
 
+    ghost paths = { D.paths };
+
     fn list(&mut self, alloc: Global, layer: &Digest) -> Result<Option<Seq<ListEntry>>, DeskFault>
         requires room { self.old.listings < 2 ^ 63 + 2 ^ 62 }
         ensures entries { IfSome (D.tree layer.now) (λ t. IfOk result (λ found. found ≡ option_map (map listed) t)) }
@@ -101,13 +103,7 @@ impl<D: Desk> Desk for Faulty<D> {
         self.desk.list(alloc, layer)
     }
 
-    fn read(
-        &mut self,
-        alloc: Global,
-        layer: &Digest,
-        path: &RelPath,
-        limit: u32,
-    ) -> Result<FileRead, DeskFault>
+    fn read(&mut self, alloc: Global, layer: &Digest, path: &RelPath, limit: u32) -> ReadResult
         ensures file { IfSome (D.tree layer.now) (λ t. IfOk result (λ found. found ≡ file_read (item_in t path.now) limit)) }
         ensures cause { CausedBy (self.old.faults + D.faults self.old.desk) (self.new.faults + D.faults self.new.desk) (is_failed result) }
         ensures same { self.new.listings ≡ self.old.listings }

@@ -6,7 +6,7 @@ ghost use Rattle.cv_desk_wrappers.specs.Gate.{Gated, gated, has_passed};
 ghost use Rattle.cv_desk.specs.Stored.{file_read, item_in, listed};
 
 use cv_base::{Digest, ListEntry, RelPath};
-use cv_desk::{Desk, DeskFault, FileRead};
+use cv_desk::{Desk, DeskFault, ReadResult};
 use cv_seq::{NoMemory, Seq};
 use std::alloc::Global;
 use std::marker::Model;
@@ -113,6 +113,8 @@ impl<D: Desk> Desk for GateDesk<D> {
 
     ghost distinct = { D.distinct };
 
+    ghost paths = { D.paths };
+
     fn list(&mut self, alloc: Global, layer: &Digest) -> Result<Option<Seq<ListEntry>>, DeskFault>
         requires room { self.old.listings < 2 ^ 63 + 2 ^ 62 }
         ensures entries { IfSome (D.tree layer.now) (λ t. IfOk result (λ found. found ≡ option_map (map listed) t)) }
@@ -131,13 +133,7 @@ impl<D: Desk> Desk for GateDesk<D> {
         self.desk.list(alloc, layer)
     }
 
-    fn read(
-        &mut self,
-        alloc: Global,
-        layer: &Digest,
-        path: &RelPath,
-        limit: u32,
-    ) -> Result<FileRead, DeskFault>
+    fn read(&mut self, alloc: Global, layer: &Digest, path: &RelPath, limit: u32) -> ReadResult
         ensures file { IfSome (D.tree layer.now) (λ t. IfOk result (λ found. found ≡ file_read (item_in t path.now) limit)) }
         ensures cause { CausedBy (D.faults self.old.desk) (D.faults self.new.desk) (is_failed result) }
         ensures same { self.new.listings ≡ self.old.listings }

@@ -1,15 +1,9 @@
 -- A value without a number has none with a point.
-use Rattle.std.proofs.Common.{◌≡◌, Bool, true, false, refl}
-use Rattle.std.specs.Prelude.{◌||◌}
+use Rattle.std.proofs.Common.{◌≡◌, true, false, refl}
 use Rattle.serde_json.specs.Data.{Data, Items, Members, null, boolean, number, string, array, object, no_items, item, no_members, member}
 use Rattle.serde_json.specs.Written.{has_float, items_have_float, members_have_float}
-use Rattle.std.proofs.lemmas.Bool.{true≢false}
+use Rattle.std.proofs.lemmas.Bool.{true≢false, or_parts}
 use Rattle.cv_drill.specs.Transcript.{has_number, items_have_number, members_have_number}
-
--- neither of two tests holds
-neither : (a b : Bool) → (a || b) ≡ false → (a ≡ false) × (b ≡ false)
-neither true b h = absurd (true≢false h)
-neither false b h = (refl, h)
 
 mutual
   pub no_float : (value : Data) → has_number value ≡ false → has_float value ≡ false
@@ -22,8 +16,8 @@ mutual
 
   items_no_float : (more : Items) → items_have_number more ≡ false → items_have_float more ≡ false
   items_no_float no_items h = refl
-  items_no_float (item value more) h = let p = neither (has_number value) (items_have_number more) h in rw (no_float value p.0) (items_no_float more p.1)
+  items_no_float (item value more) h = let p = or_parts (has_number value) (items_have_number more) h in rw (no_float value p.0) (items_no_float more p.1)
 
   members_no_float : (more : Members) → members_have_number more ≡ false → members_have_float more ≡ false
   members_no_float no_members h = refl
-  members_no_float (member key value more) h = let p = neither (has_number value) (members_have_number more) h in rw (no_float value p.0) (members_no_float more p.1)
+  members_no_float (member key value more) h = let p = or_parts (has_number value) (members_have_number more) h in rw (no_float value p.0) (members_no_float more p.1)

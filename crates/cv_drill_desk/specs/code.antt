@@ -1,3 +1,4 @@
 pub mod GeneratedDistinct
 pub mod GeneratedEntry
 pub mod GeneratedLaws
+pub mod GeneratedPaths

@@ -7,7 +7,7 @@ ghost use Rattle.cv_desk.specs.Stored.{Stored, file_read, item_at, item_in, list
 ghost use Rattle.cv_drill_desk.specs.code.GeneratedEntry.{item_of_text, made};
 
 use cv_base::{Digest, Kind, ListEntry, PathError, RelPath};
-use cv_desk::{Desk, DeskFault, FileRead};
+use cv_desk::{Desk, DeskFault, FileRead, ReadResult};
 use cv_seq::{NoMemory, Seq};
 use std::alloc::Global;
 
@@ -47,6 +47,7 @@ impl Desk for GenDesk {
     ghost use Rattle.std.specs.Prelude.{Some};
     ghost use Rattle.cv_drill_desk.specs.Generated.{generated};
     ghost use Rattle.cv_drill_desk.specs.code.GeneratedDistinct.{generated_distinct};
+    ghost use Rattle.cv_drill_desk.specs.code.GeneratedPaths.{generated_paths};
 
     ghost tree = { λ d. Some (generated d) };
 
@@ -58,6 +59,8 @@ impl Desk for GenDesk {
 
     ghost distinct = { generated_distinct };
 
+    ghost paths = { generated_paths };
+
     fn list(&mut self, alloc: Global, layer: &Digest) -> Result<Option<Seq<ListEntry>>, DeskFault> {
         self.listings += 1;
         match layer_of(alloc, layer)? {
@@ -66,13 +69,7 @@ impl Desk for GenDesk {
         }
     }
 
-    fn read(
-        &mut self,
-        alloc: Global,
-        layer: &Digest,
-        path: &RelPath,
-        limit: u32,
-    ) -> Result<FileRead, DeskFault> {
+    fn read(&mut self, alloc: Global, layer: &Digest, path: &RelPath, limit: u32) -> ReadResult {
         self.reads = self.reads.saturating_add(1);
         match layer_of(alloc, layer)? {
             None => Ok(FileRead::NotFile),

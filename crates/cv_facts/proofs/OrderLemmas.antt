@@ -22,6 +22,7 @@ use Rattle.cv_overlay.specs.Fault.{fault, list_fault}
 use Rattle.cv_overlay.specs.Lay.{is_plain}
 use Rattle.cv_overlay.specs.Mark.{Outline, is_dir_kind, is_dir_node, listed, mark_of, outline}
 use Rattle.cv_overlay.proofs.MergeLemmas.{good_ascends}
+use Rattle.cv_overlay.proofs.SearchLemmas.{turned_less}
 use Rattle.cv_package_files.specs.declared.found.FileFound.{FileFound}
 use Rattle.cv_facts.specs.Cover.{cover_by, covers, is_place, place_dir_by, place_dirs}
 use Rattle.cv_facts.specs.Order.{AreAscending}
@@ -35,9 +36,6 @@ Ascend [] = Unit {0}
 Ascend (p ∷ ps) = AllByRecursion (ComesAfter p) ps × Ascend ps
 
 -- Paths that strictly ascend are sorted.
-
-turned_less : (p q : Path) → path_cmp p q ≡ Less → is_lt (path_cmp q p) ≡ false
-turned_less p q h = rw (path_total.antisymm q p, h) refl
 
 all_at : (p : Path) (qs : List Path) → AllByRecursion (ComesAfter p) qs → (k : ℕ) (d : Path) → k < length qs → path_cmp p (get_or qs k d) ≡ Less
 all_at p [] h k d l = absurd (omega (arith, l))

@@ -1,11 +1,10 @@
 -- How often files are read when a layer is indexed.
-use Rattle.std.proofs.Common.{◌≡◌, ℕ, zero, suc, ◌+◌, ◌-◌, ◌^◌, ◌<◌, ◌≤◌, Bool, true, false, ◌&&◌, not, cond, min, List, [], ◌∷◌, drop, get_or, length, map, Option, Some, None, refl, sym, ◌∙◌, ap, arith}
+use Rattle.std.proofs.Common.{◌≡◌, ℕ, ◌+◌, ◌<◌, ◌≤◌, Bool, true, false, ◌&&◌, not, cond, List, [], ◌∷◌, drop, get_or, length, map, Option, Some, None, refl, sym, ◌∙◌, ap, arith}
 use Rattle.std.specs.Prelude.{IfOk, IfSome, OnOk, Result, Ok, Err, if◌then◌else◌}
 use Rattle.std.specs.List.{cons_option, count_by}
 use Rattle.std.specs.Option.{is_some, option_map}
 use Rattle.std.proofs.lemmas.Bool.{false≢true}
 use Rattle.std.proofs.lemmas.List.{drop_all, drop_more}
-use Rattle.std.proofs.lemmas.List.Sums.{sum_by-cons}
 use Rattle.cv_base.specs.Path.{Path}
 use Rattle.cv_base.specs.Place.{place_of}
 use Rattle.cv_path.specs.declared.places.Place.{Place}
@@ -14,6 +13,7 @@ use Rattle.cv_base.specs.declared.tree.Kind.{Kind}
 use Rattle.cv_base.specs.declared.tree.Kind.TheVariants as kind
 use Rattle.cv_base.specs.declared.tree.ListEntry.{ListEntry}
 use Rattle.cv_base.specs.declared.tree.Node.TheVariants as node
+use Rattle.cv_desk.proofs.ReadCounts.{count_after-more, count_by-cons}
 use Rattle.cv_desk.specs.Counts.{count_after}
 use Rattle.cv_desk.specs.Loaded.{whole}
 use Rattle.cv_desk.specs.Stored.{Dir, File, Item, Other, Stored}
@@ -33,22 +33,6 @@ use Rattle.cv_facts.proofs.ListingLemmas.{outlines_are}
 use Rattle.cv_facts.proofs.PlacedLemmas.{by_mark, by_mark_other}
 use Rattle.cv_facts.specs.declared.error.IndexError.{IndexError}
 use Rattle.cv_facts.specs.declared.reduction.Shape.{Shape}
-
--- one item more at the front
-count_by-cons : {X : Type 0} (p : X → Bool) (x : X) (xs : List X) → count_by p (x ∷ xs) ≡ cond (p x) 1 0 + count_by p xs
-count_by-cons p x xs = sum_by-cons (λ y. cond (p y) 1 0) x xs
-
--- Reads after reads.
-
-min_twice : (count some more most : ℕ) → min (min (count + suc some) most + suc more) most ≡ min (count + suc (some + suc more)) most
-min_twice count some more most = omega arith
-
-count_after-more : (count some more : ℕ) → count_after (count_after count some) more ≡ count_after count (some + more)
-count_after-more count some zero = let e : some ≡ some + 0 = omega arith in ap (count_after count) e
-count_after-more count zero (suc more) = let e : suc more ≡ 0 + suc more = omega arith in ap (count_after count) e
-count_after-more count (suc some) (suc more) =
-    let e : suc (some + suc more) ≡ suc some + suc more = omega arith in
-    min_twice count some more (2 ^ 64 - 1) ∙ ap (count_after count) e
 
 -- the reads so far, with those of the entries that remain, are all
 pub one_read : (es : List ListEntry) (i : ℕ) (x : ListEntry) (before now all : ℕ) → i < length es → x ≡ get_or es i x

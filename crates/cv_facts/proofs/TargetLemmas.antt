@@ -1,8 +1,8 @@
 -- The target of a whiteout is a path: its name is one, and no longer than that of the whiteout.
-use Rattle.std.specs.Prelude.{◌≡◌, ℕ, ◌≤◌, ◌==◌, Bool, true, false, ◌&&◌, ◌||◌, not, nat_lt, if◌then◌else◌, List, [], ◌∷◌, ◌++◌, drop, length, Option, Some, None, unwrap_or, MatchBool, ⊤, Result, Ok, Err, refl}
+use Rattle.std.specs.Prelude.{◌≡◌, ℕ, ◌≤◌, ◌==◌, Bool, true, false, ◌&&◌, not, List, [], ◌∷◌, ◌++◌, drop, length, Option, Some, None, unwrap_or, MatchBool, ⊤, Result, Ok, Err, refl}
 use Rattle.std.specs.List.{list_all, list_any}
 use Rattle.std.proofs.Common.{ap, arith, suc, zero, ◌∙◌, length-append}
-use Rattle.std.proofs.lemmas.Bool.Decides.{nat_tests}
+use Rattle.std.proofs.lemmas.Bool.{not-true, le-ltb, or_parts}
 use Rattle.cv_base.specs.Path.{IsPath, Path, beside, file_name_of, is_component, is_name, is_slash, is_special, parent_of, path_text}
 use Rattle.cv_path.specs.Reading.{is_path_memory}
 use Rattle.cv_path.specs.declared.limits.TheConstants.{MAX_PATH_LEN}
@@ -10,21 +10,9 @@ use Rattle.cv_path.specs.declared.path.PathError.{PathError}
 use Rattle.cv_path.specs.declared.path.PathError.TheVariants as error
 use Rattle.cv_base.proofs.Bools.{and_left, and_right}
 use Rattle.cv_base.proofs.PathReads.{at_most, names}
-use Rattle.cv_overlay.specs.Mark.{has_mark, is_bad, is_opaque, is_reserved, is_whiteout, is_whiteout_name, mark_of, name_of, target_of}
-use Rattle.cv_overlay.specs.declared.mark.Mark.TheVariants.{Reserved, Opaque, Whiteout, Bad, Plain}
-
-whiteout_by : (r o w b : Bool) → (if r then Reserved else (if o then Opaque else (if w then Whiteout else (if b then Bad else Plain)))) ≡ Whiteout → w ≡ true
-whiteout_by true o w b h = cc
-whiteout_by false true w b h = cc
-whiteout_by false false true b h = refl
-whiteout_by false false false true h = cc
-whiteout_by false false false false h = cc
-
--- a whiteout has the name of one
-pub whiteout_name : (p : Path) (is_dir : Bool) → mark_of p is_dir ≡ Whiteout → is_whiteout_name (name_of p) ≡ true
-whiteout_name p is_dir h =
-    and_right (not is_dir && not (is_reserved p is_dir) && not (is_opaque p is_dir)) (is_whiteout_name (name_of p))
-    (whiteout_by (is_reserved p is_dir) (is_opaque p is_dir) (is_whiteout p is_dir) (is_bad p is_dir) h)
+use Rattle.cv_overlay.specs.Mark.{has_mark, is_whiteout_name, mark_of, name_of, target_of}
+use Rattle.cv_overlay.specs.declared.mark.Mark.TheVariants.{Whiteout}
+use Rattle.cv_overlay.proofs.CoverLemmas.{named_whiteout}
 
 -- the name of a path, with its text in the place of that of the top
 pub name_is : (p : Path) → unwrap_or (file_name_of p) (path_text p) ≡ name_of p
@@ -39,14 +27,7 @@ name_is (c ∷ cs) = some_name c cs (path_text (c ∷ cs)) where
 none_dropped : (test : ℕ → Bool) (n : ℕ) (t : List ℕ) → list_any test t ≡ false → list_any test (drop n t) ≡ false
 none_dropped test zero t h = h
 none_dropped test (suc n) [] h = refl
-none_dropped test (suc n) (x ∷ xs) h = none_dropped test n xs (rest (test x) (list_any test xs) h) where
-  rest : (a b : Bool) → (a || b) ≡ false → b ≡ false
-  rest true b h = cc
-  rest false b h = h
-
-is_false : (b : Bool) → not b ≡ true → b ≡ false
-is_false true h = cc
-is_false false h = refl
+none_dropped test (suc n) (x ∷ xs) h = none_dropped test n xs (or_parts (test x) (list_any test xs) h).1
 
 name_by : (special nul slash : Bool) → special ≡ false → nul ≡ false → slash ≡ false → (not special && not nul && not slash) ≡ true
 name_by special nul slash a b c = rw (a, b, c) refl
@@ -55,9 +36,9 @@ pub target_name : (n : List ℕ) → is_name n ≡ true → is_whiteout_name n �
 target_name n h w =
     let component = and_left (is_component n) (not (list_any is_slash n)) h in
     name_by (is_special (drop 4 n)) (list_any (λ b. b == 0) (drop 4 n)) (list_any is_slash (drop 4 n))
-    (is_false (is_special (drop 4 n)) (and_right (has_mark n) (not (is_special (drop 4 n))) w))
-    (none_dropped (λ b. b == 0) 4 n (is_false (list_any (λ b. b == 0) n) (and_right (not (is_special n)) (not (list_any (λ b. b == 0) n)) component)))
-    (none_dropped is_slash 4 n (is_false (list_any is_slash n) (and_right (is_component n) (not (list_any is_slash n)) h)))
+    (not-true (is_special (drop 4 n)) (and_right (has_mark n) (not (is_special (drop 4 n))) w))
+    (none_dropped (λ b. b == 0) 4 n (not-true (list_any (λ b. b == 0) n) (and_right (not (is_special n)) (not (list_any (λ b. b == 0) n)) component)))
+    (none_dropped is_slash 4 n (not-true (list_any is_slash n) (and_right (is_component n) (not (list_any is_slash n)) h)))
 
 last_name : (p : Path) → list_all is_name p ≡ true → is_whiteout_name (name_of p) ≡ true → is_name (name_of p) ≡ true
 last_name [] h w = cc
@@ -83,9 +64,6 @@ dropped_length zero t = omega arith
 dropped_length (suc n) [] = omega arith
 dropped_length (suc n) (x ∷ xs) = let rest = dropped_length n xs in omega (arith, rest)
 
-not_long : (n : ℕ) → n ≤ MAX_PATH_LEN → nat_lt MAX_PATH_LEN n ≡ false
-not_long n h = grind (arith, nat_tests)
-
 pub target_is : (p : Path) (name : List ℕ) → IsPath p → is_whiteout_name (name_of p) ≡ true → name ≡ drop 4 (name_of p) → beside p name ≡ Ok (target_of p)
 target_is p name h w e =
     let named : is_name (drop 4 (name_of p)) ≡ true = target_name (name_of p) (last_name p (names p h) w) w in
@@ -94,7 +72,7 @@ target_is p name h w e =
     let whole : length (path_text (parent_of p ++ name_of p ∷ [])) ≡ length (path_text p) = ap (λ (q : Path). length (path_text q)) (parts_of p w) in
     let most : length (path_text p) ≤ MAX_PATH_LEN = at_most p h in
     let fits : length (path_text (parent_of p ++ drop 4 (name_of p) ∷ [])) ≤ MAX_PATH_LEN = omega (arith, short, whole, most) in
-    rw (e, named, not_long (length (path_text (parent_of p ++ drop 4 (name_of p) ∷ []))) fits) refl
+    rw (e, named, le-ltb MAX_PATH_LEN (length (path_text (parent_of p ++ drop 4 (name_of p) ∷ []))) fits) refl
 
 -- As the code finds it.
 
@@ -106,7 +84,7 @@ unnamed p t h e = e ∙ ap (λ (found : Option (List ℕ)). unwrap_or found (pat
 
 beside_is : (p : Path) (name : List ℕ) → mark_of p false ≡ Whiteout → IsPath p → (has_mark (name_of p) ≡ true → name ≡ drop 4 (name_of p)) → beside p name ≡ Ok (target_of p)
 beside_is p name m h e =
-    let w : is_whiteout_name (name_of p) ≡ true = whiteout_name p false m in
+    let w : is_whiteout_name (name_of p) ≡ true = named_whiteout p false m in
     target_is p name h w (e (and_left (has_mark (name_of p)) (not (is_special (drop 4 (name_of p)))) w))
 
 same_ok : (x y : Path) (r : Result Path PathError) → r ≡ Ok x → r ≡ Ok y → x ≡ y

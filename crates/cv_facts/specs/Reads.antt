@@ -1,5 +1,5 @@
 -- How often the files of a layer are read when it is indexed (defined by this project): once for each of its package files,
--- and never where there is no layer or a bad tree.
+-- and never if there is no layer or a bad tree.
 use Rattle.std.specs.Prelude.{◌≡◌, ℕ, ◌≤◌, length}
 use Rattle.std.specs.List.{count_by}
 use Rattle.cv_desk.specs.Counts.{count_after}

@@ -1,3 +1,7 @@
+ghost use Rattle.std.specs.Prelude.{◌≡◌};
+ghost use Rattle.cv_facts.specs.Cause.{index_error};
+ghost use Rattle.cv_facts.specs.declared.error.IndexError.TheVariants as error;
+
 use cv_desk::DeskFault;
 use cv_seq::NoMemory;
 use thiserror::Error;
@@ -12,9 +16,6 @@ pub enum IndexError {
 }
 
 impl From<DeskFault> for IndexError {
-    ghost use Rattle.std.specs.Prelude.{◌≡◌};
-    ghost use Rattle.cv_facts.specs.Cause.{index_error};
-
     ghost from_gives = { λ fault e. e ≡ index_error fault };
 
     fn from(fault: DeskFault) -> IndexError {
@@ -26,9 +27,6 @@ impl From<DeskFault> for IndexError {
 }
 
 impl From<NoMemory> for IndexError {
-    ghost use Rattle.std.specs.Prelude.{◌≡◌};
-    ghost use Rattle.cv_facts.specs.declared.error.IndexError.TheVariants as error;
-
     ghost from_gives = { λ _ e. e ≡ error.NoMemory };
 
     fn from(_error: NoMemory) -> IndexError {

@@ -8,7 +8,7 @@ use std::alloc::Global;
 use std::collections::BTreeSet;
 
 /// Paths in their order, each once.
-#[tactic(auto, using(crate::proofs::Ordered::put_last, crate::proofs::Ordered::put_none))]
+#[tactic(auto, using(cv_base::proofs::Ordered::put_last, cv_base::proofs::Ordered::put_none))]
 pub fn in_path_order(alloc: Global, mut paths: Vec<RelPath>) -> Result<Vec<RelPath>, NoMemory>
     ensures { IfOk result (λ out. out.items ≡ in_order path_cmp paths.items) }
 {

@@ -1,5 +1,5 @@
 use cv_base::{Digest, ListEntry, RelPath, Seq};
-use cv_desk::{Desk, DeskFault, FileRead};
+use cv_desk::{Desk, DeskFault, FileRead, ReadResult};
 use cv_facts::{IndexError, LayerFacts, Reduction, Shape, index_layer};
 use cv_seq::NoMemory;
 use sample_data::{SampleDesk, SampleLayer};
@@ -31,17 +31,13 @@ impl Desk for Changing {
 
     ghost distinct = { λ _. tt };
 
+    ghost paths = { λ _. tt };
+
     fn list(&mut self, alloc: Global, layer: &Digest) -> Result<Option<Seq<ListEntry>>, DeskFault> {
         self.inner.list(alloc, layer)
     }
 
-    fn read(
-        &mut self,
-        alloc: Global,
-        layer: &Digest,
-        path: &RelPath,
-        limit: u32,
-    ) -> Result<FileRead, DeskFault> {
+    fn read(&mut self, alloc: Global, layer: &Digest, path: &RelPath, limit: u32) -> ReadResult {
         let read = self.inner.read(alloc, layer, path, limit)?;
         match &read {
             FileRead::Bytes(bytes) if bytes.as_slice() == TOO_LARGE.as_bytes() => Ok(
@@ -150,8 +146,6 @@ fn facts_are_shared<D: Desk + Send + Sync>() {
 
 #[test]
 fn results_are_shared_by_threads() {
-    is_shared::<IndexError>();
-    is_shared::<Reduction>();
-    is_shared::<Shape>();
+    is_shared::<(IndexError, Reduction, Shape)>();
     facts_are_shared::<SampleDesk>();
 }

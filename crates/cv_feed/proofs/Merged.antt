@@ -2,9 +2,10 @@
 use Rattle.std.specs.Prelude.{◌≡◌, ℕ, ◌+◌, ◌<◌, Bool, true, false, cond, ◌||◌, List, [], ◌∷◌, refl}
 use Rattle.std.specs.List.{AllByRecursion}
 use Rattle.std.specs.Ordering.{match_ordering, nat_cmp}
-use Rattle.std.specs.declared.cmp.Ordering.TheVariants.{Less, Equal, Greater}
+use Rattle.std.specs.declared.cmp.Ordering.TheVariants.{Equal, Greater}
 use Rattle.std.proofs.Common.{◌∙◌, sym, ap, arith, rules}
 use Rattle.cv_base.specs.declared.advisory.Advisory.{Advisory}
+use Rattle.cv_base.proofs.InOrder.{nat_less}
 use Rattle.cv_feed.specs.code.Index.{merged, indices_from}
 
 -- all of these indices are above one
@@ -17,9 +18,6 @@ indices_above test m n (a ∷ rest) lt = by_test (test a) (indices_above test m 
   by_test : (passed : Bool) → AreAbove m (indices_from test (n + 1) rest) → AreAbove m (cond passed (n ∷ indices_from test (n + 1) rest) (indices_from test (n + 1) rest))
   by_test true more = (lt, more)
   by_test false more = more
-
-less : (m n : ℕ) → m < n → nat_cmp m n ≡ Less
-less m n lt = search rules
 
 greater : (m n : ℕ) → n < m → nat_cmp m n ≡ Greater
 greater m n lt = search rules
@@ -34,7 +32,7 @@ merged_nil (x ∷ xs) = refl
 -- a index below all of both lists stands first
 first_left : (n : ℕ) (xs ys : List ℕ) → AreAbove n ys → merged (n ∷ xs) ys ≡ n ∷ merged xs ys
 first_left n xs [] b = ap (λ (rest : List ℕ). n ∷ rest) (sym (merged_nil xs))
-first_left n xs (y ∷ ys) b = ap (λ r. match_ordering r (n ∷ merged xs (y ∷ ys)) (n ∷ merged xs ys) (y ∷ merged (n ∷ xs) ys)) (less n y b.0)
+first_left n xs (y ∷ ys) b = ap (λ r. match_ordering r (n ∷ merged xs (y ∷ ys)) (n ∷ merged xs ys) (y ∷ merged (n ∷ xs) ys)) (nat_less n y b.0)
 
 first_right : (n : ℕ) (xs ys : List ℕ) → AreAbove n xs → merged xs (n ∷ ys) ≡ n ∷ merged xs ys
 first_right n [] ys b = refl

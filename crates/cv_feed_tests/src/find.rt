@@ -3,6 +3,7 @@ use cv_base::{
     RelPath, Seq, Text, Turn,
 };
 use cv_feed::find_all;
+use sample_data::{Installed, package};
 use std::alloc::Global;
 use std::test::Fail;
 
@@ -14,16 +15,14 @@ fn installed(
     source: &str,
     ecosystem: &str,
 ) -> Result<Package, Fail> {
-    Ok(Package {
+    let installed = Installed {
         kind,
-        path: RelPath::read(alloc, "lib")?,
-        name: Text::of(alloc, name)?,
-        version: Text::of(alloc, "1.0.0")?,
-        source: Text::of(alloc, source)?,
-        source_version: Text::of(alloc, "1.0.0")?,
-        arch: Text::of(alloc, "amd64")?,
-        ecosystem: Text::of(alloc, ecosystem)?,
-    })
+        ecosystem,
+        name,
+        source,
+        version: "1.0.0",
+    };
+    Ok(package(alloc, &installed, RelPath::read(alloc, "lib")?)?)
 }
 
 /// An entry about a package, whose flaw is present from the start and has a fix.

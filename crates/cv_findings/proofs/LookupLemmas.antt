@@ -13,15 +13,17 @@ use Rattle.std.specs.declared.cmp.Ordering.TheVariants.{Less, Equal}
 use Rattle.std.proofs.Common.{ap, arith, sym, ◌∙◌}
 use Rattle.std.proofs.lemmas.Bool.{true≢false}
 use Rattle.std.proofs.lemmas.Cmp.{tied_itself}
-use Rattle.std.proofs.lemmas.List.{append_assoc}
 use Rattle.std.proofs.lemmas.List.Sums.{sum_by-append, sum_by-cons}
 use Rattle.std.proofs.lemmas.Map.Lookups.{exact_bytes}
+use Rattle.std.proofs.Math.Bool.{or-false}
+use Rattle.std.proofs.lemmas.List.Concat.{flat_map-append}
 use Rattle.cv_base.specs.InOrder.{in_order}
 use Rattle.cv_base.specs.Texts.{same}
 use Rattle.cv_base.specs.declared.advisory.Advisory.{Advisory}
 use Rattle.cv_base.specs.declared.finding.Finding.{Finding}
 use Rattle.cv_base.specs.declared.«package».Package.{Package}
 use Rattle.cv_base.specs.declared.«package».PackageName.{PackageName}
+use Rattle.cv_base.proofs.AllItems.{all_both}
 use Rattle.cv_match.proofs.Keys.{says_nothing}
 use Rattle.cv_match.specs.Affects.{affects, family, fixed}
 use Rattle.cv_match.specs.Findings.{finding_cmp, finding_total, findings, found, found_in, pair_findings, text_cmp}
@@ -52,10 +54,6 @@ filter_append {A} test (x ∷ xs) ys = by_test (test x) (filter_append test xs y
   by_test true h = ap (λ zs. x ∷ zs) h
   by_test false h = h
 
-flat_append : {A B : Type 0} (f : A → List B) (xs ys : List A) → flat_map f (xs ++ ys) ≡ flat_map f xs ++ flat_map f ys
-flat_append f [] ys = refl
-flat_append f (x ∷ xs) ys = ap (λ zs. f x ++ zs) (flat_append f xs ys) ∙ sym (append_assoc (f x) (flat_map f xs) (flat_map f ys))
-
 feed_filter : (test : Advisory → Bool) (name : List ℕ) (records : List Advisory)
     → map (λ a. (name, a)) (filter test records) ≡ filter (λ (r : Listed). test r.1) (map (λ a. (name, a)) records)
 feed_filter test name [] = refl
@@ -83,7 +81,7 @@ made_feed p name (a ∷ rest) = ap (λ zs. found p name a ++ zs) (made_feed p na
 
 made_all : (p : Package) (feeds : FeedList) → flat_map (made p) (all_listed feeds) ≡ found_in feeds p
 made_all p [] = refl
-made_all p (feed ∷ feeds) = flat_append (made p) (of_feed feed) (all_listed feeds) ∙ (λ i. made_feed p feed.0 feed.1 i ++ made_all p feeds i)
+made_all p (feed ∷ feeds) = flat_map-append (made p) (of_feed feed) (all_listed feeds) ∙ (λ i. made_feed p feed.0 feed.1 i ++ made_all p feeds i)
 
 -- Distinct records.
 
@@ -105,15 +103,11 @@ above_name : (name other : List ℕ) (a : Advisory) (records : List Advisory) �
 above_name name other a [] h = tt
 above_name name other a (b ∷ rest) h = (λ i. ordering_then (h i) (text_cmp a.id b.id), above_name name other a rest h)
 
-all_append : {A : Type 0} (P : A → Type 0) (xs ys : List A) → AllByRecursion P xs → AllByRecursion P ys → AllByRecursion P (xs ++ ys)
-all_append P [] ys h k = k
-all_append P (x ∷ xs) ys h k = (h.0, all_append P xs ys h.1 k)
-
 above_feeds : (name : List ℕ) (a : Advisory) (feeds : FeedList) → AllByRecursion (λ other. text_cmp name other ≡ Less) (names_of feeds)
     → AllByRecursion (λ (r : Listed). listed_cmp (name, a) r ≡ Less) (all_listed feeds)
 above_feeds name a [] h = tt
 above_feeds name a (feed ∷ feeds) h =
-    all_append (λ (r : Listed). listed_cmp (name, a) r ≡ Less) (of_feed feed) (all_listed feeds) (above_name name feed.0 a feed.1 h.0) (above_feeds name a feeds h.1)
+    all_both (λ (r : Listed). listed_cmp (name, a) r ≡ Less) (of_feed feed) (all_listed feeds) (above_name name feed.0 a feed.1 h.0) (above_feeds name a feeds h.1)
 
 sorted_feed : (name : List ℕ) (records : List Advisory) (feeds : FeedList) → IsStrictlySortedBy id_cmp records
     → AllByRecursion (λ other. text_cmp name other ≡ Less) (names_of feeds) → IsStrictlySortedBy listed_cmp (all_listed feeds)
@@ -121,7 +115,7 @@ sorted_feed : (name : List ℕ) (records : List Advisory) (feeds : FeedList) →
 unfolding IsStrictlySortedBy
 sorted_feed name [] feeds s h t = t
 sorted_feed name (a ∷ rest) feeds s h t = (
-  all_append (λ (r : Listed). listed_cmp (name, a) r ≡ Less) (map (λ b. (name, b)) rest) (all_listed feeds) (above_feed name a rest s.0) (above_feeds name a feeds h),
+  all_both (λ (r : Listed). listed_cmp (name, a) r ≡ Less) (map (λ b. (name, b)) rest) (all_listed feeds) (above_feed name a rest s.0) (above_feeds name a feeds h),
   sorted_feed name rest feeds s.1 h t,
 )
 
@@ -247,10 +241,6 @@ flat_filter p test (r ∷ rs) none = by_test (test r) refl (flat_filter p test r
     by_test true d g = ap (λ zs. made p r ++ zs) g
     by_test false d g = g ∙ (λ i. sym (none r d) i ++ flat_map (made p) rs)
 
-or_false : (b : Bool) → (b || false) ≡ b
-or_false true = refl
-or_false false = refl
-
 -- The findings of a package, by its keys.
 
 looked_at : (feeds : FeedList) (p : Package) (q : Finding) → IsStrictlySortedBy text_cmp (names_of feeds) → AreSorted feeds
@@ -262,13 +252,13 @@ looked_at feeds p q s t = by_test (same (family p.ecosystem) p.ecosystem) (λ r 
     by_test true none =
         ap (λ (rs : List Listed). last_at finding_cmp (flat_map (made p) rs) q) (listed_is (whole_key p) feeds)
         ∙ ap (λ (fs : List Finding). last_at finding_cmp fs q)
-        (flat_filter p (λ (r : Listed). is_named (whole_key p) r.1) (all_listed feeds) (λ r h. none r (or_false (is_named (whole_key p) r.1) ∙ h)) ∙ made_all p feeds)
+        (flat_filter p (λ (r : Listed). is_named (whole_key p) r.1) (all_listed feeds) (λ r h. none r (or-false (is_named (whole_key p) r.1) ∙ h)) ∙ made_all p feeds)
     by_test false none =
         last_append finding_cmp (found_under feeds p None (whole_key p)) (found_under feeds p (Some (whole_key p)) (family_key p)) q
         ∙ (λ i. option_or (last_at finding_cmp (flat_map (found_once (Some (whole_key p)) p) (listed_is (family_key p) feeds i)) q)
         (last_at finding_cmp (flat_map (made p) (listed_is (whole_key p) feeds i)) q))
         ∙ split p (whole_key p) (family_key p) q (all_listed feeds) (listed_sorted feeds s t)
-        (λ r h. none r ((λ i. is_named (whole_key p) r.1 || or_false (is_named (family_key p) r.1) i) ∙ h))
+        (λ r h. none r ((λ i. is_named (whole_key p) r.1 || or-false (is_named (family_key p) r.1) i) ∙ h))
         ∙ ap (λ (fs : List Finding). last_at finding_cmp fs q) (made_all p feeds)
 
 -- the findings of packages, by their keys, are those of all pairs

@@ -11,7 +11,9 @@ use Rattle.std.specs.declared.cmp.Ordering.TheVariants.{Less, Equal, Greater}
 use Rattle.std.proofs.Common.{ap, subst, sym, ◌∙◌}
 use Rattle.std.proofs.lemmas.Cmp.{alike_right, tied_itself}
 use Rattle.cv_base.specs.InOrder.{in_order}
-use Rattle.cv_base.proofs.InOrder.{after_lower, in_order_sorted, turned}
+use Rattle.cv_base.proofs.InOrder.{after_lower, in_order_sorted}
+use Rattle.cv_base.proofs.Options.{option_or_assoc}
+use Rattle.cv_base.proofs.Orders.{turned, equal_of}
 
 -- the first item that ties with a key
 abbrev pub at : {K : Type 0} → (K → K → Ordering) → List K → K → Option K
@@ -31,10 +33,6 @@ last_at cmp (x ∷ xs) q = option_or (last_at cmp xs q) (item_at cmp x q)
 pub or_none : {K : Type 0} (o : Option K) → option_or o None ≡ o
 or_none None = refl
 or_none (Some x) = refl
-
-pub or_assoc : {K : Type 0} (o p q : Option K) → option_or (option_or o p) q ≡ option_or o (option_or p q)
-or_assoc None p q = refl
-or_assoc (Some x) p q = refl
 
 none_some : {K : Type 0} (x : K) (P : Type 0) → None ≡ Some x → P
 none_some x P h = cc
@@ -67,11 +65,6 @@ at_head cmp q x xs h = λ i. cond (is_eq (h i)) (Some x) (at cmp xs q)
 
 pub at_next : {K : Type 0} (cmp : K → K → Ordering) (q x : K) (xs : List K) → is_eq (cmp q x) ≡ false → at cmp (x ∷ xs) q ≡ at cmp xs q
 at_next cmp q x xs h = λ i. cond (h i) (Some x) (at cmp xs q)
-
-pub equal_of : (r : Ordering) → is_eq r ≡ true → r ≡ Equal
-equal_of Less h = cc
-equal_of Equal h = refl
-equal_of Greater h = cc
 
 -- what is at a key ties with it
 pub at_ties : {K : Type 0} (cmp : K → K → Ordering) (q : K) (xs : List K) (x : K) → at cmp xs q ≡ Some x → cmp q x ≡ Equal
@@ -161,7 +154,7 @@ same_order {K} {cmp} o xs ys h = same_lists o (in_order cmp xs) (in_order cmp ys
 pub last_append : {K : Type 0} (cmp : K → K → Ordering) (xs ys : List K) (q : K) → last_at cmp (xs ++ ys) q ≡ option_or (last_at cmp ys q) (last_at cmp xs q)
 last_append cmp [] ys q = sym (or_none (last_at cmp ys q))
 last_append cmp (x ∷ xs) ys q =
-    (λ i. option_or (last_append cmp xs ys q i) (item_at cmp x q)) ∙ or_assoc (last_at cmp ys q) (last_at cmp xs q) (item_at cmp x q)
+    (λ i. option_or (last_append cmp xs ys q i) (item_at cmp x q)) ∙ option_or_assoc (last_at cmp ys q) (last_at cmp xs q) (item_at cmp x q)
 
 pub last_flat : {A K : Type 0} (cmp : K → K → Ordering) (f g : A → List K) (q : K) → ((x : A) → last_at cmp (f x) q ≡ last_at cmp (g x) q)
     → (xs : List A) → last_at cmp (flat_map f xs) q ≡ last_at cmp (flat_map g xs) q

@@ -12,17 +12,18 @@ use Rattle.std.proofs.lemmas.Cmp.{alike_right, tied_back}
 use Rattle.std.proofs.lemmas.List.{append-nil}
 use Rattle.std.proofs.lemmas.List.Kept.{IsStrictlySortedBy-filter}
 use Rattle.std.proofs.lemmas.Map.Lookups.{exact_bytes, exact_unsigned}
-use Rattle.cv_base.proofs.InOrder.{in_order_sorted}
 use Rattle.cv_base.proofs.Same.{tied_path}
 use Rattle.cv_base.specs.declared.advisory.Advisory.{Advisory}
 use Rattle.cv_base.specs.declared.finding.Finding.{Finding}
 use Rattle.cv_base.specs.declared.«package».Package.{Package}
 use Rattle.cv_base.specs.declared.«package».PackageKind.{PackageKind}
 use Rattle.cv_base.specs.declared.«package».PackageKind.TheVariants.{Apk, Deb, Npm}
+use Rattle.cv_base.proofs.Orders.{equal_of}
 use Rattle.cv_match.specs.Affects.{affects, fixed}
 use Rattle.cv_match.specs.Findings.{finding_cmp, finding_total, findings, found, found_in, kind_rank, package_cmp, package_total, pair_findings, text_cmp}
+use Rattle.cv_match.proofs.FindingsLaws.{sorted}
 use Rattle.cv_findings.specs.Parts.{has_package, is_finding_of, part_of}
-use Rattle.cv_findings.proofs.Lookups.{at, at_filter, at_order, at_ties, equal_of, kept, last_append, last_at, last_has, nothing, or_none, or_same, same_lists}
+use Rattle.cv_findings.proofs.Lookups.{at, at_filter, at_order, at_ties, kept, last_append, last_at, last_has, nothing, or_none, or_same, same_lists}
 
 abbrev Feeds : Type 0
 Feeds = List (List ℕ × List Advisory)
@@ -130,7 +131,7 @@ last_part p feeds q h (x ∷ xs) =
         ap (option_or (cond (has_package p xs) (last_at finding_cmp (found_in feeds p) q) None)) (nothing (last_at finding_cmp (found_in feeds x) q) apart)
         ∙ or_none (cond (has_package p xs) (last_at finding_cmp (found_in feeds p) q) None)
 
-same_cond : (t : Bool) → cond {A = Option Finding} t None None ≡ None
+pub same_cond : (t : Bool) → cond {A = Option Finding} t None None ≡ None
 same_cond true = refl
 same_cond false = refl
 
@@ -160,25 +161,21 @@ pub findings_at : (packages : List Package) (feeds : Feeds) (q : Finding)
 unfolding findings
 findings_at packages feeds q = at_order finding_total (pair_findings packages feeds) q
 
-pub findings_sorted : (packages : List Package) (feeds : Feeds) → IsStrictlySortedBy finding_cmp (findings packages feeds)
-unfolding findings
-findings_sorted packages feeds = in_order_sorted finding_total (pair_findings packages feeds)
-
 found_part : (p : Package) (packages : List Package) (feeds : Feeds) (q : Finding)
     → at finding_cmp (part_of p (findings packages feeds)) q ≡ cond (has_package p packages) (last_at finding_cmp (found_in feeds p) q) None
 found_part p packages feeds q =
-    at_filter finding_total (is_finding_of p) (findings packages feeds) q (findings_sorted packages feeds)
+    at_filter finding_total (is_finding_of p) (findings packages feeds) q (sorted packages feeds)
     ∙ kept_part p q (at finding_cmp (findings packages feeds) q) (at_ties finding_cmp q (findings packages feeds))
     ∙ ap (λ (o : Option Finding). cond (is_eq (package_cmp p q.«package»)) o None) (findings_at packages feeds q)
     ∙ part_at p feeds packages q
 
 part_sorted : (p : Package) (packages : List Package) (feeds : Feeds) → IsStrictlySortedBy finding_cmp (part_of p (findings packages feeds))
-part_sorted p packages feeds = IsStrictlySortedBy-filter finding_cmp (is_finding_of p) (findings packages feeds) (findings_sorted packages feeds)
+part_sorted p packages feeds = IsStrictlySortedBy-filter finding_cmp (is_finding_of p) (findings packages feeds) (sorted packages feeds)
 
 -- the part about a package that is one of the packages
 pub own_part : (p : Package) (packages : List Package) (feeds : Feeds) → has_package p packages ≡ true → part_of p (findings packages feeds) ≡ findings (p ∷ []) feeds
 own_part p packages feeds h =
-    same_lists finding_total (part_of p (findings packages feeds)) (findings (p ∷ []) feeds) (part_sorted p packages feeds) (findings_sorted (p ∷ []) feeds)
+    same_lists finding_total (part_of p (findings packages feeds)) (findings (p ∷ []) feeds) (part_sorted p packages feeds) (sorted (p ∷ []) feeds)
     (λ q. found_part p packages feeds q
     ∙ (λ i. cond (h i) (last_at finding_cmp (found_in feeds p) q) None)
     ∙ ap (λ (fs : List Finding). last_at finding_cmp fs q) (sym (append-nil (found_in feeds p)))

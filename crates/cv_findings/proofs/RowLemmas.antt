@@ -3,21 +3,25 @@ use Rattle.std.specs.Prelude.{◌≡◌, ℕ, Bool, true, false, cond, not, ◌&
 use Rattle.std.specs.List.{AllByRecursion}
 use Rattle.std.specs.List.Sorted.{IsStrictlySortedBy}
 use Rattle.std.specs.Option.{is_some, option_map, option_or}
-use Rattle.std.specs.Ordering.{is_eq, match_ordering, ordering_reverse}
+use Rattle.std.specs.Ordering.{is_eq, match_ordering}
 use Rattle.std.specs.declared.cmp.Ordering.{Ordering}
 use Rattle.std.specs.declared.cmp.Ordering.TheVariants.{Less, Equal, Greater}
 use Rattle.std.proofs.Common.{ap, sym, ◌∙◌}
 use Rattle.std.proofs.lemmas.Cmp.{alike_right, tied_back}
 use Rattle.std.proofs.lemmas.List.Kept.{IsStrictlySortedBy-filter}
-use Rattle.cv_base.proofs.InOrder.{after_lower, in_order_sorted, turned}
+use Rattle.std.proofs.Math.Bool.{or-false}
+use Rattle.cv_advdb.proofs.NameLemmas.{turned_eq}
+use Rattle.cv_base.proofs.InOrder.{after_lower, in_order_sorted}
 use Rattle.cv_base.specs.declared.finding.Finding.{Finding}
 use Rattle.cv_base.specs.declared.finding.Reason.{Reason}
 use Rattle.cv_base.specs.declared.finding.Reason.TheVariants.{Added, Changed, Removed}
 use Rattle.cv_base.specs.declared.finding.Row.{Row}
+use Rattle.cv_base.proofs.Orders.{turned, equal_of}
 use Rattle.cv_match.specs.Findings.{finding_cmp, finding_total}
 use Rattle.cv_findings.specs.Rows.{added, changed, is_among, is_refixed, removed, row_about, row_cmp, row_total, rows_of, same_fix}
 use Rattle.cv_findings.specs.code.Walk.{change_between, walked}
-use Rattle.cv_findings.proofs.Lookups.{above_tied, at, at_filter, at_head, at_next, at_order, at_tied, at_ties, equal_of, kept, last_append, last_at, last_sorted, none_tied, same_lists}
+use Rattle.cv_findings.proofs.Lookups.{above_tied, at, at_filter, at_head, at_next, at_order, at_tied, at_ties, kept, last_append, last_at, last_sorted, none_tied, same_lists}
+use Rattle.cv_findings.proofs.PartLemmas.{same_cond}
 
 -- the finding that ties with another one
 abbrev finding_at : List Finding → Finding → Option Finding
@@ -169,13 +173,8 @@ walked_sorted image (x ∷ xs) (y ∷ ys) s t =
 
 -- The definition.
 
-turned_same : (r : Ordering) → is_eq (ordering_reverse r) ≡ is_eq r
-turned_same Less = refl
-turned_same Equal = refl
-turned_same Greater = refl
-
 either_way : (f g : Finding) → is_eq (finding_cmp f g) ≡ is_eq (finding_cmp g f)
-either_way f g = ap is_eq (finding_total.antisymm f g) ∙ turned_same (finding_cmp g f)
+either_way f g = ap is_eq (finding_total.antisymm f g) ∙ turned_eq (finding_cmp g f)
 
 -- a list has a finding of the pair where it has one at its key
 any_is : (g : Finding) (fs : List Finding) → is_among fs g ≡ is_some (finding_at fs g)
@@ -192,10 +191,6 @@ abbrev differs : Finding → Option Finding → Bool
 differs g None = false
 differs g (Some x) = not (same_fix x.fixed g.fixed)
 
-or_false : (b : Bool) → (b || false) ≡ b
-or_false true = refl
-or_false false = refl
-
 any_differs : (g : Finding) (fs : List Finding) → IsStrictlySortedBy finding_cmp fs → is_refixed fs g ≡ differs g (finding_at fs g)
 unfolding IsStrictlySortedBy
 any_differs g [] s = refl
@@ -206,7 +201,7 @@ any_differs g (x ∷ xs) s =
         → ((t && not (same_fix x.fixed g.fixed)) || differs g (finding_at xs g)) ≡ differs g (cond t (Some x) (finding_at xs g))
     by_test true d =
         (λ i. not (same_fix x.fixed g.fixed) || differs g (none_tied finding_total x g xs (equal_of (finding_cmp g x) d) s.0 i))
-        ∙ or_false (not (same_fix x.fixed g.fixed))
+        ∙ or-false (not (same_fix x.fixed g.fixed))
     by_test false d = refl
 
 -- one, if there is no other
@@ -218,10 +213,6 @@ abbrev refixed : Option Finding → Option Finding → Option Finding
 refixed None old = None
 refixed (Some y) None = None
 refixed (Some y) (Some x) = cond (same_fix x.fixed y.fixed) None (Some y)
-
-same_cond : (t : Bool) → cond {A = Option Finding} t None None ≡ None
-same_cond true = refl
-same_cond false = refl
 
 not_cond : (t : Bool) (o : Option Finding) → cond (not t) o None ≡ cond t None o
 not_cond true o = refl

@@ -2,9 +2,10 @@ ghost use Rattle.std.specs.Prelude.{IfOk};
 ghost use Rattle.std.specs.List.Sorted.{IsStrictlySortedBy};
 ghost use Rattle.cv_match.specs.Findings.{finding_cmp};
 
-use cv_base::{Digest, Finding, NoMemory, Package, PackageKind, RelPath, Row, Seq, Text};
+use cv_base::{Digest, Finding, NoMemory, Row, Seq, Text};
 use cv_findings::rows;
 use cv_match::in_order;
+use sample_data::debian_package;
 use std::alloc::Global;
 use std::test::Fail;
 
@@ -29,25 +30,11 @@ Changed X-2 3
 Added X-4 2
 ";
 
-/// Version 1 of a package of Debian 12, which is its own source.
-fn package(alloc: Global, name: &str) -> Result<Package, Fail> {
-    Ok(Package {
-        kind: PackageKind::Deb,
-        path: RelPath::read(alloc, "var/lib/dpkg/status")?,
-        name: Text::of(alloc, name)?,
-        version: Text::of(alloc, "1")?,
-        source: Text::of(alloc, name)?,
-        source_version: Text::of(alloc, "1")?,
-        arch: Text::of(alloc, "amd64")?,
-        ecosystem: Text::of(alloc, "Debian:12")?,
-    })
-}
-
 /// A finding of the feed `deb`.
 fn finding(alloc: Global, row: &FindingRow) -> Result<Finding, Fail> {
     let (name, advisory, fixed) = *row;
     Ok(Finding {
-        package: package(alloc, name)?,
+        package: debian_package(alloc, name)?,
         feed: Text::of(alloc, "deb")?,
         advisory: Text::of(alloc, advisory)?,
         fixed: Some(Text::of(alloc, fixed)?),

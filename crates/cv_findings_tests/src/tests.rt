@@ -2,28 +2,15 @@ ghost use Rattle.std.specs.Prelude.{◌≡◌, ◌<◌};
 
 use cv_advdb::Feeds;
 use cv_base::{
-    Advisory, Affected, Finding, NoMemory, Package, PackageKind, PackageName, Range, RangeKind,
-    RelPath, Seq, Steps, Text, Turn,
+    Advisory, Affected, Finding, NoMemory, Package, PackageName, Range, RangeKind, Seq, Steps,
+    Text, Turn,
 };
 use cv_findings::match_all;
+use sample_data::debian_package;
 use std::alloc::Global;
 use std::marker::Brand;
 use std::sync::ledger::{Blank, Ledger};
 use std::test::Fail;
-
-/// Version 1 of a package of Debian 12, which is its own source.
-fn package(alloc: Global, name: &str) -> Result<Package, Fail> {
-    Ok(Package {
-        kind: PackageKind::Deb,
-        path: RelPath::read(alloc, "var/lib/dpkg/status")?,
-        name: Text::of(alloc, name)?,
-        version: Text::of(alloc, "1")?,
-        source: Text::of(alloc, name)?,
-        source_version: Text::of(alloc, "1")?,
-        arch: Text::of(alloc, "amd64")?,
-        ecosystem: Text::of(alloc, "Debian:12")?,
-    })
-}
 
 /// All versions before 2.
 fn range(alloc: Global) -> Result<Range, NoMemory> {
@@ -103,7 +90,10 @@ fn matched(alloc: Global, packages: &[Package], feeds: &Feeds) -> Result<Seq<Fin
 
 /// The findings of zlib and curl, each with its package, its feed and its advisory.
 fn findings(alloc: Global) -> Result<String, Fail> {
-    let installed = vec![in alloc; package(alloc, "zlib")?, package(alloc, "curl")?]?;
+    let installed = vec![in alloc;
+        debian_package(alloc, "zlib")?,
+        debian_package(alloc, "curl")?,
+    ]?;
     let feeds = feeds(alloc)?;
     let found = matched(alloc, &installed, &feeds)?;
     let mut names = String::new(alloc);

@@ -1,18 +1,20 @@
-ghost use Rattle.std.specs.Prelude.{◌≡◌, ◌≤◌, IfOk, Ok};
+ghost use Rattle.std.specs.Prelude.{◌≡◌};
 ghost use Rattle.cv_seq.specs.Cause.{CausedBy};
 ghost use Rattle.cv_desk.specs.Fault.{is_failed};
+ghost use Rattle.cv_folder_desk.specs.code.Walked.{desk_answer, failure_after, faults_after};
 
 use crate::failure::{FolderError, FolderFailure};
 use crate::walk::{list_folder, read_file};
 use cv_base::{Digest, ListEntry, RelPath};
-use cv_desk::{Desk, DeskFault, FileRead};
+use cv_desk::{Desk, DeskFault, ReadResult};
 use cv_seq::Seq;
 use std::alloc::Global;
 use std::rt::Files;
 
 /// Real folders below `./layers`: the layer of a digest is the folder `layers/sha256/<64 digits>`. No tree is known. A folder
-/// that does not exist is no layer, and a link is neither followed nor read. Whatever else keeps a listing or a read from its
-/// end is a fault, as a name that is not UTF-8 or a file that is gone. The last failure is kept with its path.
+/// that does not exist is no layer. A link is listed as `Other` and is not read; the system follows links among the folders on the
+/// way to a file. Any other failure but running out of memory is a fault, as a name that is not UTF-8 or a file that is gone. The last
+/// failure is kept with its path.
 #[derive(Drop)]
 pub struct FolderDesk<R: Files + AllocGlobal + Clone + Drop> {
     rt: R,
@@ -43,9 +45,11 @@ impl<R: Files + AllocGlobal + Clone + Drop> FolderDesk<R> {
         self.last_failure.as_ref()
     }
 
-    /// Counts a failure, and keeps it.
+    /// The desk's answer. A failure is counted and kept.
     fn counted<X>(&mut self, found: Result<X, FolderError>) -> Result<X, DeskFault>
-        ensures ok { IfOk result (λ x. found ≡ Ok x) }
+        ensures answer { result ≡ desk_answer found }
+        ensures faults { self.new.faults ≡ faults_after self.old.faults found }
+        ensures failure { self.new.last_failure ≡ failure_after self.old.last_failure found }
         ensures cause { CausedBy self.old.faults self.new.faults (is_failed result) }
         ensures listings { self.new.listings ≡ self.old.listings }
         ensures reads { self.new.reads ≡ self.old.reads }
@@ -75,19 +79,15 @@ impl<R: Files + AllocGlobal + Clone + Drop> Desk for FolderDesk<R> {
 
     ghost distinct = { λ d. tt };
 
+    ghost paths = { λ d. tt };
+
     fn list(&mut self, alloc: Global, layer: &Digest) -> Result<Option<Seq<ListEntry>>, DeskFault> {
         self.listings += 1;
         let found = list_folder(&self.rt, alloc, layer);
         self.counted(found)
     }
 
-    fn read(
-        &mut self,
-        alloc: Global,
-        layer: &Digest,
-        path: &RelPath,
-        limit: u32,
-    ) -> Result<FileRead, DeskFault> {
+    fn read(&mut self, alloc: Global, layer: &Digest, path: &RelPath, limit: u32) -> ReadResult {
         self.reads = self.reads.saturating_add(1);
         let found = read_file(&self.rt, alloc, layer, path, limit);
         self.counted(found)

@@ -1,9 +1,8 @@
 ghost use Rattle.std.specs.Prelude.{◌≡◌, ◌≢◌, ◌≤◌, ◌<◌, ◌+◌, ◌++◌, ◌∷◌, [], true, false, is_some, length, string_bytes, IfOk, IfErr, IfSome, IsErr, OnOk, Ok, Some, None};
 ghost use Rattle.std.specs.Fs.{IsDir, IsFile, dir_entry_name, file_type, metadata_len};
-ghost use Rattle.std.specs.List.{join_with_byte};
 ghost use Rattle.std.specs.List.Sorted.{IsPermutation, IsSortedByKey};
 ghost use Rattle.std.specs.IoError.{error_kind};
-ghost use Rattle.cv_base.specs.Path.{path_cmp, path_of};
+ghost use Rattle.cv_base.specs.Path.{path_cmp, path_of, path_text};
 ghost use Rattle.cv_folder_desk.specs.Folder.{folder_text, most_entries};
 ghost use Rattle.cv_desk.specs.Stored.{File, file_read};
 ghost use Rattle.cv_folder_desk.specs.code.Walked.{IsWithin, is_failure, joined};
@@ -114,7 +113,7 @@ fn walk<R: Files + AllocGlobal + Clone + Drop>(
     Ok(entries)
 }
 
-/// Lists folders and the folders in them, until none remains or the walk has all the entries that it may have.
+/// Lists folders and the folders in them, until none remains or the walk has as many entries as it may have.
 fn list_all<R: Files + AllocGlobal + Clone + Drop>(
     rt: &R,
     alloc: Global,
@@ -122,7 +121,7 @@ fn list_all<R: Files + AllocGlobal + Clone + Drop>(
     entries: &mut Vec<ListEntry>,
     folders: &mut Vec<RelPath>,
 ) -> Result<(), FolderError>
-    requires within { length entries.old.items ≤ most_entries }
+    requires room { length entries.old.items < most_entries }
     ensures at_most { OnOk result (length entries.new.items ≤ most_entries) }
     ensures whole { OnOk result (length entries.new.items < most_entries → folders.new.items ≡ []) }
 {
@@ -134,8 +133,8 @@ fn list_all<R: Files + AllocGlobal + Clone + Drop>(
     Ok(())
 }
 
-/// Adds the entries right in one folder of a layer, and its folders to those that remain to be listed. Returns whether all were
-/// added; else the walk has all the entries that it may have.
+/// Adds the entries directly in one folder of a layer, and its folders to those that remain to be listed. Returns whether the walk goes
+/// on; else it has as many entries as it may have.
 fn list_one<R: Files + AllocGlobal + Clone + Drop>(
     rt: &R,
     alloc: Global,
@@ -144,18 +143,19 @@ fn list_one<R: Files + AllocGlobal + Clone + Drop>(
     entries: &mut Vec<ListEntry>,
     folders: &mut Vec<RelPath>,
 ) -> Result<bool, FolderError>
-    requires within { length entries.old.items ≤ most_entries }
+    requires room { length entries.old.items < most_entries }
     ensures at_most { OnOk result (length entries.new.items ≤ most_entries) }
     ensures more { OnOk result (length entries.old.items ≤ length entries.new.items) }
     ensures folders { OnOk result (length folders.new.items + length entries.old.items ≤ length folders.old.items + length entries.new.items) }
-    ensures full { IfOk result (λ whole. whole ≡ false → length entries.new.items ≡ most_entries) }
+    ensures full { IfOk result (λ goes_on. goes_on ≡ false → length entries.new.items ≡ most_entries) }
+    ensures room { IfOk result (λ goes_on. goes_on ≡ true → length entries.new.items < most_entries) }
 {
     let place = joined(alloc, folder, path.text())?;
     let found = fs::read_dir(rt, place.as_str());
     add_found(alloc, place.as_str(), path, found, entries, folders)
 }
 
-/// The same, by the system's answer about the folder at `place`.
+/// Adds the entries that the system found in the folder at `place`, which is `path` in the layer, as `list_one` does.
 fn add_found<R: Files + Clone + Drop>(
     alloc: Global,
     place: &str,
@@ -164,19 +164,20 @@ fn add_found<R: Files + Clone + Drop>(
     entries: &mut Vec<ListEntry>,
     folders: &mut Vec<RelPath>,
 ) -> Result<bool, FolderError>
-    requires within { length entries.old.items ≤ most_entries }
+    requires room { length entries.old.items < most_entries }
     ensures error { IfErr found (λ error. IsErr result) }
     ensures at_most { OnOk result (length entries.new.items ≤ most_entries) }
     ensures more { OnOk result (length entries.old.items ≤ length entries.new.items) }
     ensures folders { OnOk result (length folders.new.items + length entries.old.items ≤ length folders.old.items + length entries.new.items) }
-    ensures full { IfOk result (λ whole. whole ≡ false → length entries.new.items ≡ most_entries) }
+    ensures full { IfOk result (λ goes_on. goes_on ≡ false → length entries.new.items ≡ most_entries) }
+    ensures room { IfOk result (λ goes_on. goes_on ≡ true → length entries.new.items < most_entries) }
 {
     for entry in answer_at(alloc, place, found)? {
+        let entry = read_entry(alloc, place, path, entry)?;
+        add(entries, folders, entry)?;
         if entries.len() >= MOST_ENTRIES {
             return Ok(false);
         }
-        let entry = read_entry(alloc, place, path, entry)?;
-        add(entries, folders, entry)?;
     }
     Ok(true)
 }
@@ -200,31 +201,37 @@ fn add(
     Ok(())
 }
 
-/// The entry of a layer at what the system found in the folder at a path of the layer. `place` names the folder in a failure.
+/// The layer's entry for what the system found in the folder at `path`. `place` names the folder in a failure.
 fn read_entry<R: Files + Drop>(
     alloc: Global,
     place: &str,
     path: &RelPath,
     found: io::Result<DirEntry<R>>,
 ) -> Result<ListEntry, FolderError>
-    ensures path { IfOk found (λ entry. IfOk result (λ listed. path_of (joined (join_with_byte 47 path.now) (dir_entry_name entry)) ≡ Ok listed.path)) }
+    ensures path { IfOk found (λ entry. IfOk result (λ listed. path_of (joined (path_text path.now) (dir_entry_name entry)) ≡ Ok listed.path)) }
     ensures error { IfErr found (λ error. IsErr result) }
 {
     let entry = answer_at(alloc, place, found)?;
     let name = joined(alloc, path.text(), entry.file_name())?;
-    let place = entry.path().as_str();
-    let at = answer_at(alloc, place, entry.metadata())?;
-    listed(alloc, place, name.as_str(), &at)
+    let found = entry.metadata();
+    listed(alloc, entry.path().as_str(), name.as_str(), found)
 }
 
-/// The entry at a path of a layer, by the system's metadata. `place` names it in a failure.
-fn listed(alloc: Global, place: &str, name: &str, at: &Metadata) -> Result<ListEntry, FolderError>
+/// The entry at a path of a layer, by the system's answer about it. `place` names it in a failure.
+fn listed(
+    alloc: Global,
+    place: &str,
+    name: &str,
+    found: io::Result<Metadata>,
+) -> Result<ListEntry, FolderError>
+    ensures error { IfErr found (λ error. IsErr result) }
     ensures path { IfOk result (λ entry. path_of name.now ≡ Ok entry.path) }
-    ensures dir { IfOk result (λ entry. IsDir (file_type at.now) → (entry.kind ≡ Kind.Dir) × (entry.size ≡ 0)) }
-    ensures file { IfOk result (λ entry. IsFile (file_type at.now) → (entry.kind ≡ Kind.File) × (entry.size ≡ metadata_len at.now)) }
-    ensures other { IfOk result (λ entry. ¬ IsDir (file_type at.now) → ¬ IsFile (file_type at.now) → (entry.kind ≡ Kind.Other) × (entry.size ≡ 0)) }
-    ensures refused { IfErr result (λ error. is_failure error ≡ true → IsErr (path_of name.now)) }
+    ensures dir { IfOk found (λ at. IfOk result (λ entry. IsDir (file_type at) → (entry.kind ≡ Kind.Dir) × (entry.size ≡ 0))) }
+    ensures file { IfOk found (λ at. IfOk result (λ entry. IsFile (file_type at) → (entry.kind ≡ Kind.File) × (entry.size ≡ metadata_len at))) }
+    ensures other { IfOk found (λ at. IfOk result (λ entry. ¬ IsDir (file_type at) → ¬ IsFile (file_type at) → (entry.kind ≡ Kind.Other) × (entry.size ≡ 0))) }
+    ensures refused { IfOk found (λ at. IfErr result (λ error. is_failure error ≡ true → IsErr (path_of name.now))) }
 {
+    let metadata = answer_at(alloc, place, found)?;
     let path = match RelPath::read(alloc, name) {
         Ok(path) => path,
         Err(PathError::NoMemory) => return Err(FolderError::NoMemory),
@@ -233,10 +240,10 @@ fn listed(alloc: Global, place: &str, name: &str, at: &Metadata) -> Result<ListE
             return Err(failure(alloc, place, reason));
         }
     };
-    let (kind, size) = if at.is_dir() {
+    let (kind, size) = if metadata.is_dir() {
         (Kind::Dir, 0)
-    } else if at.is_file() {
-        (Kind::File, at.len())
+    } else if metadata.is_file() {
+        (Kind::File, metadata.len())
     } else {
         (Kind::Other, 0)
     };
@@ -255,16 +262,32 @@ pub fn read_file<R: Files + AllocGlobal + Clone + Drop>(
 {
     let place = place_of(alloc, layer, path)?;
     let found = rt.symlink_metadata(place.as_str());
-    if let Some(refused) = refused(alloc, place.as_str(), found, limit)? {
+    read_at(rt, alloc, place.as_str(), found, limit)
+}
+
+/// Reads the file at `place`, by the system's answer about it, if it has at most `limit` bytes.
+fn read_at<R: Files + AllocGlobal + Clone + Drop>(
+    rt: &R,
+    alloc: Global,
+    place: &str,
+    found: io::Result<Metadata>,
+    limit: u32,
+) -> Result<FileRead, FolderError>
+    ensures error { IfErr found (λ error. IsErr result) }
+    ensures not_file { IfOk found (λ at. ¬ IsFile (file_type at) → result ≡ Ok FileRead.NotFile) }
+    ensures too_large { IfOk found (λ at. IsFile (file_type at) → limit < metadata_len at → result ≡ Ok FileRead.TooLarge) }
+    ensures within { IfOk result (λ read. IsWithin limit read) }
+{
+    if let Some(refused) = refused(alloc, place, found, limit)? {
         return Ok(refused);
     }
-    let found = fs::read(rt, place.as_str());
-    read_found(alloc, place.as_str(), found, limit)
+    let found = fs::read(rt, place);
+    read_found(alloc, place, found, limit)
 }
 
 /// The path of a layer's entry below the working directory.
 fn place_of(alloc: Global, layer: &Digest, path: &RelPath) -> Result<String, NoMemory>
-    ensures { IfOk result (λ place. string_bytes place ≡ joined (folder_text layer.now) (join_with_byte 47 path.now)) }
+    ensures { IfOk result (λ place. string_bytes place ≡ joined (folder_text layer.now) (path_text path.now)) }
 {
     let folder = folder_of(alloc, layer)?;
     joined(alloc, folder.as_str(), path.text())
@@ -322,7 +345,7 @@ fn joined(alloc: Global, front: &str, back: &str) -> Result<String, NoMemory>
     Ok(path)
 }
 
-/// What the system answered about a path, or the error that its error makes.
+/// The system's answer about a path, with its error made one of this crate.
 fn answer_at<X>(alloc: Global, path: &str, found: io::Result<X>) -> Result<X, FolderError>
     ensures ok { IfOk found (λ x. result ≡ Ok x) }
     ensures error { IfErr found (λ error. IsErr result) }

@@ -190,7 +190,7 @@ fn learned<L: Identity, W: Wait>(
     seat.seen().len()
 }
 
-/// The entries that all seats take, of which there are `count`.
+/// The entries that all seats take; there are `count` seats.
 fn taken<L: Identity, W: Wait>(
     rt: &W,
     hub: &mut Hub<SampleDesk, L>,

@@ -1,7 +1,8 @@
 -- The places of layers among facts.
-use Rattle.std.specs.Prelude.{◌≡◌, ℕ, ◌<◌, ◌≤◌, Bool, true, false, not, filter, cond, List, [], ◌∷◌, All, length, map, slice_index_or, refl}
+use Rattle.std.specs.Prelude.{◌≡◌, ℕ, ◌<◌, ◌≤◌, Bool, true, false, not, filter, cond, List, [], ◌∷◌, All, length, map, slice_index_or}
 use Rattle.std.proofs.Common.{zero, suc, ap, arith, get_or, subst, sym, ◌∙◌}
 use Rattle.std.proofs.lemmas.List.Elements.{All-from_recursion}
+use Rattle.std.proofs.lemmas.List.{length-map}
 use Rattle.cv_base.specs.Texts.{has_text, same}
 use Rattle.cv_facts.specs.Reduction.{Known}
 use Rattle.cv_layers.specs.Distinct.{distinct}
@@ -33,14 +34,10 @@ at_most_distinct (layer ∷ layers) =
     let two = at_most_distinct layers in
     omega (arith, one, two)
 
-count_map : {A B : Type 0} (f : A → B) (xs : List A) → length (map f xs) ≡ length xs
-count_map f [] = refl
-count_map f (x ∷ xs) = ap suc (count_map f xs)
-
 -- there are no more facts than layers
 pub at_most_facts : (facts : List Known) (layers : List (List ℕ)) (n : ℕ) → map (λ (f : Known). f.digest) facts ≡ distinct layers → length layers ≤ n → length facts ≤ n
 at_most_facts facts layers n h k =
-    let one = count_map (λ (f : Known). f.digest) facts in
+    let one = length-map facts (λ (f : Known). f.digest) in
     let two : length (map (λ (f : Known). f.digest) facts) ≡ length (distinct layers) = ap length h in
     let three = at_most_distinct layers in
     omega (arith, k, one, two, three)

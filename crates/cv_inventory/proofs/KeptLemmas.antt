@@ -19,15 +19,14 @@ use Rattle.cv_machine.specs.Rows.{rows_of as machine_rows}
 use Rattle.cv_machine.specs.Scans.{IsKnown, trees_of}
 use Rattle.cv_machine.specs.State.{Images, State, value_at, with_value, without_value}
 use Rattle.cv_machine.specs.Step.{is_full}
-use Rattle.cv_machine.proofs.Consistent.{feeds_within_limit}
-use Rattle.cv_machine.proofs.LayerTables.{value_put}
+use Rattle.cv_machine.proofs.Consistent.{put_within_limit}
+use Rattle.cv_machine.proofs.LayerTables.{value_put, value_cut}
 use Rattle.cv_outcome.specs.Outcome.{FactTable, outcome_at}
 use Rattle.cv_outcome.specs.Truth.{AreFactsOf, report_with}
 use Rattle.cv_outcome.specs.Update.{rematched, update_rows}
 use Rattle.cv_outcome.specs.declared.outcome.Outcome.{Outcome}
 use Rattle.cv_outcome.proofs.TruthLemmas.{all_rematched, board_is, report_is, rows_machine}
 use Rattle.cv_registry.specs.Registrations.{IsRegular as IsRegularRegistry, Registrations}
-use Rattle.cv_registry.proofs.UserLemmas.{value_cut}
 use Rattle.cv_tree.specs.Entries.{map_values, remade_entries, rows_of}
 use Rattle.cv_tree.proofs.ValueLemmas.{mapped_at, mapped_with, mapped_without}
 use Rattle.cv_knowledge.specs.Changes.{feeds_replaced, image_added, image_dropped, layer_indexed}
@@ -64,8 +63,8 @@ pub kept_none : (trees : List ℕ → Option (Option (List Stored))) (r : Regist
 kept_none trees r k images feeds a b = rw (a, b) record {
   right = record { indexed = λ q. refl; own = λ q known is. absurd (cc is); right = λ q known is. absurd (cc is) };
   made = refl;
-  few_feeds = omega arith;
-  few_layers = λ q layers is. absurd (cc is);
+  feeds_within_limit = omega arith;
+  at_most_128_layers = λ q layers is. absurd (cc is);
 }
 
 -- an equal inventory
@@ -77,8 +76,8 @@ alike : (trees : List ℕ → Option (Option (List Stored))) (r after : Registra
 alike trees r after k kept a = record {
   right = record { indexed = λ q. kept.right.indexed q ∙ sym (a.indexed q); own = kept.right.own; right = kept.right.right };
   made = kept.made ∙ ap (λ (images : Images). map_values (outcome_at k.facts k.feeds.feeds) images) (sym a.images);
-  few_feeds = kept.few_feeds;
-  few_layers = λ q layers is. kept.few_layers q layers (ap (λ (images : Images). value_at images q) (sym a.images) ∙ is);
+  feeds_within_limit = kept.feeds_within_limit;
+  at_most_128_layers = λ q layers is. kept.at_most_128_layers q layers (ap (λ (images : Images). value_at images q) (sym a.images) ∙ is);
 }
 
 pub kept_alike : (trees : List ℕ → Option (Option (List Stored))) (r after : Registrations) (k next : KnowledgeView) (now : Holdings) → IsKept trees r k
@@ -88,10 +87,10 @@ kept_alike trees r after k next now kept was a b =
 
 -- Register
 
-few_put : (b : Bool) (found : Option (List (List ℕ))) (names layers : List (List ℕ)) → length names ≤ MAX_LAYERS → (found ≡ Some layers → length layers ≤ MAX_LAYERS)
+put_at_most_128 : (b : Bool) (found : Option (List (List ℕ))) (names layers : List (List ℕ)) → length names ≤ MAX_LAYERS → (found ≡ Some layers → length layers ≤ MAX_LAYERS)
     → cond b (Some names) found ≡ Some layers → length layers ≤ MAX_LAYERS
-few_put true found names layers few rest is = subst (λ (ls : List (List ℕ)). length ls ≤ MAX_LAYERS) (same_Some names layers is) few
-few_put false found names layers few rest is = rest is
+put_at_most_128 true found names layers few rest is = subst (λ (ls : List (List ℕ)). length ls ≤ MAX_LAYERS) (same_Some names layers is) few
+put_at_most_128 false found names layers few rest is = rest is
 
 added : (trees : List ℕ → Option (Option (List Stored))) (r : Registrations) (k : KnowledgeView) (image : List ℕ) (names : List (List ℕ)) → IsKept trees r k
     → length names ≤ MAX_LAYERS → IsKept trees (with_image r image names) (image_added k image names)
@@ -100,9 +99,9 @@ added trees r k image names kept few = record {
   made =
       ap (λ (o : Outcomes). with_value o image (outcome_at k.facts k.feeds.feeds names)) kept.made
       ∙ sym (mapped_with text_cmp (outcome_at k.facts k.feeds.feeds) r.images image names);
-  few_feeds = kept.few_feeds;
-  few_layers = λ q layers is.
-      few_put (same image q) (value_at r.images q) names layers few (kept.few_layers q layers) (sym (value_put r.images image names q) ∙ is);
+  feeds_within_limit = kept.feeds_within_limit;
+  at_most_128_layers = λ q layers is.
+      put_at_most_128 (same image q) (value_at r.images q) names layers few (kept.at_most_128_layers q layers) (sym (value_put r.images image names q) ∙ is);
 }
 
 pub kept_added : (trees : List ℕ → Option (Option (List Stored))) (r after : Registrations) (k next : KnowledgeView) (now : Holdings) (image : List ℕ) (layers names : List (List ℕ))
@@ -128,9 +127,9 @@ dropped trees r k image names kept regular ascends =
       made =
           ap (λ (o : Outcomes). without_value o image) kept.made ∙ sym (mapped_without text_cmp (outcome_at k.facts k.feeds.feeds) r.images image)
           ∙ remaining_known trees r.layers k.facts k.feeds.feeds names others kept.right regular.layers ascends;
-      few_feeds = kept.few_feeds;
-      few_layers = λ q layers is.
-          kept.few_layers q layers (found_before (same image q) (value_at r.images q) layers (sym (value_cut r.images image q regular.images) ∙ is));
+      feeds_within_limit = kept.feeds_within_limit;
+      at_most_128_layers = λ q layers is.
+          kept.at_most_128_layers q layers (found_before (same image q) (value_at r.images q) layers (sym (value_cut r.images image q regular.images) ∙ is));
     }
 
 pub kept_dropped : (trees : List ℕ → Option (Option (List Stored))) (r after : Registrations) (k next : KnowledgeView) (now : Holdings) (image : List ℕ) (names : List (List ℕ))
@@ -150,8 +149,8 @@ entered trees r after k known kept regular h right =
     (record {
       right = facts_entered trees r.layers k.facts known.digest known kept.right refl right;
       made = all_known k.facts known.digest known k.feeds.feeds r.images k.outcomes regular.images (kept.right.indexed known.digest ∙ h.new) kept.made;
-      few_feeds = kept.few_feeds;
-      few_layers = kept.few_layers;
+      feeds_within_limit = kept.feeds_within_limit;
+      at_most_128_layers = kept.at_most_128_layers;
     })
 
 pub kept_entered : (trees : List ℕ → Option (Option (List Stored))) (r after : Registrations) (k next : KnowledgeView) (now : Holdings) (known : Known) → IsKept trees r k
@@ -168,8 +167,8 @@ updated : (trees : List ℕ → Option (Option (List Stored))) (r : Registration
 updated trees r k feeds kept few = record {
   right = kept.right;
   made = ap (λ (o : Outcomes). remade_entries (λ _. rematched feeds.feeds) o) kept.made ∙ all_rematched k.facts k.feeds.feeds feeds.feeds r.images;
-  few_feeds = few;
-  few_layers = kept.few_layers;
+  feeds_within_limit = few;
+  at_most_128_layers = kept.at_most_128_layers;
 }
 
 pub kept_updated : (trees : List ℕ → Option (Option (List Stored))) (r s : Registrations) (k next : KnowledgeView) (feeds : FeedTable) → IsKept trees r k → s ≡ r
@@ -177,10 +176,10 @@ pub kept_updated : (trees : List ℕ → Option (Option (List Stored))) (r s : R
 kept_updated trees r s k next feeds kept a b few = kept_copy trees r s (feeds_replaced k feeds) next (updated trees r k feeds kept few) a b
 
 -- the feeds after an update, where there is room for them
-pub few_replaced : (now : Holdings) (feed : List ℕ) (records : List Advisory) (after : FeedTable) → IsRegular now → is_full (alone now) feed ≡ false
+pub replaced_within_limit : (now : Holdings) (feed : List ℕ) (records : List Advisory) (after : FeedTable) → IsRegular now → is_full (alone now) feed ≡ false
     → after ≡ replaced (feed_table now) feed records → length after.feeds ≤ after.limit
-few_replaced now feed records after h room is =
-    subst (λ (t : FeedTable). length t.feeds ≤ t.limit) (sym is) (feeds_within_limit (alone now) feed (by_id records) h room)
+replaced_within_limit now feed records after h room is =
+    subst (λ (t : FeedTable). length t.feeds ≤ t.limit) (sym is) (put_within_limit (alone now) feed (by_id records) h room)
 
 -- the rows that an update adds are those of the machine
 pub rows_kept : (tree : List ℕ → Option (Option (List Stored))) (r : Registrations) (k : KnowledgeView) (now : Holdings) (feeds : FeedTable) (rows : List Row) (state : State)
@@ -199,8 +198,8 @@ regular_holdings trees r k now kept was h sorted = subst IsRegular was (record {
   feeds = sorted;
   notifications = h.notifications;
   numbers = h.numbers;
-  few_images = h.few_images;
-  few_feeds = kept.few_feeds;
+  images_within_limit = h.images_within_limit;
+  feeds_within_limit = kept.feeds_within_limit;
   table = h.table;
 })
 

@@ -6,6 +6,7 @@ use Rattle.std.specs.Map.{keys_of}
 use Rattle.std.proofs.Common.{ap, subst, sym, ◌∙◌}
 use Rattle.cv_base.specs.Texts.{same}
 use Rattle.cv_base.specs.declared.manifest.Manifest.{Manifest}
+use Rattle.cv_base.proofs.Same.{same_is}
 use Rattle.cv_advdb.specs.Feeds.{FeedTable}
 use Rattle.cv_match.specs.Findings.{text_cmp}
 use Rattle.cv_records.specs.declared.reply.Reply.{Reply}
@@ -15,9 +16,8 @@ use Rattle.cv_machine.specs.State.{State, opening, value_at, with_value, without
 use Rattle.cv_machine.specs.Step.{claim, claim_at, drop_at, drop_image, entered, finish, register, register_at}
 use Rattle.cv_machine.specs.declared.status.Status.{Status}
 use Rattle.cv_machine.specs.declared.status.Status.TheVariants as status
-use Rattle.cv_machine.proofs.LayerTables.{same_key, value_put}
+use Rattle.cv_machine.proofs.LayerTables.{value_put, value_cut}
 use Rattle.cv_registry.specs.Registrations.{Leads as LeadsRegistry, Registrations, alone}
-use Rattle.cv_registry.proofs.UserLemmas.{value_cut}
 use Rattle.cv_inventory.specs.Holdings.{Holdings, Leads, feed_table}
 use Rattle.cv_inventory.specs.code.Kept.{HasEntered, IsAlike, holdings_of, with_image, without_image}
 use Rattle.cv_inventory.specs.code.Replies.{is_entered, is_registered}
@@ -111,7 +111,7 @@ alike_put r layer next h = record {
   indexed = λ q. ap is_indexed_as (value_put r.layers layer next q) ∙ by_test q (same layer q) refl;
 } where
   by_test : (q : List ℕ) (b : Bool) → same layer q ≡ b → is_indexed_as (cond b (Some next) (value_at r.layers q)) ≡ is_indexed_as (value_at r.layers q)
-  by_test q true key = h ∙ ap (λ k. is_indexed_as (value_at r.layers k)) (same_key layer q key)
+  by_test q true key = h ∙ ap (λ k. is_indexed_as (value_at r.layers k)) (same_is layer q key)
   by_test q false key = refl
 
 -- a layer that is not Indexed goes
@@ -123,7 +123,7 @@ alike_cut r layer sorted h = record {
   indexed = λ q. ap is_indexed_as (value_cut r.layers layer q sorted) ∙ by_test q (same layer q) refl;
 } where
   by_test : (q : List ℕ) (b : Bool) → same layer q ≡ b → is_indexed_as (cond b None (value_at r.layers q)) ≡ is_indexed_as (value_at r.layers q)
-  by_test q true key = sym h ∙ ap (λ k. is_indexed_as (value_at r.layers k)) (same_key layer q key)
+  by_test q true key = sym h ∙ ap (λ k. is_indexed_as (value_at r.layers k)) (same_is layer q key)
   by_test q false key = refl
 
 claims : (r after : Registrations) (layer : List ℕ) (worker : ℕ) (found : Option Status) → value_at r.layers layer ≡ found

@@ -2,7 +2,7 @@
 use Rattle.std.proofs.Common.{◌≡◌, ℕ, suc, ◌+◌, ◌-◌, ◌<◌, ◌≤◌, List, [], ◌∷◌, ◌++◌, length, take, refl, sym, ◌∙◌, ap, subst, arith, length-append, inl, inr, Bool, true, false}
 use Rattle.std.specs.Prelude.{nat_lt, nat_le}
 use Rattle.std.specs.List.{slice_split, onto_first}
-use Rattle.std.proofs.lemmas.Bool.{cases_lt}
+use Rattle.std.proofs.lemmas.Bool.{cases_lt, lt-leb, le-ltb, lt-ltb, le-leb}
 use Rattle.std.proofs.lemmas.Bool.Decides.{nat_tests}
 use Rattle.std.proofs.lemmas.List.{take_at, take_all}
 use Rattle.std.proofs.Math.Seq.{take-append-add}
@@ -60,24 +60,12 @@ lines_of-last piece h some = ap lines_from (slice_split_none is_line_end piece h
 
 -- ---- readings
 
-nat_lt-no : (m n : ℕ) → n ≤ m → nat_lt m n ≡ false
-nat_lt-no m n h = grind (arith, nat_tests)
-
-nat_lt-yes : (m n : ℕ) → m < n → nat_lt m n ≡ true
-nat_lt-yes m n h = grind (arith, nat_tests)
-
-nat_le-no : (m n : ℕ) → n < m → nat_le m n ≡ false
-nat_le-no m n h = grind (arith, nat_tests)
-
-pub nat_le-yes : (m n : ℕ) → m ≤ n → nat_le m n ≡ true
-nat_le-yes m n h = grind (arith, nat_tests)
-
 -- the same comparison of two numbers that are both larger by k
 nat_le-alike : (a b m n k : ℕ) → a ≡ k + m → b ≡ k + n → nat_le a b ≡ nat_le m n
 nat_le-alike a b m n k e f =
     elim (cases_lt n m) [
-      | inl h ↦ nat_le-no a b (omega arith) ∙ sym (nat_le-no m n h)
-      | inr h ↦ nat_le-yes a b (omega arith) ∙ sym (nat_le-yes m n h)
+      | inl h ↦ lt-leb a b (omega arith) ∙ sym (lt-leb m n h)
+      | inr h ↦ le-leb a b (omega arith) ∙ sym (le-leb m n h)
     ]
 
 -- a line that is short enough, and then the reading of the rest
@@ -85,17 +73,17 @@ reading_from-cons : (max_line : ℕ) (is_cut : Bool) (piece ys : List ℕ) → l
     → reading_from max_line is_cut (piece ∷ slice_split is_line_end ys) ≡ line_then (text_of piece) (reading_from max_line is_cut (slice_split is_line_end ys))
 reading_from-cons max_line is_cut piece ys h p =
     subst (λ (ps : List (List ℕ)). reading_from max_line is_cut (piece ∷ ps) ≡ line_then (text_of piece) (reading_from max_line is_cut ps)) (sym p.are)
-    (rw (nat_lt-no max_line (length piece) h) refl)
+    (rw (le-ltb max_line (length piece) h) refl)
 
 reading_from-last : (max_line : ℕ) (piece : List ℕ) → length piece ≤ max_line → reading_from max_line false (piece ∷ []) ≡ record { lines = last_lines piece; stop = Finished }
-reading_from-last max_line piece h = rw (nat_lt-no max_line (length piece) h) refl
+reading_from-last max_line piece h = rw (le-ltb max_line (length piece) h) refl
 
 reading_from-cut : (max_line : ℕ) (piece : List ℕ) → length piece ≤ max_line → reading_from max_line true (piece ∷ []) ≡ stopped LongInput
-reading_from-cut max_line piece h = rw (nat_lt-no max_line (length piece) h) refl
+reading_from-cut max_line piece h = rw (le-ltb max_line (length piece) h) refl
 
 reading_from-long : (max_line : ℕ) (is_cut : Bool) (piece : List ℕ) (later : List (List ℕ)) → max_line < length piece → reading_from max_line is_cut (piece ∷ later) ≡ stopped LongLine
-reading_from-long max_line is_cut piece [] h = rw (nat_lt-yes max_line (length piece) h) refl
-reading_from-long max_line is_cut piece (next ∷ later) h = rw (nat_lt-yes max_line (length piece) h) refl
+reading_from-long max_line is_cut piece [] h = rw (lt-ltb max_line (length piece) h) refl
+reading_from-long max_line is_cut piece (next ∷ later) h = rw (lt-ltb max_line (length piece) h) refl
 
 pub reading_of-line : (max_line room : ℕ) (piece rest : List ℕ) → HasNoLineEnd piece → length piece ≤ max_line
     → reading_of max_line (length piece + 1 + room) (piece ++ LF ∷ rest) ≡ line_then (text_of piece) (reading_of max_line room rest)
@@ -114,7 +102,7 @@ reading_of-line max_line room piece rest h short =
 seen_last : (max_line room : ℕ) (piece : List ℕ) → HasNoLineEnd piece → length piece ≤ max_line → length piece < room → reading_of max_line room piece ≡ record { lines = last_lines piece; stop = Finished }
 unfolding reading_of
 seen_last max_line room piece h short fits =
-    (λ i. reading_from max_line (nat_le-no room (length piece) fits i) (slice_split is_line_end (take_all room piece (omega arith) i)))
+    (λ i. reading_from max_line (lt-leb room (length piece) fits i) (slice_split is_line_end (take_all room piece (omega arith) i)))
     ∙ ap (reading_from max_line false) (slice_split_none is_line_end piece h)
     ∙ reading_from-last max_line piece short
 
@@ -143,6 +131,6 @@ pub reading_of-long_input : (max_line room : ℕ) (front rest : List ℕ) → Ha
     → reading_of max_line room (front ++ rest) ≡ stopped LongInput
 unfolding reading_of
 reading_of-long_input max_line room front rest h short all =
-    (λ i. reading_from max_line (nat_le-yes room (length (front ++ rest)) (omega (arith, length-append front rest)) i) (slice_split is_line_end (take_at front rest room all i)))
+    (λ i. reading_from max_line (le-leb room (length (front ++ rest)) (omega (arith, length-append front rest)) i) (slice_split is_line_end (take_at front rest room all i)))
     ∙ ap (reading_from max_line true) (slice_split_none is_line_end front h)
     ∙ reading_from-cut max_line front short

@@ -2,9 +2,9 @@
 use Rattle.std.proofs.Common.{◌≡◌, ℕ, List, [], ◌∷◌, length, take, refl, sym, ◌∙◌, ap, subst, arith, take_all, inl, inr, Bool, true, false, cond}
 use Rattle.std.specs.Prelude.{nat_lt, nat_le}
 use Rattle.std.specs.List.{slice_split}
-use Rattle.std.proofs.lemmas.Bool.{cases_lt, false≢true}
+use Rattle.std.proofs.lemmas.Bool.{cases_lt, false≢true, le-leb}
 use Rattle.cv_io.specs.Lines.{is_line_end, text_of, last_lines, lines_from, lines_of, Reading, Finished, LongLine, LongInput, stopped, line_then, reading_from, reading_of}
-use Rattle.cv_io.proofs.Lines.{split_first, nat_le-yes}
+use Rattle.cv_io.proofs.Lines.{split_first}
 
 abbrev ends_with : List (List ℕ) → Reading
 ends_with lines = record { lines = lines; stop = Finished }
@@ -41,5 +41,5 @@ reading_finished max_line room bytes h =
     let all = over_split max_line (nat_le room (length bytes)) (take room bytes) h in
     elim (cases_lt (length bytes) room) [
       | inl less ↦ all.1 ∙ ap (λ v. lines_from (slice_split is_line_end v)) (take_all room bytes (omega arith))
-      | inr more ↦ absurd (false≢true (sym all.0 ∙ nat_le-yes room (length bytes) more))
+      | inr more ↦ absurd (false≢true (sym all.0 ∙ le-leb room (length bytes) more))
     ]

@@ -1,14 +1,8 @@
+ghost use Rattle.std.specs.Prelude.{◌≡◌};
+ghost use Rattle.cv_io.specs.declared.line.LineError.TheVariants as error;
+
 use cv_seq::{NoMemory, Seq};
 use thiserror::Error;
-
-/// What a reader of lines gives.
-#[derive(Debug, PartialEq, Eq, Drop)]
-pub enum Line {
-    /// A line, without its LF and the one CR before it.
-    Text(Seq<u8>),
-    /// The input ended, and each line of it was given.
-    End,
-}
 
 /// Why a line was not given. The reader is spent then.
 #[derive(Clone, Copy, Debug, PartialEq, Eq, Error)]
@@ -23,10 +17,16 @@ pub enum LineError {
     NoMemory,
 }
 
-impl From<NoMemory> for LineError {
-    ghost use Rattle.std.specs.Prelude.{◌≡◌};
-    ghost use Rattle.cv_io.specs.declared.line.LineError.TheVariants as error;
+/// What a reader of lines gives.
+#[derive(Debug, PartialEq, Eq, Drop)]
+pub enum Line {
+    /// A line, without its LF and the one CR before it.
+    Text(Seq<u8>),
+    /// The input ended, and each line of it was given.
+    End,
+}
 
+impl From<NoMemory> for LineError {
     ghost from_gives = { λ _ e. e ≡ error.NoMemory };
 
     fn from(_error: NoMemory) -> LineError {

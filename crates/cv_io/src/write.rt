@@ -3,6 +3,7 @@ ghost use Rattle.std.specs.Io.KnownBytes.{Appends};
 ghost use Rattle.cv_seq.specs.Cause.{CausedBy};
 ghost use Rattle.cv_io.specs.Fault.{is_write_fault};
 ghost use Rattle.cv_io.specs.Writes.{AppendsPrefix};
+ghost use Rattle.cv_io.specs.declared.write.WriteError.TheVariants as error;
 
 use crate::fault::IoFault;
 use crate::sink::Sink;
@@ -16,17 +17,6 @@ pub enum WriteError {
     WriteFault,
     #[error("out of memory")]
     NoMemory,
-}
-
-impl From<NoMemory> for WriteError {
-    ghost use Rattle.std.specs.Prelude.{◌≡◌};
-    ghost use Rattle.cv_io.specs.declared.write.WriteError.TheVariants as error;
-
-    ghost from_gives = { λ _ e. e ≡ error.NoMemory };
-
-    fn from(_error: NoMemory) -> WriteError {
-        WriteError::NoMemory
-    }
 }
 
 /// Appends all the bytes, whatever pieces the sink takes. After an `Err` it appended a front part of them.
@@ -45,4 +35,12 @@ pub fn write_all<K: Sink>(output: &mut K, bytes: &[u8]) -> Result<(), WriteError
         }
     }
     Ok(())
+}
+
+impl From<NoMemory> for WriteError {
+    ghost from_gives = { λ _ e. e ≡ error.NoMemory };
+
+    fn from(_error: NoMemory) -> WriteError {
+        WriteError::NoMemory
+    }
 }

@@ -6,7 +6,9 @@ use Rattle.std.specs.Map.{keys_of}
 use Rattle.std.specs.Option.{is_some}
 use Rattle.std.proofs.Common.{ap, subst, sym, ◌∙◌}
 use Rattle.std.proofs.lemmas.Option.{same_Some}
+use Rattle.std.proofs.lemmas.Bool.{or_left, or_right}
 use Rattle.cv_base.specs.Texts.{has_text, same}
+use Rattle.cv_base.proofs.Same.{same_is}
 use Rattle.cv_desk.specs.Stored.{Stored}
 use Rattle.cv_facts.specs.Reduction.{IsRight, Known}
 use Rattle.cv_match.specs.Findings.{text_cmp}
@@ -16,11 +18,10 @@ use Rattle.cv_machine.specs.Step.{entered, remaining}
 use Rattle.cv_machine.specs.declared.status.Status.{Status}
 use Rattle.cv_machine.specs.declared.status.Status.TheVariants as status
 use Rattle.cv_machine.proofs.Entries.{sorted_cut}
-use Rattle.cv_machine.proofs.LayerTables.{remaining_found, same_key, staying, value_put}
+use Rattle.cv_machine.proofs.LayerTables.{remaining_found, staying, value_put, value_cut}
 use Rattle.cv_outcome.specs.Outcome.{FactTable, outcome_at}
 use Rattle.cv_outcome.specs.Truth.{AreFactsOf}
 use Rattle.cv_outcome.proofs.FactLemmas.{agree}
-use Rattle.cv_registry.proofs.UserLemmas.{value_cut}
 use Rattle.cv_tree.specs.Entries.{map_values}
 use Rattle.cv_knowledge.specs.Changes.{remaining_facts}
 
@@ -38,7 +39,7 @@ one_entered table layer q = by_tests (is_some (value_at table layer)) (same laye
   by_tests true t some key = refl
   by_tests false true some key =
       ap is_indexed_as (value_put table layer status.Queued q ∙ ap (λ b. cond b (Some status.Queued) (value_at table q)) key)
-      ∙ sym (ap (λ k. is_indexed_as (value_at table k)) (sym (same_key layer q key)) ∙ not_indexed (value_at table layer) some)
+      ∙ sym (ap (λ k. is_indexed_as (value_at table k)) (sym (same_is layer q key)) ∙ not_indexed (value_at table layer) some)
   by_tests false false some key = ap is_indexed_as (value_put table layer status.Queued q ∙ ap (λ b. cond b (Some status.Queued) (value_at table q)) key)
 
 pub entered_indexed : (table : Layers) (layers : List (List ℕ)) (q : List ℕ) → is_indexed_as (value_at (entered table layers) q) ≡ is_indexed_as (value_at table q)
@@ -61,7 +62,7 @@ facts_entered trees table facts layer known are own right = record {
   both q false = are.indexed q
 
   own_at : (q : List ℕ) (found : Known) (b : Bool) → same layer q ≡ b → cond b (Some known) (value_at facts q) ≡ Some found → found.digest ≡ q
-  own_at q found true key is = ap (λ (k : Known). k.digest) (sym (same_Some known found is)) ∙ own ∙ same_key layer q key
+  own_at q found true key is = ap (λ (k : Known). k.digest) (sym (same_Some known found is)) ∙ own ∙ same_is layer q key
   own_at q found false key is = are.own q found is
 
   right_at : (q : List ℕ) (found : Known) (b : Bool) → cond b (Some known) (value_at facts q) ≡ Some found → IsRight trees found
@@ -75,7 +76,7 @@ one_found : (facts : FactTable) (layer : List ℕ) (table : Layers) (q : List �
     ≡ cond (same layer q && not (is_some (value_at table q))) None (value_at facts q)
 one_found facts layer table q sorted = by_tests (is_some (value_at table layer)) (same layer q) refl refl where
   at_key : same layer q ≡ true → is_some (value_at table layer) ≡ is_some (value_at table q)
-  at_key key = ap (λ k. is_some (value_at table k)) (same_key layer q key)
+  at_key key = ap (λ k. is_some (value_at table k)) (same_is layer q key)
 
   by_tests : (s t : Bool) → is_some (value_at table layer) ≡ s → same layer q ≡ t
       → value_at (cond s facts (without_value facts layer)) q ≡ cond (t && not (is_some (value_at table q))) None (value_at facts q)
@@ -158,23 +159,14 @@ facts_remaining trees table facts layers others are sorted ascends = record {
   before : (q : List ℕ) (known : Known) → value_at (remaining_facts facts layers (remaining table layers others)) q ≡ Some known → value_at facts q ≡ Some known
   before q known is = found_before _ (value_at facts q) known (sym (dropped_found table facts layers others q sorted ascends) ∙ is)
 
--- a disjunction with a part that is true
-pub or_first : (b c : Bool) → b ≡ true → (b || c) ≡ true
-or_first true c h = refl
-or_first false c h = absurd (cc h)
-
-pub or_second : (b c : Bool) → c ≡ true → (b || c) ≡ true
-or_second true c h = refl
-or_second false c h = h
-
 -- outcomes depend on the facts of named layers alone
 agreeing : (ones others : FactTable) (feeds : Feeds) (images : Images) → ((layer : List ℕ) → is_named images layer ≡ true → value_at ones layer ≡ value_at others layer)
     → map_values (outcome_at ones feeds) images ≡ map_values (outcome_at others feeds) images
 agreeing ones others feeds [] h = refl
 agreeing ones others feeds (image ∷ images) h =
     λ i.
-    (image.0, agree ones others feeds image.1 (λ layer has. h layer (or_first (has_text image.1 layer) (is_named images layer) has)) i)
-    ∷ agreeing ones others feeds images (λ layer named. h layer (or_second (has_text image.1 layer) (is_named images layer) named)) i
+    (image.0, agree ones others feeds image.1 (λ layer has. h layer (or_left (has_text image.1 layer) (is_named images layer) has)) i)
+    ∷ agreeing ones others feeds images (λ layer named. h layer (or_right (has_text image.1 layer) (is_named images layer) named)) i
 
 -- the other images have the outcomes that they had
 pub remaining_known : (trees : List ℕ → Option (Option (List Stored))) (table : Layers) (facts : FactTable) (feeds : Feeds) (layers : List (List ℕ)) (others : Images)

@@ -8,12 +8,14 @@ use Rattle.std.specs.Ordering.{is_eq}
 use Rattle.std.proofs.Common.{ap, subst, sym, ◌∙◌}
 use Rattle.std.proofs.lemmas.Map.Lookups.{exact_bytes}
 use Rattle.std.proofs.lemmas.Option.{same_Some}
+use Rattle.std.proofs.lemmas.Bool.{or_left, or_right}
 use Rattle.cv_base.specs.Texts.{has_text, same}
+use Rattle.cv_base.proofs.Same.{same_is}
 use Rattle.cv_facts.specs.Reduction.{Known}
 use Rattle.cv_match.specs.Findings.{text_cmp}
 use Rattle.cv_machine.specs.State.{Feeds, Images, value_at, with_value}
 use Rattle.cv_machine.proofs.Entries.{sorted_put}
-use Rattle.cv_machine.proofs.LayerTables.{same_key, value_put}
+use Rattle.cv_machine.proofs.LayerTables.{value_put}
 use Rattle.cv_outcome.specs.Facts.{waits_for}
 use Rattle.cv_outcome.specs.Outcome.{FactTable, has_facts, outcome_at}
 use Rattle.cv_outcome.specs.declared.outcome.Outcome.{Outcome}
@@ -24,7 +26,6 @@ use Rattle.cv_tree.specs.Entries.{map_values}
 use Rattle.cv_tree.proofs.ValueLemmas.{mapped_at, mapped_keys}
 use Rattle.cv_knowledge.specs.Changes.{all_renewed, is_waiting, renewed, with_outcome}
 use Rattle.cv_knowledge.specs.Knowledge.{Outcomes}
-use Rattle.cv_knowledge.proofs.FactTables.{or_first, or_second}
 
 -- ---- image by image
 
@@ -47,13 +48,13 @@ one_at : (made : List (List ℕ) → Outcome) (images : Images) (layer : List �
     ≡ cond (same image q && is_waiting layer (value_at outcomes q)) (Some (made layers)) (value_at outcomes q)
 one_at made images layer outcomes image q layers found = by_tests (is_waiting layer (value_at outcomes image)) (same image q) refl refl where
   at_key : same image q ≡ true → is_waiting layer (value_at outcomes image) ≡ is_waiting layer (value_at outcomes q)
-  at_key key = ap (λ k. is_waiting layer (value_at outcomes k)) (same_key image q key)
+  at_key key = ap (λ k. is_waiting layer (value_at outcomes k)) (same_is image q key)
 
   by_tests : (w t : Bool) → is_waiting layer (value_at outcomes image) ≡ w → same image q ≡ t
       → value_at (cond w (with_outcome made outcomes image (value_at images image)) outcomes) q
       ≡ cond (t && is_waiting layer (value_at outcomes q)) (Some (made layers)) (value_at outcomes q)
   by_tests true true waits key =
-      this_image made outcomes image (value_at images image) q layers key (ap (value_at images) (same_key image q key) ∙ found)
+      this_image made outcomes image (value_at images image) q layers key (ap (value_at images) (same_is image q key) ∙ found)
       ∙ sym (ap (λ b. cond b (Some (made layers)) (value_at outcomes q)) (sym (at_key key) ∙ waits))
   by_tests true false waits key = other_image made outcomes image (value_at images image) q key
   by_tests false true waits key = sym (ap (λ b. cond b (Some (made layers)) (value_at outcomes q)) (sym (at_key key) ∙ waits))
@@ -87,7 +88,7 @@ one_none made images layer outcomes image q none = by_tests (is_waiting layer (v
   by_tests : (w t : Bool) → is_waiting layer (value_at outcomes image) ≡ w → same image q ≡ t
       → value_at (cond w (with_outcome made outcomes image (value_at images image)) outcomes) q ≡ None
   by_tests true true waits key =
-      absurd (cc (sym waits ∙ ap (λ k. is_waiting layer (value_at outcomes k)) (same_key image q key) ∙ ap (is_waiting layer) none))
+      absurd (cc (sym waits ∙ ap (λ k. is_waiting layer (value_at outcomes k)) (same_is image q key) ∙ ap (is_waiting layer) none))
   by_tests true false waits key = other_image made outcomes image (value_at images image) q key ∙ none
   by_tests false t waits key = none
 
@@ -124,9 +125,9 @@ is_user (e ∷ es) layer q layers found has =
       by_tests : (t p : Bool) → is_eq (text_cmp q e.0) ≡ t → has_text e.1 layer ≡ p → cond t (Some e.1) (value_at es q) ≡ Some layers
           → (value_at es q ≡ Some layers → has_text (users_of es layer) q ≡ true)
           → has_text (map (λ (image : List ℕ × List (List ℕ)). image.0) (cond p (e ∷ others) others)) q ≡ true
-      by_tests true true key named is rest = or_first (same e.0 q) (has_text (users_of es layer) q) (nat_list_eq_equiv.symm e.0 q ∙ texts_ties q e.0 ∙ key)
+      by_tests true true key named is rest = or_left (same e.0 q) (has_text (users_of es layer) q) (nat_list_eq_equiv.symm e.0 q ∙ texts_ties q e.0 ∙ key)
       by_tests true false key named is rest = absurd (cc (sym named ∙ ap (λ ls. has_text ls layer) (same_Some e.1 layers is) ∙ has))
-      by_tests false true key named is rest = or_second (same e.0 q) (has_text (users_of es layer) q) (rest is)
+      by_tests false true key named is rest = or_right (same e.0 q) (has_text (users_of es layer) q) (rest is)
       by_tests false false key named is rest = rest is
 
 -- one of two that are the same

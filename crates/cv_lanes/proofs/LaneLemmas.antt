@@ -10,22 +10,10 @@ use Rattle.cv_hub.specs.Events.{DeskTrees}
 use Rattle.cv_hub.specs.Seats.{SeatView}
 use Rattle.cv_hub.proofs.Prefixes.{prefix_length}
 use Rattle.cv_legal.specs.declared.taken.Requested.{Requested}
-use Rattle.cv_transcript.proofs.OrderLemmas.{all_weaker}
+use Rattle.cv_base.proofs.AllItems.{all_more, all_weaker, zip_more}
 use Rattle.cv_lanes.specs.code.Own.{Submission}
 use Rattle.cv_lanes.specs.code.Lane.{Answers, AreInTurn, Follows, IsFrom, IsWithin, LaneDid, Answered, OneStep, Step, Submitted, placed_in, placed_of, read_in, reads_in}
 use Rattle.cv_lanes.proofs.OwnLemmas.{made_longer, made_none, made_then}
-
--- ---- lists
-
-all_more : {X : Type 0} (P : X → Type 0) (xs : List X) (x : X) → AllByRecursion P xs → P x → AllByRecursion P (xs ++ x ∷ [])
-all_more P [] x h one = (one, tt)
-all_more P (y ∷ xs) x h one = (h.0, all_more P xs x h.1 one)
-
-zip_more : {X Y : Type 0} (P : X → Y → Type 0) (xs : List X) (ys : List Y) (x : X) (y : Y) → AllZip P xs ys → P x y → AllZip P (xs ++ x ∷ []) (ys ++ y ∷ [])
-zip_more P [] [] x y h one = (one, tt)
-zip_more P [] (z ∷ ys) x y h one = absurd h
-zip_more P (w ∷ xs) [] x y h one = absurd h
-zip_more P (w ∷ xs) (z ∷ ys) x y h one = (h.0, zip_more P xs ys x y h.1 one)
 
 -- ---- a longer list
 

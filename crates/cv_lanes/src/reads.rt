@@ -33,9 +33,9 @@ pub fn report_at<D: Desk + Drop, L: Identity, W: Wait>(
 ) -> ReadEntry
     ensures { OneStep D.tree L.limits (request_of place (act.Report image)) seat.old seat.new (Answered result) }
 {
-    let now = hub.view(rt, seat);
-    let answer = report(alloc, &now, image);
-    read_entry(&now, place, answer)
+    let view = hub.view(rt, seat);
+    let answer = report(alloc, &view, image);
+    read_entry(&view, place, answer)
 }
 
 /// A page of a notification, read now.
@@ -53,9 +53,9 @@ pub fn page_at<D: Desk + Drop, L: Identity, W: Wait>(
     requires page { 1 ≤ page }
     ensures { OneStep D.tree L.limits (request_of place (act.Page number size page)) seat.old seat.new (Answered result) }
 {
-    let now = hub.view(rt, seat);
-    let answer = page_of(alloc, &now, number, size, page);
-    read_entry(&now, place, answer)
+    let view = hub.view(rt, seat);
+    let answer = page_of(alloc, &view, number, size, page);
+    read_entry(&view, place, answer)
 }
 
 /// All notifications, read now.
@@ -68,9 +68,9 @@ pub fn list_at<D: Desk + Drop, L: Identity, W: Wait>(
 ) -> ReadEntry
     ensures { OneStep D.tree L.limits (request_of place act.List) seat.old seat.new (Answered result) }
 {
-    let now = hub.view(rt, seat);
-    let answer = list(alloc, &now);
-    read_entry(&now, place, answer)
+    let view = hub.view(rt, seat);
+    let answer = list(alloc, &view);
+    read_entry(&view, place, answer)
 }
 
 /// That a request ran out of memory, now.
@@ -82,8 +82,8 @@ pub fn no_memory_at<D: Desk + Drop, L: Identity, W: Wait>(
 ) -> ReadEntry
     ensures { (act : Act) → OneStep D.tree L.limits (request_of place act) seat.old seat.new (Answered result) }
 {
-    let now = hub.view(rt, seat);
-    read_entry(&now, place, Err(NoMemory))
+    let view = hub.view(rt, seat);
+    read_entry(&view, place, Err(NoMemory))
 }
 
 /// The entry of a read with this answer, or that memory ran out.

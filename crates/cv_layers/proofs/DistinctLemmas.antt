@@ -3,6 +3,7 @@ use Rattle.std.specs.Prelude.{◌≡◌, ℕ, ◌+◌, ◌≤◌, Bool, true, fa
 use Rattle.std.proofs.Common.{◌<◌, get_or, drop, ap, sym, ◌∙◌, append_assoc, append-nil, arith}
 use Rattle.std.proofs.lemmas.List.{drop_more, length-append}
 use Rattle.std.proofs.lemmas.List.Folds.{list_any-append}
+use Rattle.std.proofs.lemmas.Bool.{not-false, not_from_true}
 use Rattle.cv_base.specs.Texts.{has_text, same}
 use Rattle.cv_base.proofs.Same.{same_is}
 use Rattle.cv_layers.specs.code.Distinct.{with_layer}
@@ -33,19 +34,11 @@ filter_both p q r h (y ∷ ys) = by_test (q y) (filter_both p q r h ys) ∙ ap (
   by_test true rest = ap (λ zs. cond (p y) (y ∷ zs) zs) rest
   by_test false rest = rest
 
-off : (b : Bool) → not b ≡ false → b ≡ true
-off true h = refl
-off false h = cc
-
-on : (b : Bool) → b ≡ true → not b ≡ false
-on true h = refl
-on false h = cc
-
 -- one that stood before adds nothing
 pub followed_seen : (seen : List (List ℕ)) (x : List ℕ) (xs : List (List ℕ)) → has_text seen x ≡ true → followed seen (x ∷ xs) ≡ followed seen xs
 followed_seen seen x xs h =
     ap (λ b. seen ++ cond (not b) (x ∷ unseen seen (filter (λ y. not (same x y)) (distinct xs))) (unseen seen (filter (λ y. not (same x y)) (distinct xs)))) h
-    ∙ ap (λ ys. seen ++ ys) (filter_twice (λ y. not (has_text seen y)) (λ y. not (same x y)) (λ y e. on (has_text seen y) (ap (has_text seen) (sym (same_is x y (off (same x y) e))) ∙ h)) (distinct xs))
+    ∙ ap (λ ys. seen ++ ys) (filter_twice (λ y. not (has_text seen y)) (λ y. not (same x y)) (λ y e. not_from_true (has_text seen y) (ap (has_text seen) (sym (same_is x y (not-false (same x y) e))) ∙ h)) (distinct xs))
 
 split : (r s b : Bool) → r ≡ (s || (b || false)) → not r ≡ (not b && not s)
 split r true true h = ap not h

@@ -2,13 +2,10 @@
 use Rattle.std.specs.Prelude.{◌≡◌, ℕ, Bool, true, false, ◌||◌, not, filter, cond, List, [], ◌∷◌, refl}
 use Rattle.std.specs.List.{AllByRecursion}
 use Rattle.std.proofs.Common.{ap, ◌∙◌}
+use Rattle.std.proofs.lemmas.Bool.{both_ways}
 use Rattle.cv_base.specs.Texts.{has_text, same}
 use Rattle.cv_base.proofs.Same.{same_is, same_self}
 use Rattle.cv_layers.specs.Distinct.{distinct}
-
-never : (b : Bool) → b ≡ true → b ≡ false → ⊥
-never true h k = cc
-never false h k = cc
 
 seen_filter : (layer other : List ℕ) (ds : List (List ℕ)) → same layer other ≡ false → has_text ds other ≡ true → has_text (filter (λ d. not (same layer d)) ds) other ≡ true
 seen_filter layer other [] h k = k
@@ -16,7 +13,7 @@ seen_filter layer other (d ∷ ds) h k = by_tests (same layer d) (same d other) 
   by_tests : (a b : Bool) → same layer d ≡ a → same d other ≡ b → (b || has_text ds other) ≡ true
       → (has_text ds other ≡ true → has_text (filter (λ d. not (same layer d)) ds) other ≡ true)
       → has_text (cond (not a) (d ∷ filter (λ d. not (same layer d)) ds) (filter (λ d. not (same layer d)) ds)) other ≡ true
-  by_tests true true e f l rest = absurd (never (same layer other) (ap (λ x. same x other) (same_is layer d e) ∙ f) h)
+  by_tests true true e f l rest = absurd (both_ways (same layer other) h (ap (λ x. same x other) (same_is layer d e) ∙ f))
   by_tests true false e f l rest = rest l
   by_tests false true e f l rest = ap (λ c. c || has_text (filter (λ d. not (same layer d)) ds) other) f
   by_tests false false e f l rest = ap (λ c. c || has_text (filter (λ d. not (same layer d)) ds) other) f ∙ rest l

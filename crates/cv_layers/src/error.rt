@@ -1,3 +1,6 @@
+ghost use Rattle.std.specs.Prelude.{◌≡◌};
+ghost use Rattle.cv_layers.specs.declared.error.ImageError.TheVariants as error;
+
 use cv_base::Digest;
 use cv_overlay::ImageFault;
 use cv_seq::NoMemory;
@@ -16,9 +19,6 @@ pub enum ImageError {
 }
 
 impl From<NoMemory> for ImageError {
-    ghost use Rattle.std.specs.Prelude.{◌≡◌};
-    ghost use Rattle.cv_layers.specs.declared.error.ImageError.TheVariants as error;
-
     ghost from_gives = { λ _ e. e ≡ error.NoMemory };
 
     fn from(_error: NoMemory) -> ImageError {

@@ -7,6 +7,7 @@ use Rattle.std.proofs.lemmas.Bool.{and_from, and_left, cases_eq, cases_lt, eq-eq
 use Rattle.std.proofs.lemmas.List.{append-nil}
 use Rattle.std.proofs.lemmas.List.Elements.{filter-append}
 use Rattle.cv_base.specs.Lines.{Line}
+use Rattle.cv_base.proofs.AllItems.{all_both, all_weaker}
 use Rattle.cv_records.specs.declared.event.By.{By}
 use Rattle.cv_records.specs.declared.event.By.TheVariants as by
 use Rattle.cv_records.specs.declared.read.ReadEntry.{ReadEntry}
@@ -14,7 +15,6 @@ use Rattle.cv_request.specs.declared.error.RequestError.{RequestError}
 use Rattle.cv_request.specs.declared.request.Request.{Request}
 use Rattle.cv_transcript.specs.declared.entry.Entry.{Entry}
 use Rattle.cv_transcript.specs.declared.entry.Entry.TheVariants as entry
-use Rattle.cv_transcript.proofs.OrderLemmas.{all_weaker}
 use Rattle.cv_machine.specs.Layers.{queued}
 use Rattle.cv_machine.specs.Scans.{Trees}
 use Rattle.cv_legal.specs.Parts.{line_by, lines_answered, times}
@@ -25,12 +25,9 @@ use Rattle.cv_legal.specs.code.Segment.{Address, IsFound, Segment, address_by, a
 use Rattle.cv_legal.specs.Served.{LinesAscend}
 use Rattle.cv_legal.specs.declared.taken.Requested.{Requested}
 use Rattle.cv_legal.specs.declared.taken.Taken.{Taken}
+use Rattle.cv_legal.proofs.Segments.{two_same}
 
 -- ---- what holds of all items of a list
-
-all_both : {X : Type 0} (P : X → Type 0) (xs ys : List X) → AllByRecursion P xs → AllByRecursion P ys → AllByRecursion P (xs ++ ys)
-all_both P [] ys h k = k
-all_both P (x ∷ xs) ys h k = (h.0, all_both P xs ys h.1 k)
 
 all_cond : {X : Type 0} (P : X → Type 0) (b : Bool) (x : X) (xs : List X) → (b ≡ true → P x) → AllByRecursion P xs → AllByRecursion P (cond b (x ∷ xs) xs)
 all_cond P true x xs h k = (h refl, k)
@@ -254,9 +251,6 @@ none_kept : (lane : ℕ) (xs : List Requested) → AllByRecursion (λ r. r.reque
 none_kept lane [] h = refl
 none_kept lane (r ∷ xs) h =
     ap (λ b. cond b (r ∷ lane_requests lane xs) (lane_requests lane xs)) (ne_eqb r.request.lane lane h.0) ∙ none_kept lane xs h.1
-
-two_same : {X : Type 0} (xs us ys vs : List X) → xs ≡ us → ys ≡ vs → xs ++ ys ≡ us ++ vs
-two_same xs us ys vs h k = ap (λ zs. zs ++ ys) h ∙ ap (λ zs. us ++ zs) k
 
 -- the requests of a lane, of those of later lanes
 lane_below : (k lane count : ℕ) (requested : List Requested) → k < lane → lane_requests k (lanes_from lane count requested) ≡ []

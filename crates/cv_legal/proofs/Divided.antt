@@ -6,6 +6,7 @@ use Rattle.std.proofs.lemmas.Bool.{leb-false, leb-true, ltb-false, ltb-true}
 use Rattle.std.proofs.lemmas.List.{append-nil}
 use Rattle.cv_base.specs.Lines.{Line}
 use Rattle.cv_base.specs.Texts.{is_cons, is_nil}
+use Rattle.cv_base.proofs.AllItems.{all_more}
 use Rattle.cv_legal.specs.Division.{AreEnded, AreRounds, Ends, HasText, IsShort, IsWithin}
 use Rattle.cv_legal.specs.Laws.{has_text}
 use Rattle.cv_legal.specs.Rounds.{Cut, Round, RoundLimits, counted, cut_line, cut_lines, end_before, end_full, end_round, input_lines, put_line, rounds_of, size_of}
@@ -50,10 +51,6 @@ replace limits (round ∷ rounds) tail begun last lines h t =
 -- what is cut so far
 abbrev pub Divides : RoundLimits → Cut → List Line → Type 0
 Divides limits cut lines = AreRounds limits cut.rounds cut.begun lines
-
-all_with : (lines : List Line) (line : Line) → AllByRecursion HasText lines → HasText line → AllByRecursion HasText (lines ++ line ∷ [])
-all_with [] line h k = (k, tt)
-all_with (first ∷ lines) line h k = (h.0, all_with lines line h.1 k)
 
 more_by_one : (lines : List Line) (line : Line) → length (lines ++ line ∷ []) ≡ length lines + 1
 more_by_one [] line = refl
@@ -120,7 +117,7 @@ cut_one limits cut lines line some h = by_text (is_nil line.text) refl where
       (h.text, h.within, (line ∷ [], inr (inr (record { has_lines = is_some cut.begun parts.0; next = line; later = []; begins = refl; text = text; past = past; short = h.short; joined = refl })), refl)))
       (text, tt) (inr refl) (omega (arith, some))
   by_room false is text =
-      ended_full limits (put_line line cut) (lines ++ line ∷ []) some longer (all_with cut.begun line h.text text)
+      ended_full limits (put_line line cut) (lines ++ line ∷ []) some longer (all_more HasText cut.begun line h.text text)
       (within_one limits cut.begun line is)
       (let e = more_by_one cut.begun line in omega (arith, e, h.short))
 

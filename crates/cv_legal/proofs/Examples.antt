@@ -164,6 +164,11 @@ reports = refl
 abbrev requested : ℕ → RequestAct → Requested
 requested number act = record { line = number; request = record { lane = 0; act = act } }
 
+-- the one line of lane 0 is answered
+one_line : (number : ℕ) (act : RequestAct) (b : Bool) → cons_option (cond b (Some number) None) [] ≡ map (λ (r : Requested). r.line) (cond b (requested number act ∷ []) [])
+one_line number act true = refl
+one_line number act false = refl
+
 -- what became of the lines
 abbrev asks : ℕ → RequestAct → Taken
 asks number act = record { line = number; answer = Ok (record { lane = 0; act = act }) }
@@ -260,14 +265,11 @@ second_legal = record {
     ),
   );
   ordered = ((tt, (tt, tt)), ((tt, tt), (tt, tt)));
-  lanes = λ lane. by_lane (0 == lane);
+  lanes = λ lane. one_line 4 (request.Report image) (0 == lane);
   claims = λ other. refl;
   claimers = (omega arith, (tt, tt));
   works = λ worker. worker_works (0 == worker);
-} where
-  by_lane : (b : Bool) → cons_option (cond b (Some 4) None) [] ≡ map (λ (r : Requested). r.line) (cond b (requested 4 (request.Report image) ∷ []) [])
-  by_lane true = refl
-  by_lane false = refl
+}
 
 -- a line that is no JSON is refused, before the lines of lanes
 bad_json : request_line (codes "x") ≡ Err fault.BadJson
@@ -286,14 +288,11 @@ bad_legal = record {
   parts = refl;
   replays = (record { act = request.Report image; source = refl; front = refl; is = inr refl }, refl);
   ordered = (tt, tt);
-  lanes = λ lane. by_lane (0 == lane);
+  lanes = λ lane. one_line 1 (request.Report image) (0 == lane);
   claims = λ other. refl;
   claimers = tt;
   works = λ worker. refl;
-} where
-  by_lane : (b : Bool) → cons_option (cond b (Some 1) None) [] ≡ map (λ (r : Requested). r.line) (cond b (requested 1 (request.Report image) ∷ []) [])
-  by_lane true = refl
-  by_lane false = refl
+}
 
 -- the line of a request that submits an event has none if memory ran out
 full_legal : IsLegalRound trees 1 beginning (line 1 register_line ∷ []) (entry.Read (record { front = 0; lane = 0; line = 1; answer = answer.NoMemory }) ∷ []) beginning
@@ -304,14 +303,11 @@ full_legal = record {
   parts = refl;
   replays = (record { act = request.Register manifest; source = refl; front = refl; is = inl refl }, refl);
   ordered = (tt, tt);
-  lanes = λ lane. by_lane (0 == lane);
+  lanes = λ lane. one_line 1 (request.Register manifest) (0 == lane);
   claims = λ other. refl;
   claimers = tt;
   works = λ worker. refl;
-} where
-  by_lane : (b : Bool) → cons_option (cond b (Some 1) None) [] ≡ map (λ (r : Requested). r.line) (cond b (requested 1 (request.Register manifest) ∷ []) [])
-  by_lane true = refl
-  by_lane false = refl
+}
 
 -- the two rounds make a legal transcript, after which no layer is Queued
 two_rounds : AreLegal trees 1 beginning (first_round ∷ second_round ∷ []) (first_entries ++ second_entries) indexed

@@ -3,6 +3,7 @@ use Rattle.std.specs.Prelude.{◌≡◌, ℕ, ◌≤◌, ◌⊎◌, List, [], �
 use Rattle.std.specs.List.{cons_option}
 use Rattle.std.proofs.Common.{ap, arith, inl, inr, subst, sym, ◌∙◌}
 use Rattle.std.proofs.lemmas.Option.{same_Some}
+use Rattle.std.proofs.lemmas.List.Elements.{filter_map-append}
 use Rattle.cv_records.specs.declared.read.Answer.{Answer}
 use Rattle.cv_records.specs.declared.read.Answer.TheVariants as answer
 use Rattle.cv_records.specs.declared.read.ReadEntry.{ReadEntry}
@@ -29,7 +30,6 @@ use Rattle.cv_legal.specs.Rounds.{Round}
 use Rattle.cv_legal.specs.Taken.{refusal_at, refusals, requests}
 use Rattle.cv_legal.specs.declared.taken.Requested.{Requested}
 use Rattle.cv_legal.specs.declared.taken.Taken.{Taken}
-use Rattle.cv_legal.proofs.History.{filter_map_both}
 
 -- what is known of every event
 abbrev pub KnownSteps : Type 0
@@ -115,7 +115,7 @@ fall_round known trees workers before lines entries after h =
 fall_parts : (first middle last : ℕ) (entries front back : List Entry) → entries ≡ front ++ back → NeverFall first (generations front) middle
     → NeverFall middle (generations back) last → NeverFall first (generations entries) last
 fall_parts first middle last entries front back is h k =
-    subst (λ ns. NeverFall first ns last) (sym (ap (λ es. generations es) is ∙ filter_map_both entry_generation front back))
+    subst (λ ns. NeverFall first ns last) (sym (ap (λ es. generations es) is ∙ filter_map-append entry_generation front back))
     (fall_both first middle last (generations front) (generations back) h k)
 
 fall_none : (before after : Moment) (entries : List Entry) → entries ≡ [] → after ≡ before

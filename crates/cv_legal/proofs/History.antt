@@ -1,7 +1,9 @@
 -- The events of a legal transcript are one history of the machine.
-use Rattle.std.specs.Prelude.{◌≡◌, ℕ, ◌+◌, List, [], ◌∷◌, ◌++◌, filter_map, length, Option, Some, None, Result, Ok, Err, refl}
+use Rattle.std.specs.Prelude.{◌≡◌, ℕ, ◌+◌, List, [], ◌∷◌, ◌++◌, length, Result, Ok, Err, refl}
 use Rattle.std.specs.List.{cons_option}
 use Rattle.std.proofs.Common.{ap, arith, subst, sym, ◌∙◌}
+use Rattle.std.proofs.lemmas.List.Elements.{filter_map-append}
+use Rattle.cv_base.proofs.Lists.{same_cons}
 use Rattle.cv_records.specs.declared.event.EventEntry.{EventEntry}
 use Rattle.cv_request.specs.declared.error.RequestError.{RequestError}
 use Rattle.cv_request.specs.declared.request.Request.{Request}
@@ -34,18 +36,14 @@ follow_both trees before between after [] ys h k = subst (λ m. Follow trees m y
 follow_both trees before between after (x ∷ xs) ys h k =
     (h.0, h.1, follow_both trees (moment_after trees before h.0) between after xs ys h.2 k)
 
--- lists with equal first items and equal rests
-both_same : {X : Type 0} (x y : X) (xs ys : List X) → x ≡ y → xs ≡ ys → x ∷ xs ≡ y ∷ ys
-both_same x y xs ys h k = ap (λ z. z ∷ xs) h ∙ ap (λ zs. y ∷ zs) k
-
 is_history : (trees : Trees) (before after : Moment) (events : List EventEntry) → Follow trees before events after → IsHistory trees before events after
 is_history trees before after [] h = record { acts = []; names = refl; answers = refl; reached = ap (λ m. m.state) (sym h); numbers = tt; count = let same : after.count ≡ before.count = ap (λ m. m.count) h in omega (arith, same) }
 is_history trees before after (event ∷ events) h =
     let rest = is_history trees (moment_after trees before h.0) after events h.2 in
     record {
       acts = h.0 ∷ rest.acts;
-      names = both_same _ _ _ _ (ap (λ e. e.act) h.1) rest.names;
-      answers = both_same _ _ _ _ (ap (λ e. e.reply) h.1) rest.answers;
+      names = same_cons _ _ _ _ (ap (λ e. e.act) h.1) rest.names;
+      answers = same_cons _ _ _ _ (ap (λ e. e.reply) h.1) rest.answers;
       reached = rest.reached;
       numbers = (ap (λ e. e.number) h.1, rest.numbers);
       count = let count : after.count ≡ before.count + 1 + length events = rest.count in omega (arith, count);
@@ -62,7 +60,7 @@ follow_entries trees requested before after (entry.Event event ∷ entries) h =
 follow_entries trees requested before after (entry.Read read ∷ entries) h = follow_entries trees requested before after entries h.1
 
 -- a refused line is no event
-no_events : (taken : List Taken) (others : List Entry) → events_of (refusals taken ++ others) ≡ events_of others
+pub no_events : (taken : List Taken) (others : List Entry) → events_of (refusals taken ++ others) ≡ events_of others
 no_events [] others = refl
 no_events (first ∷ taken) others = by_answer first.answer (no_events taken others) where
   by_answer : (answer : Result Request RequestError) → events_of (refusals taken ++ others) ≡ events_of others
@@ -78,17 +76,10 @@ follow_round trees workers before lines entries after h =
 
 -- ---- of all rounds
 
-pub filter_map_both : {X Y : Type 0} (f : X → Option Y) (xs ys : List X) → filter_map f (xs ++ ys) ≡ filter_map f xs ++ filter_map f ys
-filter_map_both f [] ys = refl
-filter_map_both {X} {Y} f (x ∷ xs) ys = ap (λ zs. cons_option (f x) zs) (filter_map_both f xs ys) ∙ by_first (f x) where
-  by_first : (first : Option Y) → cons_option first (filter_map f xs ++ filter_map f ys) ≡ cons_option first (filter_map f xs) ++ filter_map f ys
-  by_first None = refl
-  by_first (Some y) = refl
-
 follow_parts : (trees : Trees) (before between after : Moment) (entries first later : List Entry) → entries ≡ first ++ later
     → Follow trees before (events_of first) between → Follow trees between (events_of later) after → Follow trees before (events_of entries) after
 follow_parts trees before between after entries first later is h k =
-    subst (λ events. Follow trees before events after) (sym (ap (λ es. events_of es) is ∙ filter_map_both event_in first later))
+    subst (λ events. Follow trees before events after) (sym (ap (λ es. events_of es) is ∙ filter_map-append event_in first later))
     (follow_both trees before between after (events_of first) (events_of later) h k)
 
 -- no entry is no event

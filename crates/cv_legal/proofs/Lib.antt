@@ -2,7 +2,7 @@ pub mod Assembled
 mod Divided
 mod Examples
 mod Generations
-mod History
+pub mod History
 pub mod Joined
 pub mod Order
 pub mod Segments

@@ -5,7 +5,7 @@ use Rattle.cv_records.specs.declared.read.ReadEntry.{ReadEntry}
 use Rattle.cv_transcript.specs.Order.{AreAscending, Precedes, PrecedesByLane}
 use Rattle.cv_transcript.specs.declared.entry.Entry.{Entry}
 use Rattle.cv_transcript.specs.declared.entry.Entry.TheVariants as entry
-use Rattle.cv_transcript.proofs.OrderLemmas.{all_weaker}
+use Rattle.cv_base.proofs.AllItems.{all_weaker}
 use Rattle.cv_legal.specs.Round.{AreReadsOrdered, StandsBefore}
 
 -- of two reads with one front, the one that precedes is that of the lower lane, or of the lower line

@@ -4,7 +4,8 @@ use Rattle.std.specs.List.{AllByRecursion, cons_option}
 use Rattle.std.proofs.Common.{ap, append_assoc, arith, subst, sym, ◌∙◌}
 use Rattle.std.proofs.lemmas.Bool.{eq-eqb, ne_eqb}
 use Rattle.std.proofs.lemmas.List.{append-nil, length-append, map-append}
-use Rattle.std.proofs.lemmas.List.Elements.{filter-append}
+use Rattle.std.proofs.lemmas.List.Elements.{filter-append, filter_map-append}
+use Rattle.cv_base.proofs.AllItems.{all_back, all_both, all_front}
 use Rattle.cv_records.specs.declared.event.Act.{Act}
 use Rattle.cv_records.specs.declared.event.Act.TheVariants as name
 use Rattle.cv_records.specs.declared.event.By.{By}
@@ -35,7 +36,6 @@ use Rattle.cv_legal.specs.Turns.{ClaimsBelow, FitsWork, Works, work_after}
 use Rattle.cv_legal.specs.code.Segment.{IsFound, Segment, address_in, address_of, entry_at, lane_requests, lanes_from}
 use Rattle.cv_legal.specs.declared.taken.Requested.{Requested}
 use Rattle.cv_legal.specs.declared.taken.Taken.{Taken}
-use Rattle.cv_legal.proofs.History.{filter_map_both}
 
 -- no request, no claim, no entry
 pub no_entries : (trees : Trees) (workers : ℕ) (m : Moment) → Segment trees workers [] [] m [] m
@@ -44,20 +44,8 @@ no_entries trees workers m =
 
 -- ---- one after the other
 
-all_front : {X : Type 0} (P : X → Type 0) (xs ys : List X) → AllByRecursion P (xs ++ ys) → AllByRecursion P xs
-all_front P [] ys h = tt
-all_front P (x ∷ xs) ys h = (h.0, all_front P xs ys h.1)
-
-all_back : {X : Type 0} (P : X → Type 0) (xs ys : List X) → AllByRecursion P (xs ++ ys) → AllByRecursion P ys
-all_back P [] ys h = h
-all_back P (x ∷ xs) ys h = all_back P xs ys h.1
-
-all_both : {X : Type 0} (P : X → Type 0) (xs ys : List X) → AllByRecursion P xs → AllByRecursion P ys → AllByRecursion P (xs ++ ys)
-all_both P [] ys h k = k
-all_both P (x ∷ xs) ys h k = (h.0, all_both P xs ys h.1 k)
-
 -- two pairs of equal lists
-two_same : {X : Type 0} (xs us ys vs : List X) → xs ≡ us → ys ≡ vs → xs ++ ys ≡ us ++ vs
+pub two_same : {X : Type 0} (xs us ys vs : List X) → xs ≡ us → ys ≡ vs → xs ++ ys ≡ us ++ vs
 two_same xs us ys vs h k = ap (λ zs. zs ++ ys) h ∙ ap (λ zs. us ++ zs) k
 
 replays_both : (trees : Trees) (all : List Requested) (before between after : Moment) (xs ys : List Entry) → Replays trees all before xs between
@@ -67,22 +55,22 @@ replays_both trees all before between after (entry.Refused line error ∷ xs) ys
 replays_both trees all before between after (entry.Event event ∷ xs) ys h k = (h.0, h.1, replays_both trees all h.0 between after xs ys h.2 k)
 replays_both trees all before between after (entry.Read read ∷ xs) ys h k = (h.0, replays_both trees all before between after xs ys h.1 k)
 
-works_both : (first second third : Option (List ℕ)) (xs ys : List EventEntry) → Works first xs second → Works second ys third → Works first (xs ++ ys) third
+pub works_both : (first second third : Option (List ℕ)) (xs ys : List EventEntry) → Works first xs second → Works second ys third → Works first (xs ++ ys) third
 works_both first second third [] ys h k = subst (λ work. Works work ys third) h k
 works_both first second third (x ∷ xs) ys h k = (h.0, works_both (work_after x.act x.reply) second third xs ys h.1 k)
 
 events_both : (xs ys : List Entry) → events_of (xs ++ ys) ≡ events_of xs ++ events_of ys
-events_both xs ys = filter_map_both event_in xs ys
+events_both xs ys = filter_map-append event_in xs ys
 
 claims_both : (xs ys : List Entry) → claims_of (events_of (xs ++ ys)) ≡ claims_of (events_of xs) ++ claims_of (events_of ys)
 claims_both xs ys =
     ap (λ events. claims_of events) (events_both xs ys)
-    ∙ filter_map_both (λ (event : EventEntry). claim_in event.act) (events_of xs) (events_of ys)
+    ∙ filter_map-append (λ (event : EventEntry). claim_in event.act) (events_of xs) (events_of ys)
 
-by_both : (worker : ℕ) (xs ys : List Entry) → events_by worker (events_of (xs ++ ys)) ≡ events_by worker (events_of xs) ++ events_by worker (events_of ys)
+pub by_both : (worker : ℕ) (xs ys : List Entry) → events_by worker (events_of (xs ++ ys)) ≡ events_by worker (events_of xs) ++ events_by worker (events_of ys)
 by_both worker xs ys =
     ap (λ events. events_by worker events) (events_both xs ys)
-    ∙ filter_map_both (λ (event : EventEntry). event_by worker event.by event) (events_of xs) (events_of ys)
+    ∙ filter_map-append (λ (event : EventEntry). event_by worker event.by event) (events_of xs) (events_of ys)
 
 -- a part, and then the next
 pub both : (trees : Trees) (workers : ℕ) (requested more : List Requested) (jobs further : List (List ℕ)) (before between after : Moment) (xs ys : List Entry)
@@ -92,7 +80,7 @@ both trees workers requested more jobs further before between after xs ys h k = 
   replays = λ all found. replays_both trees all before between after xs ys
       (h.replays all (all_front (IsFound all) requested more found)) (k.replays all (all_back (IsFound all) requested more found));
   addresses =
-      filter_map_both address_in xs ys
+      filter_map-append address_in xs ys
       ∙ two_same _ _ _ _ h.addresses k.addresses
       ∙ sym (map-append address_of requested more);
   claims = claims_both xs ys ∙ two_same _ _ _ _ h.claims k.claims;
@@ -283,41 +271,31 @@ grants_claim w trees before worker layer none = by_worker (worker == w) where
   by_worker true = none_granted claim [] none
   by_worker false = refl
 
+-- the entry of a claim
+abbrev claimed : Trees → Moment → ℕ → List ℕ → EventEntry
+claimed trees before worker layer = event_entry (before.count + 1) (by.Worker worker) (whole.Claim layer worker) (step trees before.state (whole.Claim layer worker)).1
+
+-- the entry of an act that the worker submits after it
+abbrev finished : Trees → Moment → ℕ → List ℕ → WholeAct → EventEntry
+finished trees before worker layer act = let between = moment_after trees before (whole.Claim layer worker) in event_entry (between.count + 1) (by.Worker worker) act (step trees between.state act).1
+
 -- a claim that is granted, and its result: one of the worker
 pub grants_result : (trees : Trees) (before : Moment) (worker : ℕ) (layer : List ℕ) (act : WholeAct)
     → (step trees before.state (whole.Claim layer worker)).1 ≡ reply.Claimed → FitsWork (Some layer) (act_name act)
     → grants worker (entry_at trees before (by.Worker worker) (whole.Claim layer worker) ∷ entry_at trees (moment_after trees before (whole.Claim layer worker)) (by.Worker worker) act ∷ []) ≡ 1
 grants_result trees before worker layer act granted fits = by_worker (worker == worker) (eq-eqb worker worker refl) where
-  between : Moment
-  between = moment_after trees before (whole.Claim layer worker)
-
-  claim : EventEntry
-  claim = event_entry (before.count + 1) (by.Worker worker) (whole.Claim layer worker) (step trees before.state (whole.Claim layer worker)).1
-
-  result : EventEntry
-  result = event_entry (between.count + 1) (by.Worker worker) act (step trees between.state act).1
-
   by_worker : (b : Bool) → b ≡ true
-      → length (filter (λ event. is_grant event.act event.reply) (cons_option (cond b (Some claim) None) (cons_option (cond b (Some result) None) []))) ≡ 1
+      → length (filter (λ event. is_grant event.act event.reply) (cons_option (cond b (Some (claimed trees before worker layer)) None) (cons_option (cond b (Some (finished trees before worker layer act)) None) []))) ≡ 1
   by_worker true same =
-      one_granted claim (result ∷ []) (ap (λ r. is_grant (name.Claim layer) r) granted)
-      ∙ ap suc (none_granted result [] (ends_work 0 worker layer (act_name act) result.reply fits).grant)
+      one_granted (claimed trees before worker layer) (finished trees before worker layer act ∷ []) (ap (λ r. is_grant (name.Claim layer) r) granted)
+      ∙ ap suc (none_granted (finished trees before worker layer act) [] (ends_work 0 worker layer (act_name act) (finished trees before worker layer act).reply fits).grant)
   by_worker false same = absurd (cc same)
 
 -- and none of another worker
 pub grants_others : (w : ℕ) (trees : Trees) (before : Moment) (worker : ℕ) (layer : List ℕ) (act : WholeAct) → (worker ≡ w → ⊥)
     → grants w (entry_at trees before (by.Worker worker) (whole.Claim layer worker) ∷ entry_at trees (moment_after trees before (whole.Claim layer worker)) (by.Worker worker) act ∷ []) ≡ 0
 grants_others w trees before worker layer act other = by_worker (worker == w) (ne_eqb worker w other) where
-  between : Moment
-  between = moment_after trees before (whole.Claim layer worker)
-
-  claim : EventEntry
-  claim = event_entry (before.count + 1) (by.Worker worker) (whole.Claim layer worker) (step trees before.state (whole.Claim layer worker)).1
-
-  result : EventEntry
-  result = event_entry (between.count + 1) (by.Worker worker) act (step trees between.state act).1
-
   by_worker : (b : Bool) → b ≡ false
-      → length (filter (λ event. is_grant event.act event.reply) (cons_option (cond b (Some claim) None) (cons_option (cond b (Some result) None) []))) ≡ 0
+      → length (filter (λ event. is_grant event.act event.reply) (cons_option (cond b (Some (claimed trees before worker layer)) None) (cons_option (cond b (Some (finished trees before worker layer act)) None) []))) ≡ 0
   by_worker true same = absurd (cc same)
   by_worker false same = refl

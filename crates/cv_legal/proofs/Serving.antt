@@ -1,10 +1,10 @@
 -- What a service did goes on by a line that is taken, and by a round that ends.
 use Rattle.std.specs.Prelude.{◌≡◌, ℕ, ◌+◌, ◌≤◌, ◌<◌, true, cond, if◌then◌else◌, List, [], ◌∷◌, ◌++◌, length, refl}
-use Rattle.std.specs.List.{AllByRecursion, AllZip}
 use Rattle.std.proofs.Common.{ap, arith, subst, sym, ◌∙◌}
 use Rattle.std.proofs.lemmas.List.Sums.{fold-append}
 use Rattle.cv_base.specs.Lines.{Line, numbered}
 use Rattle.cv_base.specs.Texts.{is_cons}
+use Rattle.cv_base.proofs.AllItems.{all_more, zip_more}
 use Rattle.cv_transcript.specs.declared.entry.Entry.{Entry}
 use Rattle.cv_machine.specs.Layers.{queued}
 use Rattle.cv_machine.specs.Scans.{Trees}
@@ -40,23 +40,12 @@ numbered_more n (first ∷ texts) text =
     ap (λ rest. line_at n first ∷ rest) (numbered_more (n + 1) texts text)
     ∙ ap (λ k. line_at n first ∷ (numbered (n + 1) texts ++ line_at k text ∷ [])) e
 
-all_with : {X : Type 0} (P : X → Type 0) (xs : List X) (x : X) → AllByRecursion P xs → P x → AllByRecursion P (xs ++ x ∷ [])
-all_with P [] x h k = (k, tt)
-all_with P (first ∷ xs) x h k = (h.0, all_with P xs x h.1 k)
-
-zip_with : {X Y : Type 0} (R : X → Y → Type 0) (xs : List X) (ys : List Y) (x : X) (y : Y) → AllZip R xs ys → R x y
-    → AllZip R (xs ++ x ∷ []) (ys ++ y ∷ [])
-zip_with R [] [] x y h k = (k, tt)
-zip_with R [] (b ∷ ys) x y h k = absurd h
-zip_with R (a ∷ xs) [] x y h k = absurd h
-zip_with R (a ∷ xs) (b ∷ ys) x y h k = (h.0, zip_with R xs ys x y h.1 k)
-
 -- a line with the next number
 rise_with : (lines : List Line) (last : ℕ) (line : Line) → line.number ≡ last + 1 → LinesAscend lines last → LinesAscend (lines ++ line ∷ []) (last + 1)
 rise_with [] last line is h = (omega (arith, is), (tt, tt))
 rise_with (first ∷ lines) last line is h =
     let low = h.0 in
-    (omega (arith, low), (all_with (λ later. first.number < later.number) lines line h.1.0 (omega (arith, low, is)), rise_with lines last line is h.1.1))
+    (omega (arith, low), (all_more (λ later. first.number < later.number) lines line h.1.0 (omega (arith, low, is)), rise_with lines last line is h.1.1))
 
 rise_later : (lines : List Line) (last more : ℕ) → LinesAscend lines last → last ≤ more → LinesAscend lines more
 rise_later [] last more h most = tt
@@ -74,7 +63,7 @@ pub takes_line : (trees : Trees) (workers : ℕ) (cut : Cut) (last : ℕ) (taken
     → Served trees workers (put_line line cut) (last + 1) (taken ++ t ∷ []) (bytes + length line.text) entries now
 takes_line trees workers cut last taken bytes entries now line t h is k = record {
   rounds = h.rounds;
-  begun = zip_with IsTaken cut.begun taken line t h.begun k;
+  begun = zip_more IsTaken cut.begun taken line t h.begun k;
   ascend = rise_with cut.begun last line is h.ascend;
   size = size_by_one cut.begun line ∙ ap (λ n. n + length line.text) h.size;
 }

@@ -1,8 +1,8 @@
 -- The relation of `Division` determines the rounds: lines that are divided so are cut so.
-use Rattle.std.specs.Prelude.{◌≡◌, ℕ, ◌+◌, ◌<◌, ◌≤◌, Bool, true, false, ◌&&◌, cond, nat_le, nat_lt, List, [], ◌∷◌, ◌++◌, fold, length, refl}
+use Rattle.std.specs.Prelude.{◌≡◌, ℕ, ◌+◌, ◌<◌, false, ◌&&◌, cond, nat_lt, List, [], ◌∷◌, ◌++◌, fold, length, refl}
 use Rattle.std.specs.List.{AllByRecursion}
 use Rattle.std.proofs.Common.{ap, append_assoc, arith, inl, inr, subst, sym, ◌∙◌}
-use Rattle.std.proofs.lemmas.Bool.{le-leb, leb-true, lt-ltb, ltb-true}
+use Rattle.std.proofs.lemmas.Bool.{le-leb, lt-ltb, lt-leb, le-ltb}
 use Rattle.std.proofs.lemmas.List.{append-nil, length-append}
 use Rattle.std.proofs.lemmas.List.Sums.{fold-append}
 use Rattle.cv_base.specs.Lines.{Line}
@@ -22,18 +22,6 @@ no_nil : (text : List ℕ) → 0 < length text → is_nil text ≡ false
 no_nil [] h = absurd (omega (arith, h))
 no_nil (byte ∷ bytes) h = refl
 
-not_less : (a b : ℕ) → b ≤ a → nat_lt a b ≡ false
-not_less a b h = by_test (nat_lt a b) refl where
-  by_test : (t : Bool) → nat_lt a b ≡ t → t ≡ false
-  by_test true is = let less = ltb-true a b is in absurd (omega (arith, h, less))
-  by_test false is = refl
-
-not_most : (a b : ℕ) → b < a → nat_le a b ≡ false
-not_most a b h = by_test (nat_le a b) refl where
-  by_test : (t : Bool) → nat_le a b ≡ t → t ≡ false
-  by_test true is = let most = leb-true a b is in absurd (omega (arith, h, most))
-  by_test false is = refl
-
 -- ---- one more line of a round
 
 -- there is room for each line of a round that is within its bytes
@@ -42,7 +30,7 @@ has_room : (limits : RoundLimits) (begun : Round) (line : Line) (later : List Li
 has_room limits [] line later h = refl
 has_room limits (first ∷ begun) line later (inl fits) =
     let e : size_of ((first ∷ begun) ++ line ∷ later) ≡ size_of (first ∷ begun) + (length line.text + size_of later) = size_both (first ∷ begun) (line ∷ later) in
-    not_less limits.bytes (size_of (first ∷ begun) + length line.text) (grind (arith, e, fits))
+    le-ltb limits.bytes (size_of (first ∷ begun) + length line.text) (grind (arith, e, fits))
 has_room limits (first ∷ begun) line later (inr one) =
     let e = length-append begun (line ∷ later) in
     absurd (omega (arith, e, one))
@@ -56,7 +44,7 @@ comes limits rounds begun line later text within =
     ∙ ap (λ b. end_full limits (put_line line (cond b (end_round cut) cut))) (has_room limits begun line later within)
 
 goes_on : (limits : RoundLimits) (rounds : List Round) (begun : Round) → length begun < limits.lines → end_full limits (cut_at rounds begun) ≡ cut_at rounds begun
-goes_on limits rounds begun short = ap (λ b. cond b (end_round (cut_at rounds begun)) (cut_at rounds begun)) (not_most limits.lines (length begun) short)
+goes_on limits rounds begun short = ap (λ b. cond b (end_round (cut_at rounds begun)) (cut_at rounds begun)) (lt-leb limits.lines (length begun) short)
 
 is_full : (limits : RoundLimits) (rounds : List Round) (begun : Round) → length begun ≡ limits.lines
     → end_full limits (cut_at rounds begun) ≡ cut_at (rounds ++ begun ∷ []) []

@@ -29,7 +29,7 @@ listed_more list taken entries total event entry listed is =
       total_is = omega (arith, listed.total_is, length-append list (event ∷ []));
     }
 
--- after a taking nothing is left
+-- after a taking nothing remains
 pub listed_none : (list : List Submission) (taken : ℕ) (entries : List EventEntry) (total : ℕ) → IsListed list taken entries total → IsListed list (length list) [] total
 listed_none list taken entries total listed = record {
   entries_are = sym (ap (entries_from (length list + 1)) (drop_all (length list) list (omega arith)));

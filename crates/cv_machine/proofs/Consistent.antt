@@ -1,5 +1,5 @@
 -- Each event leaves a consistent state consistent.
-use Rattle.std.specs.Prelude.{◌≡◌, ℕ, ◌+◌, ◌≤◌, ◌<◌, Bool, true, false, ◌==◌, ◌&&◌, ◌||◌, not, cond, nat_le, nat_lt, List, [], ◌∷◌, length, Option, Some, None, refl}
+use Rattle.std.specs.Prelude.{◌≡◌, ℕ, ◌+◌, ◌≤◌, ◌<◌, Bool, true, false, ◌&&◌, ◌||◌, not, cond, nat_le, nat_lt, List, [], ◌∷◌, length, Option, Some, None, refl}
 use Rattle.std.specs.Cmp.Lexicographic.{nat_list_cmp_total, texts_ties}
 use Rattle.std.specs.BTreeMap.{is_at}
 use Rattle.std.specs.List.{AllByRecursion}
@@ -7,13 +7,15 @@ use Rattle.std.specs.List.Sorted.{IsStrictlySortedBy}
 use Rattle.std.specs.Map.{keys_of}
 use Rattle.std.specs.Option.{is_some}
 use Rattle.std.specs.Ordering.{nat_cmp}
-use Rattle.std.specs.declared.cmp.Ordering.TheVariants.{Less, Equal, Greater}
+use Rattle.std.specs.declared.cmp.Ordering.TheVariants.{Less}
 use Rattle.std.proofs.Common.{ap, sym, ◌∙◌, arith}
-use Rattle.std.proofs.lemmas.Bool.{leb-false, lt-ltb, ltb-true}
+use Rattle.std.proofs.lemmas.Bool.{leb-false, ltb-true}
 use Rattle.cv_base.specs.Texts.{has_text, same}
 use Rattle.cv_base.specs.declared.advisory.Advisory.{Advisory}
 use Rattle.cv_base.specs.declared.finding.Row.{Row}
 use Rattle.cv_base.specs.declared.manifest.Manifest.{Manifest}
+use Rattle.cv_base.proofs.InOrder.{nat_less}
+use Rattle.cv_base.proofs.Same.{same_is}
 use Rattle.cv_match.specs.Findings.{text_cmp}
 use Rattle.cv_records.specs.declared.reply.Reply.{Reply}
 use Rattle.cv_records.specs.declared.reply.Reply.TheVariants as reply
@@ -31,7 +33,7 @@ use Rattle.cv_machine.specs.declared.limits.Limits.{Limits}
 use Rattle.cv_machine.specs.declared.status.Status.{Status}
 use Rattle.cv_machine.specs.declared.status.Status.TheVariants as status
 use Rattle.cv_machine.proofs.Entries.{all_cut, all_last, any_cut, any_put, length_cut, length_found, length_put, lookup_cut, sorted_cut, sorted_filter, sorted_last, sorted_put}
-use Rattle.cv_machine.proofs.LayerTables.{entered_claimed, entered_some, entered_sorted, remaining_found, same_key, staying, staying_right, value_put}
+use Rattle.cv_machine.proofs.LayerTables.{entered_claimed, entered_some, entered_sorted, remaining_found, staying, staying_right, value_put}
 
 -- one of two ends of an event
 abbrev pub either : Bool → State × Reply → State × Reply → State × Reply
@@ -42,10 +44,11 @@ abbrev pub IsRight : Images → Layers → Type 0
 IsRight images table = (q : List ℕ) → is_some (value_at table q) ≡ (is_named images q || is_claimed (value_at table q))
 
 -- a state with another table
-abbrev with_layers : State → Layers → State
+abbrev pub with_layers : State → Layers → State
 with_layers s table = record s { layers = table }
 
-layers_changed : (s : State) (table : Layers) → IsConsistent s → IsStrictlySortedBy text_cmp (keys_of table) → IsRight s.images table
+-- another table that is sorted and right
+pub layers_changed : (s : State) (table : Layers) → IsConsistent s → IsStrictlySortedBy text_cmp (keys_of table) → IsRight s.images table
     → IsConsistent (with_layers s table)
 layers_changed s table h sorted right = record {
   images = h.images;
@@ -53,8 +56,8 @@ layers_changed s table h sorted right = record {
   feeds = h.feeds;
   notifications = h.notifications;
   numbers = h.numbers;
-  few_images = h.few_images;
-  few_feeds = h.few_feeds;
+  images_within_limit = h.images_within_limit;
+  feeds_within_limit = h.feeds_within_limit;
   table = right;
 }
 
@@ -66,7 +69,7 @@ put_right images table layer status right wanted q = by_test (same layer q) refl
       → is_some (value_at (with_value table layer status) q) ≡ (is_named images q || is_claimed (value_at (with_value table layer status) q))
   by_test true key =
       let found : value_at (with_value table layer status) q ≡ Some status = value_put table layer status q ∙ ap (λ b. cond b (Some status) (value_at table q)) key in
-      ap is_some found ∙ sym wanted ∙ ap (λ k. is_named images k || is_claimed_as status) (same_key layer q key)
+      ap is_some found ∙ sym wanted ∙ ap (λ k. is_named images k || is_claimed_as status) (same_is layer q key)
       ∙ ap (λ f. is_named images q || is_claimed f) (sym found)
   by_test false key =
       let found : value_at (with_value table layer status) q ≡ value_at table q = value_put table layer status q ∙ ap (λ b. cond b (Some status) (value_at table q)) key in
@@ -83,7 +86,7 @@ cut_right images table layer sorted right unnamed q = by_test (same layer q) ref
       → is_some (value_at (without_value table layer) q) ≡ (is_named images q || is_claimed (value_at (without_value table layer) q))
   by_test true key =
       let found : value_at (without_value table layer) q ≡ None = cut ∙ ap (λ b. cond b None (value_at table q)) key in
-      ap is_some found ∙ ap (λ b. b || false) (sym unnamed ∙ ap (is_named images) (same_key layer q key))
+      ap is_some found ∙ ap (λ b. b || false) (sym unnamed ∙ ap (is_named images) (same_is layer q key))
       ∙ ap (λ f. is_named images q || is_claimed f) (sym found)
   by_test false key =
       let found : value_at (without_value table layer) q ≡ value_at table q = cut ∙ ap (λ b. cond b None (value_at table q)) key in
@@ -103,11 +106,11 @@ registered s m h new room = record {
   feeds = h.feeds;
   notifications = h.notifications;
   numbers = h.numbers;
-  few_images =
+  images_within_limit =
       let grown : length (with_value s.images m.hash m.layers) ≤ length s.images + 1 = length_put text_cmp s.images m.hash m.layers in
       let below : length s.images < s.limits.images = ltb-true _ _ room in
       omega (arith, grown, below);
-  few_feeds = h.few_feeds;
+  feeds_within_limit = h.feeds_within_limit;
   table = λ q.
       entered_some s.layers m.layers q ∙ ap (λ b. has_text m.layers q || b) (h.table q)
       ∙ or_assoc (has_text m.layers q) (is_named s.images q) (is_claimed (value_at s.layers q))
@@ -135,8 +138,8 @@ drop_consistent (Some layers) s image is h = record {
   feeds = h.feeds;
   notifications = h.notifications;
   numbers = h.numbers;
-  few_images = let fewer : length (without_value s.images image) ≤ length s.images = length_cut (is_at (text_cmp image)) s.images in omega (arith, fewer, h.few_images);
-  few_feeds = h.few_feeds;
+  images_within_limit = let fewer : length (without_value s.images image) ≤ length s.images = length_cut (is_at (text_cmp image)) s.images in omega (arith, fewer, h.images_within_limit);
+  feeds_within_limit = h.feeds_within_limit;
   table = λ q.
       let others = without_value s.images image in
       let found : value_at (remaining s.layers layers others) q ≡ staying (has_text layers q) (is_named others q) (value_at s.layers q) = remaining_found s.layers layers others q h.layers in
@@ -185,12 +188,9 @@ all_later : (n : ℕ) (xs : List ℕ) → AllByRecursion (λ number. number ≤ 
 all_later n [] h = tt
 all_later n (x ∷ xs) h = (omega (arith, h.0), all_later n xs h.1)
 
-less : (x y : ℕ) → x < y → nat_cmp x y ≡ Less
-less x y h = ap (λ b. cond b Less (cond (x == y) Equal Greater)) (lt-ltb x y h)
-
 all_below : (n : ℕ) (xs : List ℕ) → AllByRecursion (λ number. number ≤ n) xs → AllByRecursion (λ number. nat_cmp number (n + 1) ≡ Less) xs
 all_below n [] h = tt
-all_below n (x ∷ xs) h = (let below : x < n + 1 = omega (arith, h.0) in less x (n + 1) below, all_below n xs h.1)
+all_below n (x ∷ xs) h = (let below : x < n + 1 = omega (arith, h.0) in nat_less x (n + 1) below, all_below n xs h.1)
 
 notified_sorted : (ns : Notifications) (n : ℕ) (rows : List Row) → IsStrictlySortedBy nat_cmp (keys_of ns) → AllByRecursion (λ number. number ≤ n) (keys_of ns)
     → IsStrictlySortedBy nat_cmp (keys_of (notified ns (n + 1) rows))
@@ -202,13 +202,13 @@ notified_numbers : (ns : Notifications) (n : ℕ) (rows : List Row) → AllByRec
 notified_numbers ns n [] h = all_later n (keys_of ns) h
 notified_numbers ns n (row ∷ rows) h = all_last (λ number. number ≤ n + 1) ns (n + 1) (row ∷ rows) (all_later n (keys_of ns) h) (omega arith)
 
-pub feeds_within_limit : (s : State) (feed : List ℕ) (records : List Advisory) → IsConsistent s → is_full s feed ≡ false → length (with_value s.feeds feed records) ≤ s.limits.feeds
-feeds_within_limit s feed records h room = by_found (is_some (value_at s.feeds feed)) (nat_le s.limits.feeds (length s.feeds)) refl refl room where
+pub put_within_limit : (s : State) (feed : List ℕ) (records : List Advisory) → IsConsistent s → is_full s feed ≡ false → length (with_value s.feeds feed records) ≤ s.limits.feeds
+put_within_limit s feed records h room = by_found (is_some (value_at s.feeds feed)) (nat_le s.limits.feeds (length s.feeds)) refl refl room where
   by_found : (b full : Bool) → is_some (value_at s.feeds feed) ≡ b → nat_le s.limits.feeds (length s.feeds) ≡ full → (full && not b) ≡ false
       → length (with_value s.feeds feed records) ≤ s.limits.feeds
   by_found true full found is some =
       let same_length : length (with_value s.feeds feed records) ≡ length s.feeds = length_found nat_list_cmp_total s.feeds feed records h.feeds found in
-      omega (arith, same_length, h.few_feeds)
+      omega (arith, same_length, h.feeds_within_limit)
   by_found false true found is few = absurd (cc few)
   by_found false false found is few =
       let grown : length (with_value s.feeds feed records) ≤ length s.feeds + 1 = length_put text_cmp s.feeds feed records in
@@ -223,8 +223,8 @@ updated_consistent s feeds rows h sorted few = record {
   feeds = sorted;
   notifications = notified_sorted s.notifications s.generation rows h.notifications h.numbers;
   numbers = notified_numbers s.notifications s.generation rows h.numbers;
-  few_images = h.few_images;
-  few_feeds = few;
+  images_within_limit = h.images_within_limit;
+  feeds_within_limit = few;
   table = h.table;
 }
 
@@ -235,7 +235,7 @@ update_consistent trees s feed records h = by_room (is_full s feed) refl where
   by_room true full = h
   by_room false room =
       updated_consistent s (with_value s.feeds feed (by_id records)) (rows_of trees s (with_value s.feeds feed (by_id records))) h
-      (sorted_put nat_list_cmp_total s.feeds feed (by_id records) h.feeds) (feeds_within_limit s feed (by_id records) h room)
+      (sorted_put nat_list_cmp_total s.feeds feed (by_id records) h.feeds) (put_within_limit s feed (by_id records) h room)
 
 -- Ack
 
@@ -247,8 +247,8 @@ ack_consistent (Some rows) s number h = record {
   feeds = h.feeds;
   notifications = sorted_cut nat_cmp (is_at (nat_cmp number)) s.notifications h.notifications;
   numbers = all_cut (λ n. n ≤ s.generation) (is_at (nat_cmp number)) s.notifications h.numbers;
-  few_images = h.few_images;
-  few_feeds = h.few_feeds;
+  images_within_limit = h.images_within_limit;
+  feeds_within_limit = h.feeds_within_limit;
   table = h.table;
 }
 
@@ -270,8 +270,8 @@ opening_consistent limits = record {
   feeds = tt;
   notifications = tt;
   numbers = tt;
-  few_images = omega arith;
-  few_feeds = omega arith;
+  images_within_limit = omega arith;
+  feeds_within_limit = omega arith;
   table = λ q. refl;
 }
 

@@ -16,7 +16,8 @@ use Rattle.std.proofs.lemmas.Map.Keys.{IsDistinct-from_sorted}
 use Rattle.std.proofs.lemmas.Map.Lookups.{CmpEqualImpliesEq}
 use Rattle.std.proofs.lemmas.Option.{same_Some}
 use Rattle.cv_base.proofs.Bools.{or_swap_inner}
-use Rattle.cv_base.proofs.InOrder.{after_lower, turned}
+use Rattle.cv_base.proofs.InOrder.{after_lower}
+use Rattle.cv_base.proofs.Orders.{turned}
 
 -- what holds of a key and of all others holds of all with it
 pub all_put : {K V : Type 0} (R : K → K → Ordering) (P : K → Type 0) (es : List (K × V)) (k : K) (v : V) → P k → AllByRecursion P (keys_of es)

@@ -1,12 +1,10 @@
 -- The definitions, computed on small states: each event with each of its replies, a report, pages and rows.
-use Rattle.std.specs.Prelude.{◌≡◌, ℕ, false, List, [], ◌∷◌, codes, Option, Some, None, refl}
+use Rattle.std.specs.Prelude.{◌≡◌, ℕ, List, [], ◌∷◌, codes, Option, Some, None, refl}
 use Rattle.cv_base.specs.Path.{components}
-use Rattle.cv_base.specs.declared.advisory.Advisory.{Advisory}
 use Rattle.cv_base.specs.declared.finding.Finding.{Finding}
 use Rattle.cv_base.specs.declared.finding.Reason.TheVariants.{Added, Changed, Removed}
 use Rattle.cv_base.specs.declared.finding.Row.{Row}
 use Rattle.cv_base.specs.declared.manifest.Manifest.{Manifest}
-use Rattle.cv_base.specs.declared.package.PackageKind.TheVariants.{Deb}
 use Rattle.cv_desk.specs.Stored.{Dir, File}
 use Rattle.cv_match.specs.Affects.{affects, fixed}
 use Rattle.cv_match.specs.Findings.{findings}
@@ -25,6 +23,8 @@ use Rattle.cv_machine.specs.Scans.{Trees}
 use Rattle.cv_machine.specs.State.{State, opening}
 use Rattle.cv_machine.specs.declared.act.WholeAct.TheVariants.{Ack, Claim, DropImage, Fault, Indexed, Memory, Register, Update}
 use Rattle.cv_machine.specs.declared.status.Status.TheVariants as status
+use Rattle.cv_packages.proofs.Examples.{zlib_of}
+use Rattle.cv_scan.proofs.Examples.{listed}
 
 -- no layer is on any desk
 abbrev no_trees : Trees
@@ -105,15 +105,6 @@ updated : replies no_trees small (Update (codes "p") [] ∷ Update (codes "q") [
     ≡ reply.Updated 1 0 ∷ reply.TooManyFeeds ∷ reply.Updated 2 0 ∷ []
 updated = refl
 
--- a record that affects zlib 1
-abbrev listed : List ℕ → Advisory
-listed id = record {
-  id = id;
-  modified = codes "m";
-  withdrawn = false;
-  affected = record { «package» = Some (record { ecosystem = codes "unknown"; name = codes "zlib" }); ranges = []; versions = codes "1" ∷ [] } ∷ [];
-}
-
 -- the records of a feed stand by their ids, and take the place of those before
 replaced : ((state_after no_trees small (Update (codes "p") (listed (codes "X-2") ∷ listed (codes "X-1") ∷ []) ∷ [])).feeds
     ≡ (codes "p", listed (codes "X-1") ∷ listed (codes "X-2") ∷ []) ∷ [])
@@ -125,16 +116,7 @@ replaced = (refl, refl)
 
 abbrev zlib : List ℕ → Option (List ℕ) → Finding
 zlib id fix = record {
-  «package» = record {
-    kind = Deb;
-    path = components (codes "var/lib/dpkg/status");
-    name = codes "zlib";
-    version = codes "1";
-    source = codes "zlib";
-    source_version = codes "1";
-    arch = [];
-    ecosystem = codes "unknown";
-  };
+  «package» = zlib_of (codes "unknown");
   feed = codes "p";
   advisory = id;
   fixed = fix;
@@ -165,7 +147,7 @@ trees digest = Some (
 abbrev indexed : State
 indexed = state_after trees wide (Register (image 2 (a ∷ [])) ∷ Register (image 1 (a ∷ b ∷ [])) ∷ Claim a 0 ∷ Indexed a 0 ∷ [])
 
--- an update notifies of the rows of the images that are indexed, an update without rows does not, and a notification is there
+-- an update notifies of the rows of the images that are indexed, an update without rows does not, and a notification is kept
 -- until it is acknowledged
 notified : ((state_after trees indexed (Update (codes "p") (listed (codes "X-1") ∷ []) ∷ Update (codes "p") (listed (codes "X-1") ∷ []) ∷ Update (codes "p") [] ∷ [])).notifications
     ≡ (1, record { image = 2 ∷ []; reason = Added; finding = zlib (codes "X-1") None } ∷ [])

@@ -4,20 +4,18 @@ use Rattle.std.specs.Cmp.Lexicographic.{nat_list_cmp_total, nat_list_eq_equiv, t
 use Rattle.std.specs.List.Sorted.{IsStrictlySortedBy}
 use Rattle.std.specs.Map.{keys_of}
 use Rattle.std.specs.Option.{is_some, option_or}
-use Rattle.std.specs.declared.cmp.Ordering.{Ordering}
-use Rattle.std.specs.declared.cmp.Ordering.TheVariants.{Less, Equal, Greater}
-use Rattle.std.specs.Ordering.{is_eq}
 use Rattle.std.proofs.Common.{ap, sym, ◌∙◌}
 use Rattle.std.proofs.lemmas.Map.Lookups.{exact_bytes}
 use Rattle.cv_base.specs.Texts.{has_text, same}
+use Rattle.cv_base.proofs.Same.{same_is}
 use Rattle.cv_match.specs.Findings.{text_cmp}
 use Rattle.cv_machine.specs.Laws.{is_claimed}
 use Rattle.cv_machine.specs.Layers.{is_claimed_as, is_named}
-use Rattle.cv_machine.specs.State.{Images, Layers, value_at, with_value}
+use Rattle.cv_machine.specs.State.{Images, Layers, value_at, with_value, without_value}
 use Rattle.cv_machine.specs.Step.{entered, remaining}
 use Rattle.cv_machine.specs.declared.status.Status.{Status}
 use Rattle.cv_machine.specs.declared.status.Status.TheVariants as status
-use Rattle.cv_machine.proofs.Entries.{lookup_filter, lookup_put, passing, sorted_put}
+use Rattle.cv_machine.proofs.Entries.{lookup_filter, lookup_put, passing, sorted_put, lookup_cut}
 
 -- what is found with one more value
 pub value_put : {V : Type 0} (entries : List (List ℕ × V)) (key : List ℕ) (value : V) (q : List ℕ)
@@ -26,13 +24,10 @@ value_put entries key value q =
     lookup_put nat_list_cmp_total entries key value q
     ∙ ap (λ b. cond b (Some value) (value_at entries q)) (sym (texts_ties q key) ∙ nat_list_eq_equiv.symm q key)
 
--- keys that are the same are one key
-pub same_key : (key q : List ℕ) → same key q ≡ true → key ≡ q
-same_key key q h = exact_bytes key q (equal (text_cmp key q) (sym (texts_ties key q) ∙ h)) where
-  equal : (r : Ordering) → is_eq r ≡ true → r ≡ Equal
-  equal Less e = absurd (cc e)
-  equal Equal e = refl
-  equal Greater e = absurd (cc e)
+-- what is found with one value less
+pub value_cut : {V : Type 0} (entries : List (List ℕ × V)) (key q : List ℕ) → IsStrictlySortedBy text_cmp (keys_of entries)
+    → value_at (without_value entries key) q ≡ cond (same key q) None (value_at entries q)
+value_cut entries key q h = lookup_cut nat_list_cmp_total entries key q h ∙ ap (λ b. cond b None (value_at entries q)) (sym (texts_ties key q))
 
 -- the table with a layer in it
 abbrev one_entered : Layers → List ℕ → Layers
@@ -42,7 +37,7 @@ one_some : (table : Layers) (layer q : List ℕ) → is_some (value_at (one_ente
 one_some table layer q = by_tests (is_some (value_at table layer)) (same layer q) refl refl where
   by_tests : (s t : Bool) → is_some (value_at table layer) ≡ s → same layer q ≡ t
       → is_some (value_at (cond s table (with_value table layer status.Queued)) q) ≡ (t || is_some (value_at table q))
-  by_tests true true some key = ap (λ k. is_some (value_at table k)) (sym (same_key layer q key)) ∙ some
+  by_tests true true some key = ap (λ k. is_some (value_at table k)) (sym (same_is layer q key)) ∙ some
   by_tests true false some key = refl
   by_tests false true some key = ap is_some (value_put table layer status.Queued q ∙ ap (λ b. cond b (Some status.Queued) (value_at table q)) key)
   by_tests false false some key = ap is_some (value_put table layer status.Queued q ∙ ap (λ b. cond b (Some status.Queued) (value_at table q)) key)
@@ -58,7 +53,7 @@ one_claimed table layer q = by_tests (is_some (value_at table layer)) (same laye
   by_tests true t some key = refl
   by_tests false true some key =
       ap is_claimed (value_put table layer status.Queued q ∙ ap (λ b. cond b (Some status.Queued) (value_at table q)) key)
-      ∙ sym (ap (λ k. is_claimed (value_at table k)) (sym (same_key layer q key)) ∙ unclaimed (value_at table layer) some)
+      ∙ sym (ap (λ k. is_claimed (value_at table k)) (sym (same_is layer q key)) ∙ unclaimed (value_at table layer) some)
   by_tests false false some key = ap is_claimed (value_put table layer status.Queued q ∙ ap (λ b. cond b (Some status.Queued) (value_at table q)) key)
 
 or_turned : (a b c : Bool) → (b || (a || c)) ≡ ((a || b) || c)
@@ -101,11 +96,11 @@ one_found : (table : Layers) (layer q : List ℕ) → value_at (one_entered tabl
 one_found table layer q = by_tests (is_some (value_at table layer)) (same layer q) refl refl where
   by_tests : (s t : Bool) → is_some (value_at table layer) ≡ s → same layer q ≡ t
       → value_at (cond s table (with_value table layer status.Queued)) q ≡ option_or (value_at table q) (queued_if t)
-  by_tests true true some key = some_stays (value_at table q) (Some status.Queued) (ap (λ k. is_some (value_at table k)) (sym (same_key layer q key)) ∙ some)
+  by_tests true true some key = some_stays (value_at table q) (Some status.Queued) (ap (λ k. is_some (value_at table k)) (sym (same_is layer q key)) ∙ some)
   by_tests true false some key = none_added (value_at table q)
   by_tests false true some key =
       value_put table layer status.Queued q ∙ ap (λ b. cond b (Some status.Queued) (value_at table q)) key
-      ∙ none_taken (value_at table q) (Some status.Queued) (ap (λ k. is_some (value_at table k)) (sym (same_key layer q key)) ∙ some)
+      ∙ none_taken (value_at table q) (Some status.Queued) (ap (λ k. is_some (value_at table k)) (sym (same_is layer q key)) ∙ some)
   by_tests false false some key =
       value_put table layer status.Queued q ∙ ap (λ b. cond b (Some status.Queued) (value_at table q)) key ∙ none_added (value_at table q)
 

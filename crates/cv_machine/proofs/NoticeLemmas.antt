@@ -189,7 +189,7 @@ pub acked_found : (trees : Trees) (s : State) (number other : ℕ) → IsConsist
     → notification_at (step trees s (act.Ack number)).0.notifications other ≡ cond (number == other) None (notification_at s.notifications other)
 acked_found trees s number other h = ack_found (notification_at s.notifications number) s number other h refl
 
--- A notification is there until it is acknowledged.
+-- A notification is kept until it is acknowledged.
 
 notified_stays : (ns : Notifications) (n number : ℕ) (new rows : List Row) → notification_at ns number ≡ Some rows → notification_at (notified ns n new) number ≡ Some rows
 notified_stays ns n number [] rows is = is

@@ -67,6 +67,6 @@ pub record IsConsistent (state : State) : Type 0 where
   pub feeds : IsStrictlySortedBy text_cmp (keys_of state.feeds)
   pub notifications : IsStrictlySortedBy nat_cmp (keys_of state.notifications)
   pub numbers : AllByRecursion (λ number. number ≤ state.generation) (keys_of state.notifications)
-  pub few_images : length state.images ≤ state.limits.images
-  pub few_feeds : length state.feeds ≤ state.limits.feeds
+  pub images_within_limit : length state.images ≤ state.limits.images
+  pub feeds_within_limit : length state.feeds ≤ state.limits.feeds
   pub table : (layer : List ℕ) → is_some (value_at state.layers layer) ≡ (is_named state.images layer || is_claimed (value_at state.layers layer))

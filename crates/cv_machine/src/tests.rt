@@ -4,7 +4,5 @@ fn is_shared<T: Send + Sync>() {}
 
 #[test]
 fn acts_are_shared() {
-    is_shared::<WholeAct>();
-    is_shared::<Status>();
-    is_shared::<Limits>();
+    is_shared::<(WholeAct, Status, Limits)>();
 }

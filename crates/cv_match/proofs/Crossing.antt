@@ -13,14 +13,14 @@ prepared_send = search (entries.the_send, sendable, crosses, declared_send) dept
 prepared_sync : IsSync prepared.the_row
 prepared_sync = search (entries.the_sync, sendable, crosses, declared_sync) depth 30 fits 5000
 
-pub advisory_send : IsSend prepared_advisory.the_row
-advisory_send = search (prepared_send, prepared_sync, sendable, crosses, declared_send) depth 30 fits 5000
+pub prepared_advisory_send : IsSend prepared_advisory.the_row
+prepared_advisory_send = search (prepared_send, prepared_sync, sendable, crosses, declared_send) depth 30 fits 5000
 
-pub advisory_sync : IsSync prepared_advisory.the_row
-advisory_sync = search (prepared_send, prepared_sync, sendable, crosses, declared_sync) depth 30 fits 5000
+pub prepared_advisory_sync : IsSync prepared_advisory.the_row
+prepared_advisory_sync = search (prepared_send, prepared_sync, sendable, crosses, declared_sync) depth 30 fits 5000
 
 pub kinds_send : IsSend kinds.the_row
-kinds_send = search (advisory_send, sendable, declared_send) depth 30 fits 5000
+kinds_send = search (prepared_advisory_send, sendable, declared_send) depth 30 fits 5000
 
 pub kinds_sync : IsSync kinds.the_row
-kinds_sync = search (advisory_sync, sendable, declared_sync) depth 30 fits 5000
+kinds_sync = search (prepared_advisory_sync, sendable, declared_sync) depth 30 fits 5000

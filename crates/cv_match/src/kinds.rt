@@ -26,8 +26,6 @@ impl Model for PreparedForKinds {
 }
 
 impl Clone for PreparedForKinds {
-    ghost use Rattle.std.specs.Prelude.{◌≡◌};
-
     ghost is_clone = { λ x y. y ≡ x };
 
     fn clone(&self) -> Result<PreparedForKinds, AllocError> {

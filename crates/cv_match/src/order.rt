@@ -82,7 +82,7 @@ pub fn in_order(alloc: Global, found: Vec<Finding>) -> Result<Seq<Finding>, NoMe
 }
 
 /// Sorts by a set. The last finding goes in first, and stays.
-#[tactic(auto, using(crate::proofs::Ordered::put_last, crate::proofs::Ordered::put_none, crate::proofs::Ordered::put_seen))]
+#[tactic(auto, using(cv_base::proofs::Ordered::put_last, cv_base::proofs::Ordered::put_none, crate::proofs::Keyed::put_seen))]
 fn put_in_order(alloc: Global, mut found: Vec<Finding>) -> Result<Vec<Finding>, NoMemory>
     ensures { IfOk result (λ out. out.items ≡ in_order finding_cmp found.items) }
 {

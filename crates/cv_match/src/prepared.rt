@@ -35,8 +35,6 @@ impl Model for ReadyAdvisory {
 }
 
 impl Clone for ReadyAdvisory {
-    ghost use Rattle.std.specs.Prelude.{◌≡◌};
-
     ghost is_clone = { λ x y. y ≡ x };
 
     fn clone(&self) -> Result<ReadyAdvisory, AllocError> {

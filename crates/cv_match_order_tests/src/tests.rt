@@ -1,5 +1,6 @@
-use cv_base::{Finding, NoMemory, Package, PackageKind, RelPath, Text};
+use cv_base::{Finding, NoMemory, Text};
 use cv_match::in_order;
+use sample_data::debian_package;
 use std::alloc::Global;
 use std::test::Fail;
 
@@ -26,24 +27,10 @@ zlib a X-10 2
 zlib a X-2 4
 ";
 
-/// Version 1 of a package of Debian 12, which is its own source.
-fn package(alloc: Global, name: &str) -> Result<Package, Fail> {
-    Ok(Package {
-        kind: PackageKind::Deb,
-        path: RelPath::read(alloc, "var/lib/dpkg/status")?,
-        name: Text::of(alloc, name)?,
-        version: Text::of(alloc, "1")?,
-        source: Text::of(alloc, name)?,
-        source_version: Text::of(alloc, "1")?,
-        arch: Text::of(alloc, "amd64")?,
-        ecosystem: Text::of(alloc, "Debian:12")?,
-    })
-}
-
 fn finding(alloc: Global, row: &FindingRow) -> Result<Finding, Fail> {
     let (name, feed, advisory, fixed) = *row;
     Ok(Finding {
-        package: package(alloc, name)?,
+        package: debian_package(alloc, name)?,
         feed: Text::of(alloc, feed)?,
         advisory: Text::of(alloc, advisory)?,
         fixed: Some(Text::of(alloc, fixed)?),

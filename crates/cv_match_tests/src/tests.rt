@@ -240,7 +240,5 @@ fn records_prepared_for_all_kinds_are_shared_by_threads() {
 
 #[test]
 fn prepared_packages_are_shared_by_threads() {
-    is_shared::<ReadyPackage>();
-    is_shared::<Hit>();
-    is_shared::<FixedAt>();
+    is_shared::<(ReadyPackage, Hit, FixedAt)>();
 }

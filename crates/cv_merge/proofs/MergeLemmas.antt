@@ -13,7 +13,8 @@ use Rattle.cv_transcript.specs.declared.entry.Entry.{Entry}
 use Rattle.cv_transcript.specs.declared.entry.Entry.TheVariants as entry
 use Rattle.cv_transcript.specs.Order.{AreAscending, AreByLane, AreOfLane, IsEventOrRead, Precedes, entries_of, event_in, events_of, reads_by, reads_of}
 use Rattle.cv_merge.specs.code.Merge.{is_ahead, woven}
-use Rattle.cv_transcript.proofs.OrderLemmas.{Precedes-trans, all_weaker}
+use Rattle.cv_seq.proofs.AllItems.{all_weaker}
+use Rattle.cv_transcript.proofs.OrderLemmas.{Precedes-trans}
 
 -- an entry is an event, or a read of a lane below this one
 abbrev pub IsBelow : ℕ → Entry → Type 0

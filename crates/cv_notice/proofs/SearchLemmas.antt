@@ -12,9 +12,10 @@ use Rattle.std.proofs.lemmas.Bool.Decides.{nat_tests}
 use Rattle.std.proofs.lemmas.Cmp.{ranked}
 use Rattle.std.proofs.lemmas.List.Sorted.{IsNonDecreasingBy-from_default}
 use Rattle.std.proofs.lemmas.Map.Entries.{lookup_at_gap}
+use Rattle.cv_seq.proofs.Orders.{turned}
 use Rattle.cv_base.specs.declared.finding.Row.{Row}
 use Rattle.cv_tree.specs.Entries.{IsAscending, at}
-use Rattle.cv_tree.proofs.EntryLemmas.{returned, turned}
+use Rattle.cv_tree.proofs.EntryLemmas.{returned}
 use Rattle.cv_notice.specs.Notices.{Notifications}
 use Rattle.cv_notice.specs.code.Places.{HasNumber}
 

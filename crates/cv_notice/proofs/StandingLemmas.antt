@@ -7,10 +7,10 @@ use Rattle.std.specs.Map.{keys_of}
 use Rattle.std.specs.Ordering.{nat_cmp}
 use Rattle.std.specs.declared.cmp.Ordering.TheVariants.{Less, Equal}
 use Rattle.std.proofs.Common.{ap, drop-cons, subst, suc, sym, ◌∙◌}
-use Rattle.std.proofs.lemmas.Bool.{lt-ltb}
 use Rattle.std.proofs.lemmas.List.{take-append-drop}
 use Rattle.std.proofs.lemmas.List.Elements.{All-head, All-tail}
 use Rattle.cv_base.specs.declared.finding.Row.{Row}
+use Rattle.cv_base.proofs.InOrder.{nat_less}
 use Rattle.cv_tree.specs.Entries.{IsAscending, at, without_key}
 use Rattle.cv_tree.proofs.ChangeLemmas.{without_ascending}
 use Rattle.cv_tree.proofs.EntryLemmas.{at_here, without_here}
@@ -34,7 +34,7 @@ found es k i e h p r =
 pub is_found : (es : Notifications) (k i : ℕ) (e : ℕ × List Row) → IsAscending nat_cmp es → HasNumber es k i → e ≡ slice_index_or es i e → true ≡ is_some (at nat_cmp es k)
 is_found es k i e h p r = rw (← found es k i e h p r) refl
 
--- what is left without it
+-- what remains without it
 pub removed : (es : Notifications) (k i : ℕ) (e : ℕ × List Row) → IsAscending nat_cmp es → HasNumber es k i → e ≡ slice_index_or es i e
     → remove es i ≡ without_key nat_cmp es k
 removed es k i e h p r =
@@ -51,13 +51,10 @@ added_keys : (P : ℕ → Type 0) (es : Notifications) (n : ℕ) (rows : List Ro
 added_keys P [] n rows h p = (p, tt)
 added_keys P (e ∷ es) n rows h p = (h.0, added_keys P es n rows h.1 p)
 
-below_is : (m n : ℕ) → m < n → nat_cmp m n ≡ Less
-below_is m n h = rw (lt-ltb m n h) refl
-
 pub added_ascends : (es : Notifications) (n : ℕ) (rows : List Row) → IsAscending nat_cmp es → All (λ other. other < n) (keys_of es) → IsAscending nat_cmp (es ++ (n, rows) ∷ [])
 unfolding IsStrictlySortedBy
 added_ascends [] n rows h a = (tt, tt)
 added_ascends (e ∷ es) n rows h a = (
-  added_keys (λ y. nat_cmp e.0 y ≡ Less) es n rows h.0 (below_is e.0 n (All-head (λ other. other < n) e.0 (keys_of es) a)),
+  added_keys (λ y. nat_cmp e.0 y ≡ Less) es n rows h.0 (nat_less e.0 n (All-head (λ other. other < n) e.0 (keys_of es) a)),
   added_ascends es n rows h.1 (All-tail (λ other. other < n) e.0 (keys_of es) a),
 )

@@ -10,10 +10,7 @@ fn is_shared<T: Send + Sync>() {}
 
 #[test]
 fn notices_are_shared_by_threads() {
-    is_shared::<Notices>();
-    is_shared::<NoticeHead>();
-    is_shared::<NoNotification>();
-    is_shared::<PageError>();
+    is_shared::<(Notices, NoticeHead, NoNotification, PageError)>();
     is_shared::<Page<'static>>();
 }
 

@@ -1,3 +1,6 @@
+ghost use Rattle.std.specs.Prelude.{◌≡◌};
+ghost use Rattle.cv_osv.specs.declared.error.OsvError.TheVariants as osv;
+
 use cv_base::NoMemory;
 use cv_osv_record::RecordWhat;
 use thiserror::Error;
@@ -18,9 +21,6 @@ pub enum OsvError {
 }
 
 impl From<NoMemory> for OsvError {
-    ghost use Rattle.std.specs.Prelude.{◌≡◌};
-    ghost use Rattle.cv_osv.specs.declared.error.OsvError.TheVariants as osv;
-
     ghost from_gives = { λ _ e. e ≡ osv.NoMemory };
 
     fn from(_error: NoMemory) -> OsvError {

@@ -1,3 +1,7 @@
+ghost use Rattle.std.specs.Prelude.{◌≡◌};
+ghost use Rattle.cv_osv_record.specs.declared.error.AdvisoryError.TheVariants.{Bad};
+ghost use Rattle.cv_osv_record.specs.declared.error.AdvisoryError.TheVariants as advisory;
+
 use cv_base::NoMemory;
 use thiserror::Error;
 
@@ -36,9 +40,6 @@ pub enum AdvisoryError {
 }
 
 impl From<RecordWhat> for AdvisoryError {
-    ghost use Rattle.std.specs.Prelude.{◌≡◌};
-    ghost use Rattle.cv_osv_record.specs.declared.error.AdvisoryError.TheVariants.{Bad};
-
     ghost from_gives = { λ what e. e ≡ Bad what };
 
     fn from(what: RecordWhat) -> AdvisoryError {
@@ -47,9 +48,6 @@ impl From<RecordWhat> for AdvisoryError {
 }
 
 impl From<NoMemory> for AdvisoryError {
-    ghost use Rattle.std.specs.Prelude.{◌≡◌};
-    ghost use Rattle.cv_osv_record.specs.declared.error.AdvisoryError.TheVariants as advisory;
-
     ghost from_gives = { λ _ e. e ≡ advisory.NoMemory };
 
     fn from(_error: NoMemory) -> AdvisoryError {

@@ -1,9 +1,10 @@
 -- What serde_json makes of a tree without numbers, and how its members are found.
-use Rattle.std.specs.Prelude.{◌≡◌, ℕ, Bool, true, false, ◌||◌, cond, List, [], ◌∷◌, map, Option, Some, None, is_some, option_map, Ok, Err, refl}
+use Rattle.std.specs.Prelude.{◌≡◌, ℕ, Bool, true, false, cond, List, [], ◌∷◌, map, Option, Some, None, is_some, option_map, Ok, Err, refl}
 use Rattle.std.specs.Borrow.{Bor}
 use Rattle.std.specs.Str.{bytes_eq, is_utf8}
 use Rattle.std.specs.Cmp.Lexicographic.{bytes_decides}
 use Rattle.std.proofs.Common.{◌∙◌, sym, ap}
+use Rattle.std.proofs.lemmas.Bool.{or_parts}
 use Rattle.json.specs.Json as json
 use Rattle.json.specs.Find as find
 use Rattle.json.specs.Value.{value_view, items_view}
@@ -16,10 +17,6 @@ use Rattle.serde_json.proofs.Views.{get_member-put, get_member-put_other}
 use Rattle.cv_osv_text.specs.Tree.{data_of, data_items, data_members, data_view, has_number, items_number, members_number, number_or, tree_of}
 use Rattle.cv_request.specs.Line.{json_or}
 use Rattle.cv_request.specs.declared.error.RequestFault.TheVariants.{BadJson}
-
-either_false : (a b : Bool) → (a || b) ≡ false → (a ≡ false) × (b ≡ false)
-either_false false b h = (refl, h)
-either_false true b h = absurd (cc)
 
 -- serde_json has the value of a tree without numbers
 mutual
@@ -34,13 +31,13 @@ mutual
   of_items_is : (js : json.Items) → items_number js ≡ false → of_items js ≡ Some (data_items js)
   of_items_is json.no_items h = refl
   of_items_is (json.item j js) h =
-      let both = either_false (has_number j) (items_number js) h in
+      let both = or_parts (has_number j) (items_number js) h in
       rw (of_json_is j both.0, of_items_is js both.1) refl
 
   of_members_is : (ms : json.Members) (found : Members) → members_number ms ≡ false → of_members ms found ≡ Some (data_members ms found)
   of_members_is json.no_members found h = refl
   of_members_is (json.member k j ms) found h =
-      let both = either_false (has_number j) (members_number ms) h in
+      let both = or_parts (has_number j) (members_number ms) h in
       rw (of_json_is j both.0) (of_members_is ms (put k (data_of j) found) both.1)
 
 -- the last value of a key, or one that was found before

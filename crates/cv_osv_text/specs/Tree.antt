@@ -58,7 +58,7 @@ abbrev mutual
   members_number json.no_members = false
   members_number (json.member k j ms) = has_number j || members_number ms
 
--- a value of serde_json as data
+-- a value of json as data of serde_json
 abbrev pub data_view : {A : Type 0} → Value A → Data
 data_view v = data_of (value_view v)
 

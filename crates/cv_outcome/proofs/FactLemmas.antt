@@ -1,27 +1,20 @@
 -- What changes in outcomes where the facts of layers change.
-use Rattle.std.specs.Prelude.{◌≡◌, ℕ, Bool, true, false, ◌||◌, not, cond, List, [], ◌∷◌, map, Option, Some, None, refl}
+use Rattle.std.specs.Prelude.{◌≡◌, ℕ, Bool, true, false, not, cond, List, [], ◌∷◌, map, Option, Some, None, refl}
 use Rattle.std.specs.Cmp.Lexicographic.{nat_list_eq_equiv}
 use Rattle.std.specs.List.{cons_option}
 use Rattle.std.specs.Option.{is_some}
 use Rattle.std.proofs.Common.{ap, sym, ◌∙◌}
+use Rattle.std.proofs.lemmas.Bool.{or_left, or_right}
 use Rattle.cv_base.specs.Texts.{has_text, same}
-use Rattle.cv_base.proofs.Same.{same_self}
+use Rattle.cv_base.proofs.Same.{same_self, same_is}
 use Rattle.cv_facts.specs.Reduction.{Known}
 use Rattle.cv_coalesce.specs.Coalesced.{coalesced}
 use Rattle.cv_coalesce.specs.declared.image.ImagePackages.{ImagePackages}
 use Rattle.cv_machine.specs.State.{Feeds, value_at, with_value}
-use Rattle.cv_machine.proofs.LayerTables.{same_key, value_put}
+use Rattle.cv_machine.proofs.LayerTables.{value_put}
 use Rattle.cv_outcome.specs.Facts.{waits_for}
 use Rattle.cv_outcome.specs.Outcome.{FactTable, first_unknown, has_facts, known_layers, known_shapes, outcome_at, outcome_by}
 use Rattle.cv_outcome.proofs.TruthLemmas.{by_first}
-
-or_here : (b c : Bool) → b ≡ true → (b || c) ≡ true
-or_here true c h = refl
-or_here false c h = absurd (cc h)
-
-or_later : (b c : Bool) → c ≡ true → (b || c) ≡ true
-or_later true c h = refl
-or_later false c h = h
 
 -- two tables have the same facts of these layers
 abbrev AgreeOn : FactTable → FactTable → List (List ℕ) → Type 0
@@ -31,7 +24,7 @@ AgreeOn ones others (l ∷ ls) = (value_at ones l ≡ value_at others l) × Agre
 agree_on : (ones others : FactTable) (layers : List (List ℕ)) → ((layer : List ℕ) → has_text layers layer ≡ true → value_at ones layer ≡ value_at others layer) → AgreeOn ones others layers
 agree_on ones others [] h = tt
 agree_on ones others (l ∷ ls) h =
-    (h l (or_here (same l l) (has_text ls l) (same_self l)), agree_on ones others ls (λ q m. h q (or_later (same l q) (has_text ls q) m)))
+    (h l (or_left (same l l) (has_text ls l) (same_self l)), agree_on ones others ls (λ q m. h q (or_right (same l q) (has_text ls q) m)))
 
 first_agrees : (ones others : FactTable) (layers : List (List ℕ)) → AgreeOn ones others layers → first_unknown ones layers ≡ first_unknown others layers
 first_agrees ones others [] h = refl
@@ -57,7 +50,7 @@ other_layer false found known h = refl
 has_first : (layers : List (List ℕ)) (layer q : List ℕ) → has_text layers layer ≡ false → has_text layers q ≡ true → same layer q ≡ false
 has_first layers layer q none has = by_test (same layer q) refl where
   by_test : (b : Bool) → same layer q ≡ b → b ≡ false
-  by_test true e = absurd (cc (sym none ∙ ap (has_text layers) (same_key layer q e) ∙ has))
+  by_test true e = absurd (cc (sym none ∙ ap (has_text layers) (same_is layer q e) ∙ has))
   by_test false e = refl
 
 -- the facts of a layer that the image does not name change nothing
@@ -80,7 +73,7 @@ first_waits layer None feeds found h = refl
 
 -- a layer of the image is not the new one, if it has facts
 new_layer : (facts : FactTable) (layer l : List ℕ) → has_facts facts layer ≡ false → same layer l ≡ true → has_facts facts l ≡ false
-new_layer facts layer l new e = ap (has_facts facts) (sym (same_key layer l e)) ∙ new
+new_layer facts layer l new e = ap (has_facts facts) (sym (same_is layer l e)) ∙ new
 
 first_more : (b : Bool) (found : Option Known) (known : Known) (layer l : List ℕ) (ones others : Option (List ℕ)) → same l layer ≡ b → (b ≡ true → is_some found ≡ false)
     → is_first layer (cond (not (is_some found)) (Some l) others) ≡ false → (is_first layer others ≡ false → ones ≡ others)

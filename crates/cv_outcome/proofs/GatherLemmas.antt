@@ -26,8 +26,8 @@ at_most f [] = omega arith
 at_most f (x ∷ xs) = omega (arith, one_more (f x) (filter_map f xs) (length xs) (at_most f xs))
 
 -- there are at most as many facts as layers
-pub few_known : (facts : FactTable) (layers : List (List ℕ)) (n : ℕ) → length layers ≤ n → length (known_layers facts layers) ≤ n
-few_known facts layers n h = omega (arith, at_most (value_at facts) layers, h)
+pub known_at_most : (facts : FactTable) (layers : List (List ℕ)) (n : ℕ) → length layers ≤ n → length (known_layers facts layers) ≤ n
+known_at_most facts layers n h = omega (arith, at_most (value_at facts) layers, h)
 
 -- the facts of the layers from the next one on
 known_next : (facts : FactTable) (layers : List (List ℕ)) (i : ℕ) (l : List ℕ) → i < length layers → l ≡ get_or layers i l

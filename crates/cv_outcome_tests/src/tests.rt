@@ -108,7 +108,5 @@ fn is_shared<T: Send + Sync>() {}
 
 #[test]
 fn threads_may_share_outcomes() {
-    is_shared::<Outcome>();
-    is_shared::<Findings>();
-    is_shared::<Tree<Digest, Outcome>>();
+    is_shared::<(Outcome, Findings, Tree<Digest, Outcome>)>();
 }

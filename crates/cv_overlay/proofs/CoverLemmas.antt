@@ -25,8 +25,10 @@ use Rattle.cv_overlay.specs.declared.mark.Mark.TheVariants.{Reserved, Opaque, Wh
 use Rattle.cv_overlay.specs.code.Text.{is_within}
 use Rattle.cv_base.proofs.Bools.{and_right, or_swap_inner}
 use Rattle.cv_base.proofs.Lists.{any_last}
-use Rattle.cv_overlay.proofs.PathLemmas.{parent_of_last, name_of_last, mark_by_name}
-use Rattle.cv_overlay.proofs.TextLemmas.{split_none, components_last, above_split, within_is, within_text}
+use Rattle.cv_base.proofs.PathReads.{components_split, split_none}
+use Rattle.cv_base.proofs.PathEnds.{parent_last}
+use Rattle.cv_overlay.proofs.PathLemmas.{name_of_last, mark_by_name}
+use Rattle.cv_overlay.proofs.TextLemmas.{components_last, above_split, within_is}
 
 -- Tests joined by "or".
 
@@ -93,7 +95,7 @@ goes_none (x ∷ xs) = refl
 
 -- the directory of a path of more than one component, and what is below it
 pub directory_is : (a n t : List ℕ) → list_any is_slash n ≡ false → goes_on a t ≡ is_above (parent_of (components (a ++ 47 ∷ n))) (components t)
-directory_is a n t h = rw (components_last a n h, parent_of_last (slice_split is_slash a) n) (at_text t) where
+directory_is a n t h = rw (components_last a n h, parent_last (slice_split is_slash a) n) (at_text t) where
   at_text : (t : List ℕ) → goes_on a t ≡ is_above (slice_split is_slash a) (components t)
   at_text [] = goes_none a ∙ sym (none_above (slice_split is_slash a))
   at_text (y ∷ ys) = sym (above_split a (y ∷ ys) refl)
@@ -128,13 +130,9 @@ some_name (y ∷ ys) h = refl
 pub target_in : (a n : List ℕ) → list_any is_slash n ≡ false → components (a ++ 47 ∷ drop 4 n) ≡ target_of (components (a ++ 47 ∷ n))
 target_in a n h =
     components_last a (drop 4 n) (any_drop 4 n h)
-    ∙ ap (λ p. p ++ drop 4 n ∷ []) (sym (parent_of_last (slice_split is_slash a) n))
+    ∙ ap (λ p. p ++ drop 4 n ∷ []) (sym (parent_last (slice_split is_slash a) n))
     ∙ ap (λ c. parent_of (slice_split is_slash a ++ n ∷ []) ++ drop 4 c ∷ []) (sym (name_of_last (slice_split is_slash a) n))
     ∙ ap target_of (sym (components_last a n h))
-
-split_some : (x : List ℕ) → is_cons x ≡ true → components x ≡ slice_split is_slash x
-split_some [] h = cc
-split_some (y ∷ ys) h = refl
 
 -- at the top
 pub target_top : (t : List ℕ) → list_any is_slash t ≡ false → is_whiteout_name (name_of (components t)) ≡ true → components (drop 4 t) ≡ target_of (components t)
@@ -143,7 +141,7 @@ target_top (x ∷ xs) h k =
     let parts = split_none (x ∷ xs) h in
     let named : is_whiteout_name (x ∷ xs) ≡ true = rw parts at k in
     let some : is_cons (drop 4 (x ∷ xs)) ≡ true = some_name (drop 4 (x ∷ xs)) (and_right (has_mark (x ∷ xs)) (not (is_special (drop 4 (x ∷ xs)))) named) in
-    split_some (drop 4 (x ∷ xs)) some ∙ split_none (drop 4 (x ∷ xs)) (any_drop 4 (x ∷ xs) h) ∙ ap target_of (sym parts)
+    components_split (drop 4 (x ∷ xs)) some ∙ split_none (drop 4 (x ∷ xs)) (any_drop 4 (x ∷ xs) h) ∙ ap target_of (sym parts)
 
 target_cons : (p : Path) (c : List ℕ) → is_cons (p ++ c ∷ []) ≡ true
 target_cons [] c = refl
@@ -228,7 +226,7 @@ whole_parts : (cs : List (List ℕ)) (t : List ℕ) → list_any (λ c. is_withi
 whole_parts [] t = refl
 whole_parts (c ∷ cs) t =
     ap (λ r. is_within c t true || r) (whole_parts cs t)
-    ∙ ap (λ r. r || (list_any (λ c. goes_on c t) cs || has_text cs t)) (within_text c t true ∙ ap (λ r. goes_on c t || r) (nat_list_eq_equiv.symm t c))
+    ∙ ap (λ r. r || (list_any (λ c. goes_on c t) cs || has_text cs t)) (ap (λ r. goes_on c t || r) (nat_list_eq_equiv.symm t c))
     ∙ or_swap_inner (goes_on c t) (same c t) (list_any (λ c. goes_on c t) cs) (has_text cs t)
 
 -- the lookup of a text and its fronts finds what is hidden

@@ -21,7 +21,8 @@ use Rattle.cv_overlay.specs.declared.fault.TreeFault.{TreeFault}
 use Rattle.cv_overlay.specs.declared.fault.TreeFault.TheVariants.{Unsorted, NoParent, TooMany}
 use Rattle.cv_base.proofs.Bools.{and_left, and_right}
 use Rattle.cv_base.proofs.Same.{path_is, path_total, tied_path}
-use Rattle.cv_base.proofs.InOrder.{after_lower, turned}
+use Rattle.cv_base.proofs.InOrder.{after_lower}
+use Rattle.cv_base.proofs.Orders.{turned}
 use Rattle.cv_overlay.proofs.ParentLemmas.{less_is}
 
 abbrev pub ComesAfter : Path → TreeEntry → Type 0

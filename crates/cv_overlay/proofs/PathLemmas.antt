@@ -14,11 +14,6 @@ use Rattle.cv_base.specs.Texts.{is_cons}
 
 -- The last component.
 
-pub parent_of_last : (p : Path) (c : List ℕ) → parent_of (p ++ c ∷ []) ≡ p
-parent_of_last [] c = refl
-parent_of_last (x ∷ []) c = refl
-parent_of_last (x ∷ y ∷ ys) c = ap (λ q. x ∷ q) (parent_of_last (y ∷ ys) c)
-
 pub name_of_last : (p : Path) (c : List ℕ) → name_of (p ++ c ∷ []) ≡ c
 name_of_last [] c = refl
 name_of_last (x ∷ []) c = refl

@@ -28,7 +28,7 @@ all_at p [] h k d l = absurd (omega (arith, l))
 all_at p (x ∷ xs) h zero d l = h.0
 all_at p (x ∷ xs) h (suc k) d l = all_at p xs h.1 k d (omega (arith, l))
 
-turned_less : (p q : Path) → path_cmp p q ≡ Less → is_lt (path_cmp q p) ≡ false
+pub turned_less : (p q : Path) → path_cmp p q ≡ Less → is_lt (path_cmp q p) ≡ false
 turned_less p q h = rw (path_total.antisymm q p, h) refl
 
 next_up : (xs : List TreeEntry) → AreAscending xs → (k : ℕ) (d : TreeEntry) → suc k < length xs → is_lt (path_cmp (get_or xs (suc k) d).path (get_or xs k d).path) ≡ false

@@ -1,10 +1,9 @@
 -- Paths by their texts: the last component, and what lies within a directory.
-use Rattle.std.specs.Prelude.{◌≡◌, ℕ, Bool, true, false, ◌&&◌, ◌||◌, ◌==◌, cond, List, [], ◌∷◌, ◌++◌, refl}
+use Rattle.std.specs.Prelude.{◌≡◌, ℕ, Bool, true, false, ◌&&◌, ◌||◌, cond, List, [], ◌∷◌, ◌++◌, refl}
 use Rattle.std.specs.List.{list_any, onto_first, slice_split}
 use Rattle.std.proofs.Common.{ap, sym, ◌∙◌}
 use Rattle.std.proofs.lemmas.List.Splits.{join_with_byte-slice_split}
 use Rattle.std.specs.List.{join_with_byte}
-use Rattle.std.proofs.lemmas.Cmp.{nat_eq_equiv}
 use Rattle.cv_base.specs.Path.{Path, components, is_above, is_slash, same_path, parent_of}
 use Rattle.cv_base.specs.code.PathText.{goes_on}
 use Rattle.cv_base.specs.Texts.{same, is_cons}
@@ -14,34 +13,11 @@ use Rattle.cv_overlay.specs.Mark.{name_of, is_reserved_name, mark_of}
 use Rattle.cv_overlay.specs.code.Text.{is_within, mark_by}
 use Rattle.cv_base.proofs.Bools.{both_ways}
 use Rattle.cv_base.proofs.Same.{same_is, same_self, path_is, path_self}
-use Rattle.cv_overlay.proofs.PathLemmas.{needs_parent_last, parent_of_last, name_of_last, mark_by_name}
+use Rattle.cv_base.proofs.PathReads.{split_none}
+use Rattle.cv_base.proofs.PathEnds.{split_last, parent_last}
+use Rattle.cv_overlay.proofs.PathLemmas.{needs_parent_last, name_of_last, mark_by_name}
 
 -- Cuts.
-
--- a text without a slash is one component
-pub split_none : (t : List ℕ) → list_any is_slash t ≡ false → slice_split is_slash t ≡ t ∷ []
-split_none [] h = refl
-split_none (x ∷ xs) h = by_slash (is_slash x) h (λ k. split_none xs k) where
-  by_slash : (b : Bool) → (b || list_any is_slash xs) ≡ false → (list_any is_slash xs ≡ false → slice_split is_slash xs ≡ xs ∷ [])
-      → cond b ([] ∷ slice_split is_slash xs) (onto_first x (slice_split is_slash xs)) ≡ (x ∷ xs) ∷ []
-  by_slash true k rest = cc
-  by_slash false k rest = rw (rest k) refl
-
-onto_last : (x : ℕ) (s : Path) (c : List ℕ) → is_cons s ≡ true → onto_first x (s ++ c ∷ []) ≡ onto_first x s ++ c ∷ []
-onto_last x [] c h = cc
-onto_last x (d ∷ ds) c h = refl
-
-last_by : (x : ℕ) (s : Path) (c : List ℕ) (b : Bool) → is_cons s ≡ true
-    → cond b ([] ∷ (s ++ c ∷ [])) (onto_first x (s ++ c ∷ [])) ≡ cond b ([] ∷ s) (onto_first x s) ++ c ∷ []
-last_by x s c true h = refl
-last_by x s c false h = onto_last x s c h
-
--- a text that is cut at its last slash
-pub split_last : (a b : List ℕ) → list_any is_slash b ≡ false → slice_split is_slash (a ++ 47 ∷ b) ≡ slice_split is_slash a ++ b ∷ []
-split_last [] b h = rw (split_none b h) refl
-split_last (x ∷ xs) b h =
-    ap (λ s. cond (is_slash x) ([] ∷ s) (onto_first x s)) (split_last xs b h)
-    ∙ last_by x (slice_split is_slash xs) b (is_slash x) (split_cons xs)
 
 -- the components of a text that is cut at its last slash
 pub components_last : (a b : List ℕ) → list_any is_slash b ≡ false → components (a ++ 47 ∷ b) ≡ slice_split is_slash a ++ b ∷ []
@@ -52,29 +28,6 @@ pub parent_needed : (a b : List ℕ) → list_any is_slash b ≡ false → needs
 parent_needed a b h = rw (components_last a b h) (needs_parent_last (slice_split is_slash a) b ∙ split_cons a)
 
 -- Being within a directory.
-
-within_step : (e g d s : Bool) → (e && (g || (d && s))) ≡ ((e && g) || (d && (e && s)))
-within_step true g d s = refl
-within_step false g true s = refl
-within_step false g false s = refl
-
-own : (dir : Bool) → dir ≡ (dir && true)
-own true = refl
-own false = refl
-
-other : (b dir : Bool) → b ≡ (b || (dir && false))
-other true dir = refl
-other false true = refl
-other false false = refl
-
-pub within_text : (a b : List ℕ) (dir : Bool) → is_within a b dir ≡ (goes_on a b || (dir && same b a))
-within_text [] [] dir = own dir
-within_text [] (y ∷ ys) dir = other (is_slash y) dir
-within_text (x ∷ xs) [] dir = other false dir
-within_text (x ∷ xs) (y ∷ ys) dir =
-    ap (λ b. (x == y) && b) (within_text xs ys dir)
-    ∙ within_step (x == y) (goes_on xs ys) dir (same ys xs)
-    ∙ ap (λ b. ((x == y) && goes_on xs ys) || (dir && (b && same ys xs))) (nat_eq_equiv.symm x y)
 
 -- two texts are one where their parts are
 same_split : (a b : List ℕ) → same_path (slice_split is_slash b) (slice_split is_slash a) ≡ same b a
@@ -104,14 +57,13 @@ pub within_is : (a b : List ℕ) (dir : Bool) → is_cons b ≡ true
     → is_within a b dir ≡ (is_above (slice_split is_slash a) (components b) || (dir && same_path (components b) (slice_split is_slash a)))
 within_is a [] dir h = cc
 within_is a (y ∷ ys) dir h =
-    within_text a (y ∷ ys) dir
-    ∙ ap (λ b. b || (dir && same (y ∷ ys) a)) (sym (above_split a (y ∷ ys) h))
+    ap (λ b. b || (dir && same (y ∷ ys) a)) (sym (above_split a (y ∷ ys) h))
     ∙ ap (λ b. is_above (slice_split is_slash a) (components (y ∷ ys)) || (dir && b)) (sym (same_split a (y ∷ ys)))
 
 -- what the code finds: a path of no text lies within no directory, and is none
 pub stands_in : (a n b : List ℕ) (dir : Bool) → list_any is_slash n ≡ false → is_cons b ≡ true
     → is_within a b dir ≡ (is_above (parent_of (components (a ++ 47 ∷ n))) (components b) || (dir && same_path (components b) (parent_of (components (a ++ 47 ∷ n)))))
-stands_in a n b dir h k = rw (components_last a n h, parent_of_last (slice_split is_slash a) n) (within_is a b dir k)
+stands_in a n b dir h k = rw (components_last a n h, parent_last (slice_split is_slash a) n) (within_is a b dir k)
 
 none_same : (p : Path) → is_cons p ≡ true → same_path [] p ≡ false
 none_same [] h = cc
@@ -123,7 +75,7 @@ none_by false = refl
 
 pub stands_in_none : (a n b : List ℕ) (dir : Bool) → list_any is_slash n ≡ false → is_cons b ≡ false
     → false ≡ (is_above (parent_of (components (a ++ 47 ∷ n))) (components b) || (dir && same_path (components b) (parent_of (components (a ++ 47 ∷ n)))))
-stands_in_none a n [] dir h k = rw (components_last a n h, parent_of_last (slice_split is_slash a) n, none_above (slice_split is_slash a), none_same (slice_split is_slash a) (split_cons a)) (none_by dir)
+stands_in_none a n [] dir h k = rw (components_last a n h, parent_last (slice_split is_slash a) n, none_above (slice_split is_slash a), none_same (slice_split is_slash a) (split_cons a)) (none_by dir)
 stands_in_none a n (y ∷ ys) dir h k = cc
 
 -- Marks.
@@ -140,5 +92,5 @@ mark_of_last a n dir h =
     let p = slice_split is_slash a ++ n ∷ [] in
     ap (λ q. mark_of q dir) (components_last a n h)
     ∙ mark_by_name p dir
-    ∙ ap (λ q. mark_by (list_any is_reserved_name q) (name_of p) dir) (parent_of_last (slice_split is_slash a) n)
+    ∙ ap (λ q. mark_by (list_any is_reserved_name q) (name_of p) dir) (parent_last (slice_split is_slash a) n)
     ∙ ap (λ c. mark_by (list_any is_reserved_name (slice_split is_slash a)) c dir) (name_of_last (slice_split is_slash a) n)

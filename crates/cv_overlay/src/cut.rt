@@ -3,6 +3,8 @@ ghost use Rattle.std.specs.List.{list_any};
 ghost use Rattle.cv_base.specs.Path.{is_slash};
 ghost use Rattle.cv_overlay.specs.code.Text.{is_within};
 
+use cv_base::goes_on;
+
 /// The directory and the name of a path of several components, given by its text: what stands round the last slash.
 pub fn cut(text: &[u8]) -> Option<(&[u8], &[u8])>
     ensures parts { IfSome result (λ p. text.now ≡ p.0.now ++ 47 ∷ p.1.now) }
@@ -19,24 +21,9 @@ pub fn cut(text: &[u8]) -> Option<(&[u8], &[u8])>
     None
 }
 
-/// Whether a text is a directory's own, where it is one, or lies within it.
+/// Whether a text lies within a directory, or is the directory's own, if that is one.
 pub fn is_within(directory: &[u8], text: &[u8], is_dir: bool) -> bool
     ensures { result ≡ is_within directory.now text.now is_dir }
 {
-    let mut left = directory;
-    let mut right = text;
-    while let [x, xs @ ..] = left {
-        let [y, ys @ ..] = right else {
-            return false;
-        };
-        if x != y {
-            return false;
-        }
-        left = xs;
-        right = ys;
-    }
-    match right {
-        [] => is_dir,
-        [first, ..] => *first == b'/',
-    }
+    goes_on(directory, text) || (is_dir && text == directory)
 }

@@ -1,3 +1,6 @@
+ghost use Rattle.std.specs.Prelude.{◌≡◌};
+ghost use Rattle.cv_overlay.specs.declared.fault.OverlayError.TheVariants as error;
+
 use cv_base::{NoMemory, RelPath, What};
 use std::alloc::AllocError;
 use thiserror::Error;
@@ -36,10 +39,17 @@ pub enum ImageFault {
     },
 }
 
+/// Why a tree was not laid.
+#[derive(Clone, Copy, Debug, PartialEq, Eq, Error)]
+pub enum OverlayError {
+    #[error("the tree is not good: {0}")]
+    BadTree(TreeFault),
+    #[error("out of memory")]
+    NoMemory,
+}
+
 /// A copy is equal to its source.
 impl Clone for ImageFault {
-    ghost use Rattle.std.specs.Prelude.{◌≡◌};
-
     ghost is_clone = { λ x y. y ≡ x };
 
     fn clone(&self) -> Result<ImageFault, AllocError> {
@@ -58,19 +68,7 @@ impl Clone for ImageFault {
     }
 }
 
-/// Why a tree was not laid.
-#[derive(Clone, Copy, Debug, PartialEq, Eq, Error)]
-pub enum OverlayError {
-    #[error("the tree is not good: {0}")]
-    BadTree(TreeFault),
-    #[error("out of memory")]
-    NoMemory,
-}
-
 impl From<NoMemory> for OverlayError {
-    ghost use Rattle.std.specs.Prelude.{◌≡◌};
-    ghost use Rattle.cv_overlay.specs.declared.fault.OverlayError.TheVariants as error;
-
     ghost from_gives = { λ _ e. e ≡ error.NoMemory };
 
     fn from(_error: NoMemory) -> OverlayError {

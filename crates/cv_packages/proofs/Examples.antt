@@ -5,6 +5,7 @@ use Rattle.std.specs.Str.{is_utf8, chars}
 use Rattle.cv_base.specs.Path.{components}
 use Rattle.cv_base.specs.declared.fault.What.TheVariants as what
 use Rattle.cv_base.specs.declared.«package».Package.{Package}
+use Rattle.cv_base.specs.declared.«package».PackageKind.{PackageKind}
 use Rattle.cv_base.specs.declared.«package».PackageKind.TheVariants.{Deb, Apk, Npm}
 use Rattle.cv_base.specs.declared.tree.Content.TheVariants as content
 use Rattle.cv_base.specs.declared.tree.Node.TheVariants as node
@@ -30,21 +31,25 @@ etc_debian = file (codes "etc/os-release") (codes "ID=debian\nVERSION_ID=12\n")
 abbrev usr_alpine : TreeEntry
 usr_alpine = file (codes "usr/lib/os-release") (codes "ID=alpine\nVERSION_ID=3.18.4\n")
 
+-- a package by the text of its path, its name and version, its source of the same version, its architecture and its ecosystem
+abbrev pub package_of : PackageKind → List ℕ → List ℕ → List ℕ → List ℕ → List ℕ → List ℕ → Package
+package_of kind path name version source arch ecosystem = record {
+  kind = kind;
+  path = components path;
+  name = name;
+  version = version;
+  source = source;
+  source_version = version;
+  arch = arch;
+  ecosystem = ecosystem;
+}
+
 -- a status file with one package, and the package
 abbrev zlib : TreeEntry
 zlib = file (codes "var/lib/dpkg/status") (codes "Package: zlib\nStatus: install ok installed\nVersion: 1\n")
 
-abbrev zlib_of : List ℕ → Package
-zlib_of ecosystem = record {
-  kind = Deb;
-  path = components (codes "var/lib/dpkg/status");
-  name = codes "zlib";
-  version = codes "1";
-  source = codes "zlib";
-  source_version = codes "1";
-  arch = [];
-  ecosystem = ecosystem;
-}
+abbrev pub zlib_of : List ℕ → Package
+zlib_of ecosystem = package_of Deb (codes "var/lib/dpkg/status") (codes "zlib") (codes "1") (codes "zlib") [] ecosystem
 
 abbrev debian_found : FileFound
 debian_found = record { path = components (codes "etc/os-release"); found = found.Os (record { id = codes "debian"; version = Some (codes "12") }) }
@@ -75,46 +80,19 @@ large_system = (refl, refl)
 
 -- a paragraph without a Status is a package in a file of the folder, and a fault in the status file
 status_optional : packages (file (codes "var/lib/dpkg/status.d/base") (codes "Package: base-files\nVersion: 12.4\nArchitecture: amd64\n") ∷ [])
-    ≡ Ok (record {
-      kind = Deb;
-      path = components (codes "var/lib/dpkg/status.d/base");
-      name = codes "base-files";
-      version = codes "12.4";
-      source = codes "base-files";
-      source_version = codes "12.4";
-      arch = codes "amd64";
-      ecosystem = codes "unknown";
-    } ∷ [])
+    ≡ Ok (package_of Deb (codes "var/lib/dpkg/status.d/base") (codes "base-files") (codes "12.4") (codes "base-files") (codes "amd64") (codes "unknown") ∷ [])
 unfolding packages
 status_optional = refl
 
 -- an apk package has its origin as its source, and its own version for that
 apk : packages (file (codes "lib/apk/db/installed") (codes "P:libssl3\nV:3.1.4-r1\nA:x86_64\no:openssl\n") ∷ usr_alpine ∷ [])
-    ≡ Ok (record {
-      kind = Apk;
-      path = components (codes "lib/apk/db/installed");
-      name = codes "libssl3";
-      version = codes "3.1.4-r1";
-      source = codes "openssl";
-      source_version = codes "3.1.4-r1";
-      arch = codes "x86_64";
-      ecosystem = codes "Alpine:v3.18";
-    } ∷ [])
+    ≡ Ok (package_of Apk (codes "lib/apk/db/installed") (codes "libssl3") (codes "3.1.4-r1") (codes "openssl") (codes "x86_64") (codes "Alpine:v3.18") ∷ [])
 unfolding packages is_utf8 chars encode
 apk = refl
 
 -- an npm package is its own source, has no architecture, and is of npm on every system; a file that names none has none
 npm : assembled (debian_found ∷ npm_found (codes "node_modules/@s/n/package.json") (Some (record { name = codes "@s/n"; version = codes "1.0.0" })) ∷ npm_found (codes "node_modules/x/package.json") None ∷ [])
-    ≡ Ok (record {
-      kind = Npm;
-      path = components (codes "node_modules/@s/n/package.json");
-      name = codes "@s/n";
-      version = codes "1.0.0";
-      source = codes "@s/n";
-      source_version = codes "1.0.0";
-      arch = [];
-      ecosystem = codes "npm";
-    } ∷ [])
+    ≡ Ok (package_of Npm (codes "node_modules/@s/n/package.json") (codes "@s/n") (codes "1.0.0") (codes "@s/n") [] (codes "npm") ∷ [])
 npm = refl
 
 -- the first refused file in the order of paths is named, whatever its reader

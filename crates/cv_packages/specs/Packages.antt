@@ -23,6 +23,7 @@ use Rattle.cv_osrel.specs.declared.name.OsName.{OsName}
 use Rattle.cv_package_files.specs.Files.{files_found}
 use Rattle.cv_packages.specs.declared.error.FileFault.{FileFault}
 use Rattle.cv_packages.specs.declared.error.FileFault.TheVariants as fault
+use Rattle.cv_packages.specs.Texts.{apk_texts, deb_texts, npm_texts, package_with}
 use Rattle.cv_package_files.specs.declared.found.FileFound.{FileFound}
 use Rattle.cv_package_files.specs.declared.found.Found.{Found}
 use Rattle.cv_package_files.specs.declared.found.Found.TheVariants.{Status, Installed, Os, Npm, Bad, TooLarge}
@@ -69,42 +70,15 @@ system (file ∷ files) = option_or (system_in file.found) (system files)
 
 -- a package of dpkg's database, with where it stands and the system that it is of
 abbrev pub deb_package : Option OsName → Path → DebPackage → Package
-deb_package os path p = record {
-  kind = kind.Deb;
-  path = path;
-  name = p.name;
-  version = p.version;
-  source = p.source;
-  source_version = p.source_version;
-  arch = p.arch;
-  ecosystem = eco os kind.Deb;
-}
+deb_package os path p = package_with kind.Deb path (eco os kind.Deb) (deb_texts p)
 
 -- the same of an apk package
 abbrev pub apk_package : Option OsName → Path → ApkPackage → Package
-apk_package os path p = record {
-  kind = kind.Apk;
-  path = path;
-  name = p.name;
-  version = p.version;
-  source = p.origin;
-  source_version = p.version;
-  arch = p.arch;
-  ecosystem = eco os kind.Apk;
-}
+apk_package os path p = package_with kind.Apk path (eco os kind.Apk) (apk_texts p)
 
 -- the same of an npm package
 abbrev pub npm_package : Option OsName → Path → NpmPackage → Package
-npm_package os path p = record {
-  kind = kind.Npm;
-  path = path;
-  name = p.name;
-  version = p.version;
-  source = p.name;
-  source_version = p.version;
-  arch = [];
-  ecosystem = eco os kind.Npm;
-}
+npm_package os path p = package_with kind.Npm path (eco os kind.Npm) (npm_texts p)
 
 -- the packages of a file at a path, or its refusal
 abbrev pub packages_in : Option OsName → Path → Found → Result (List Package) FileFault

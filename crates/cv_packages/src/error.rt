@@ -1,3 +1,7 @@
+ghost use Rattle.std.specs.Prelude.{◌≡◌};
+ghost use Rattle.cv_packages.specs.Faults.{image_fault};
+ghost use Rattle.cv_packages.specs.declared.error.PackagesError.TheVariants as error;
+
 use cv_base::{RelPath, What};
 use cv_overlay::ImageFault;
 use cv_seq::NoMemory;
@@ -23,9 +27,6 @@ pub enum FileFault {
 
 /// A refused package file makes its image bad.
 impl From<FileFault> for ImageFault {
-    ghost use Rattle.std.specs.Prelude.{◌≡◌};
-    ghost use Rattle.cv_packages.specs.Faults.{image_fault};
-
     ghost from_gives = { λ fault out. out ≡ image_fault fault };
 
     fn from(fault: FileFault) -> ImageFault {
@@ -46,9 +47,6 @@ pub enum PackagesError {
 }
 
 impl From<FileFault> for PackagesError {
-    ghost use Rattle.std.specs.Prelude.{◌≡◌};
-    ghost use Rattle.cv_packages.specs.declared.error.PackagesError.TheVariants as error;
-
     ghost from_gives = { λ fault e. e ≡ error.Refused fault };
 
     fn from(fault: FileFault) -> PackagesError {
@@ -57,9 +55,6 @@ impl From<FileFault> for PackagesError {
 }
 
 impl From<NoMemory> for PackagesError {
-    ghost use Rattle.std.specs.Prelude.{◌≡◌};
-    ghost use Rattle.cv_packages.specs.declared.error.PackagesError.TheVariants as error;
-
     ghost from_gives = { λ _ e. e ≡ error.NoMemory };
 
     fn from(_error: NoMemory) -> PackagesError {
@@ -68,9 +63,6 @@ impl From<NoMemory> for PackagesError {
 }
 
 impl From<AllocError> for PackagesError {
-    ghost use Rattle.std.specs.Prelude.{◌≡◌};
-    ghost use Rattle.cv_packages.specs.declared.error.PackagesError.TheVariants as error;
-
     ghost from_gives = { λ _ e. e ≡ error.NoMemory };
 
     fn from(_error: AllocError) -> PackagesError {

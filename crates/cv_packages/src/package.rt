@@ -1,8 +1,10 @@
 ghost use Rattle.std.specs.Prelude.{◌≡◌, map, IfOk};
 ghost use Rattle.std.specs.Option.{option_map};
 ghost use Rattle.cv_base.specs.declared.package.PackageKind.{PackageKind};
+ghost use Rattle.cv_base.specs.declared.package.PackageKind.TheVariants as kinds;
 ghost use Rattle.cv_osrel.specs.Ecosystem.{eco};
-ghost use Rattle.cv_packages.specs.code.Texts.{Texts, package_with, texts_in};
+ghost use Rattle.cv_packages.specs.Texts.{Texts, apk_texts, deb_texts, npm_texts, own_texts, package_with};
+ghost use Rattle.cv_packages.specs.code.Texts.{texts_in};
 
 use cv_apkdb::ApkPackage;
 use cv_base::{Package, PackageKind, RelPath};
@@ -13,12 +15,30 @@ use cv_seq::{NoMemory, Text};
 use std::alloc::Global;
 
 /// The texts of a package of any kind. Without an architecture it is the empty text.
+#[derive(Clone, Copy)]
 pub(crate) struct PackageTexts<'a> {
     name: &'a Text,
     version: &'a Text,
     source: &'a Text,
     source_version: &'a Text,
     arch: Option<&'a Text>,
+}
+
+impl<'a> PackageTexts<'a> {
+    /// The texts of a package that is its own source and has no architecture.
+    fn own(name: &'a Text, version: &'a Text) -> PackageTexts<'a>
+        ensures texts { texts_in result ≡ own_texts name.now version.now }
+        ensures name { result.name.now ≡ name.now }
+        ensures version { result.version.now ≡ version.now }
+    {
+        PackageTexts {
+            name,
+            version,
+            source: name,
+            source_version: version,
+            arch: None,
+        }
+    }
 }
 
 /// A package as the reader of its kind gives it.
@@ -35,9 +55,6 @@ pub(crate) trait KindPackage: Sized {
 }
 
 impl KindPackage for DebPackage {
-    ghost use Rattle.cv_base.specs.declared.package.PackageKind.TheVariants as kinds;
-    ghost use Rattle.cv_packages.specs.code.Texts.{deb_texts};
-
     ghost kind = { kinds.Deb };
 
     ghost texts_of = { deb_texts };
@@ -48,20 +65,30 @@ impl KindPackage for DebPackage {
 
     fn texts(&self) -> PackageTexts<'_> {
         PackageTexts {
-            name: &self.name,
-            version: &self.version,
             source: &self.source,
             source_version: &self.source_version,
             arch: Some(&self.arch),
+            ..PackageTexts::own(&self.name, &self.version)
         }
+    }
+}
+
+impl KindPackage for NpmPackage {
+    ghost kind = { kinds.Npm };
+
+    ghost texts_of = { npm_texts };
+
+    fn kind() -> PackageKind {
+        PackageKind::Npm
+    }
+
+    fn texts(&self) -> PackageTexts<'_> {
+        PackageTexts::own(&self.name, &self.version)
     }
 }
 
 /// The version of the source is the package's own.
 impl KindPackage for ApkPackage {
-    ghost use Rattle.cv_base.specs.declared.package.PackageKind.TheVariants as kinds;
-    ghost use Rattle.cv_packages.specs.code.Texts.{apk_texts};
-
     ghost kind = { kinds.Apk };
 
     ghost texts_of = { apk_texts };
@@ -72,35 +99,9 @@ impl KindPackage for ApkPackage {
 
     fn texts(&self) -> PackageTexts<'_> {
         PackageTexts {
-            name: &self.name,
-            version: &self.version,
-            source: &self.origin,
-            source_version: &self.version,
             arch: Some(&self.arch),
-        }
-    }
-}
-
-/// The package is its own source.
-impl KindPackage for NpmPackage {
-    ghost use Rattle.cv_base.specs.declared.package.PackageKind.TheVariants as kinds;
-    ghost use Rattle.cv_packages.specs.code.Texts.{npm_texts};
-
-    ghost kind = { kinds.Npm };
-
-    ghost texts_of = { npm_texts };
-
-    fn kind() -> PackageKind {
-        PackageKind::Npm
-    }
-
-    fn texts(&self) -> PackageTexts<'_> {
-        PackageTexts {
-            name: &self.name,
-            version: &self.version,
-            source: &self.name,
-            source_version: &self.version,
-            arch: None,
+            source: &self.origin,
+            ..PackageTexts::own(&self.name, &self.version)
         }
     }
 }

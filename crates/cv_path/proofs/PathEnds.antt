@@ -38,7 +38,8 @@ onto_more : (x : ℕ) (s : Path) (n : List ℕ) → is_cons s ≡ true → onto_
 onto_more x [] n h = cc
 onto_more x (c ∷ cs) n h = refl
 
-split_last : (d n : List ℕ) → list_any is_slash n ≡ false → slice_split is_slash (d ++ 47 ∷ n) ≡ slice_split is_slash d ++ n ∷ []
+-- a text that is cut at its last slash
+pub split_last : (d n : List ℕ) → list_any is_slash n ≡ false → slice_split is_slash (d ++ 47 ∷ n) ≡ slice_split is_slash d ++ n ∷ []
 split_last [] n h = ap (λ s. [] ∷ s) (split_none n h)
 split_last (x ∷ xs) n h = by (is_slash x) (split_last xs n h) where
   by : (b : Bool) → slice_split is_slash (xs ++ 47 ∷ n) ≡ slice_split is_slash xs ++ n ∷ []

@@ -3,6 +3,7 @@ use Rattle.std.proofs.Common.{◌≡◌, ℕ, ◌≤◌, ◌+◌, Bool, true, fa
 use Rattle.std.specs.List.{count_by, list_all, list_any, slice_split, onto_first}
 use Rattle.std.proofs.lemmas.List.Splits.{length-slice_split}
 use Rattle.std.proofs.lemmas.Bool.Decides.{nat_tests}
+use Rattle.std.proofs.lemmas.Bool.{not-true}
 use Rattle.cv_path.specs.declared.limits.TheConstants.{MAX_PATH_LEN}
 use Rattle.cv_path.specs.declared.path.PathError.TheVariants.{TooLong, BadComponent}
 use Rattle.cv_path.specs.Path.{Path, IsPath, components, is_component, is_name, is_slash, path_of, path_text}
@@ -108,12 +109,8 @@ names (c ∷ cs) h =
 pub name_component : (c : List ℕ) → is_name c ≡ true → is_component c ≡ true
 name_component c h = and_left (is_component c) (no_slash c) h
 
-not_true : (b : Bool) → not b ≡ true → b ≡ false
-not_true true h = cc
-not_true false h = refl
-
 pub name_no_slash : (c : List ℕ) → is_name c ≡ true → list_any is_slash c ≡ false
-name_no_slash c h = not_true (list_any is_slash c) (and_right (is_component c) (no_slash c) h)
+name_no_slash c h = not-true (list_any is_slash c) (and_right (is_component c) (no_slash c) h)
 
 pub name_some : (c : List ℕ) → is_name c ≡ true → is_cons c ≡ true
 name_some [] h = cc

@@ -16,6 +16,6 @@ mod text;
 pub use limits::MAX_PATH_LEN;
 pub use package_files::place;
 pub use path::{PathError, RelPath, path_laws};
-pub use path_text::is_special;
+pub use path_text::{goes_on, is_special};
 pub use places::Place;
 pub use text::{cut_at, is_blank, is_dropped, next_line, trim_line};

@@ -5,6 +5,7 @@ ghost use Rattle.cv_path.specs.Answer.{Gives};
 ghost use Rattle.cv_path.specs.Path.{Path, IsPath, beside, components, file_name_of, is_above, is_name, parent_of, path_cmp, path_of, path_text};
 ghost use Rattle.cv_path.specs.Reading.{is_path_memory};
 ghost use Rattle.cv_path.specs.Texts.{is_cons};
+ghost use Rattle.cv_path.specs.declared.path.PathError.TheVariants as error;
 
 use crate::limits::MAX_PATH_LEN;
 use crate::path_text::{
@@ -259,9 +260,6 @@ impl Ord for RelPath {
 }
 
 impl From<NoMemory> for PathError {
-    ghost use Rattle.std.specs.Prelude.{◌≡◌};
-    ghost use Rattle.cv_path.specs.declared.path.PathError.TheVariants as error;
-
     ghost from_gives = { λ _ e. e ≡ error.NoMemory };
 
     fn from(_error: NoMemory) -> PathError {

@@ -51,7 +51,7 @@ pub fn is_special(text: &[u8]) -> bool
 }
 
 /// Whether the second text begins with the first one and a slash after it.
-fn goes_on(upper: &[u8], lower: &[u8]) -> bool
+pub fn goes_on(upper: &[u8], lower: &[u8]) -> bool
     ensures { result ≡ goes_on upper.now lower.now }
 {
     let mut left = upper;

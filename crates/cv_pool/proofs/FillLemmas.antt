@@ -2,6 +2,7 @@
 use Rattle.std.proofs.Common.{false, ◌%◌, ◌==◌, cond, ◌≡◌, ℕ, zero, suc, ◌+◌, ◌-◌, ◌<◌, ◌≤◌, ◌++◌, true, not, ◌||◌, Option, List, [], ◌∷◌, map, length, set, get_or, refl, ap, sym, ◌∙◌, subst, arith}
 use Rattle.std.specs.List.{AllByRecursion}
 use Rattle.crossbeam_deque.specs.Handles.{worker_flavor}
+use Rattle.cv_seq.proofs.AllItems.{all_more}
 use Rattle.std.proofs.lemmas.List.{append-nil, length-append, length-map, length-set, map-append, map-set}
 use Rattle.std.proofs.lemmas.List.Elements.{filter-append}
 use Rattle.std.proofs.lemmas.Bool.Decides.{nat_tests}
@@ -56,11 +57,6 @@ owners_dealt-append : (h : ℕ → ℕ) (os ns : List Owner) → owners_dealt h 
 owners_dealt-append h [] ns = omega arith
 owners_dealt-append h (o ∷ os) ns = let e = owners_dealt-append h os ns in omega arith
 
--- a fact of each owner with one more
-owners_snoc : (P : Owner → Type 0) (os : List Owner) (o : Owner) → AllByRecursion P os → P o → AllByRecursion P (os ++ o ∷ [])
-owners_snoc P [] o all one = (one, tt)
-owners_snoc P (x ∷ os) o all one = (all.0, owners_snoc P os o all.1 one)
-
 -- so many empty lists
 abbrev empty_lists : ℕ → List (List ℕ)
 empty_lists zero = []
@@ -89,7 +85,7 @@ opened_in_turn os o in_turn none =
 -- one more empty deque
 pub owners_opened : (os : List Owner) (o : Owner) → AreOwners 0 9 0 os → owner_account o ≡ account 9 [] [] 0 → worker_flavor o ≡ 0 → AreOwners 0 9 0 (os ++ o ∷ [])
 owners_opened os o owners new fifo = record {
-  owners = owners_snoc (IsOwner 9 0) os o owners.owners (record {
+  owners = all_more (IsOwner 9 0) os o owners.owners (record {
     shares_kept = ap (λ (v : Account). v.shares) new;
     marked = ap (λ (v : Account). marks v.pushed) new;
     none_taken = ap (λ (v : Account). v.taken) new;

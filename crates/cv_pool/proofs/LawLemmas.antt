@@ -2,6 +2,7 @@
 use Rattle.std.proofs.Common.{◌≡◌, ℕ, zero, suc, ◌+◌, ◌-◌, ◌<◌, ◌≤◌, List, [], ◌∷◌, length, refl, ap, sym, ◌∙◌, subst, ⊎_elim, inl, inr, ◌⊎◌, arith}
 use Rattle.std.proofs.lemmas.Bool.Decides.{nat_tests}
 use Rattle.std.specs.List.{AllByRecursion}
+use Rattle.std.proofs.lemmas.Bool.{cases_lt}
 use Rattle.cv_pool.specs.Jobs.{weigh, lists_weigh, weigh_below, is_job, times, AreBelow}
 use Rattle.cv_pool.proofs.HandLemmas.{weigh_below_outside}
 use Rattle.cv_pool.specs.Hands.{Fill, HandState, AreHandsFrom, AreHandsOf, AreSameHands}
@@ -20,12 +21,6 @@ below_or_last zero zero less = inr refl
 below_or_last zero (suc n) less = inl (omega arith)
 below_or_last (suc j) zero less = absurd (omega arith)
 below_or_last (suc j) (suc n) less = ⊎_elim (λ (l : j < n). inl (omega arith)) (λ (s : n ≡ j). inr (ap suc s)) (below_or_last j n (omega arith))
-
--- below n, or not
-less_or_not : (j n : ℕ) → (j < n) ⊎ (n ≤ j)
-less_or_not j zero = inr (omega arith)
-less_or_not zero (suc n) = inl (omega arith)
-less_or_not (suc j) (suc n) = ⊎_elim (λ (l : j < n). inl (omega arith)) (λ (s : n ≤ j). inr (omega arith)) (less_or_not j n)
 
 -- a job that is not below weighs nothing
 counted_outside : (j n : ℕ) → n ≤ j → weigh_below (is_job j) n ≡ 0
@@ -46,7 +41,7 @@ once lists n j weights less = weights (is_job j) ∙ counted_once j n less
 
 -- a job counts at most once
 counted_at_most : (j n : ℕ) → weigh_below (is_job j) n ≤ 1
-counted_at_most j n = ⊎_elim (λ (l : j < n). let e = counted_once j n l in omega arith) (λ (s : n ≤ j). let e = counted_outside j n s in omega arith) (less_or_not j n)
+counted_at_most j n = ⊎_elim (λ (l : j < n). let e = counted_once j n l in omega arith) (λ (s : n ≤ j). let e = counted_outside j n s in omega arith) (cases_lt j n)
 
 -- no job is there twice
 pub at_most_once : (lists : List (List ℕ)) (n j : ℕ) → ((h : ℕ → ℕ) → lists_weigh h lists ≤ weigh_below h n) → times j lists ≤ 1

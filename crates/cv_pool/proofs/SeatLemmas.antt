@@ -1,7 +1,8 @@
 -- What a seat and the seats of a hand know after an answer.
-use Rattle.std.proofs.Common.{◌≡◌, ℕ, ◌+◌, ◌≤◌, ◌++◌, Bool, true, false, ◌||◌, List, [], ◌∷◌, take, length, Option, None, Some, is_some, refl, ap, sym, ◌∙◌, subst, true≢false, arith}
+use Rattle.std.proofs.Common.{◌≡◌, ℕ, ◌+◌, ◌≤◌, ◌++◌, Bool, true, false, ◌||◌, if◌then◌else◌, List, [], ◌∷◌, take, length, Option, None, Some, is_some, refl, ap, sym, ◌∙◌, subst, true≢false, arith}
 use Rattle.std.specs.List.{AllByRecursion}
 use Rattle.crossbeam_deque.specs.Handles.{IsPassOf, stealer_deque, stealer_flavor}
+use Rattle.cv_seq.proofs.AllItems.{all_both}
 use Rattle.cv_pool.specs.declared.account.Account.{Account}
 use Rattle.cv_pool.specs.declared.seat.Seat.{Seat}
 use Rattle.cv_pool.specs.Jobs.{weigh}
@@ -13,19 +14,27 @@ use Rattle.std.proofs.lemmas.List.{map-append, length-map}
 use Rattle.std.proofs.Math.Seq.{take-append_seam}
 use Rattle.cv_pool.proofs.TaskLemmas.{weigh-append}
 
+-- the seat after a pass that took what stands for the answer
+seated_after : (s t : Seat) (answer : Option ℕ) → IsSeated s → s.more ≡ true → t.thief ≡ s.thief → IsPassOf (seat_deque s) t.pass → seat_account t ≡ with_taken (seat_account s) (task_of answer ∷ [])
+    → IsWithin (seat_account t) → t.more ≡ is_some answer → IsSeated t
+seated_after s t answer seated more thief pass account within after = record {
+  pass = subst (λ x. IsPassOf (stealer_deque x) t.pass) (sym thief) pass;
+  fifo = ap (λ x. stealer_flavor x) thief ∙ seated.fifo;
+  share = ap (λ (v : Account). v.shares) account ∙ seated.share;
+  full = ap (λ (v : Account). marks v.pushed) account ∙ seated.full;
+  ended = ended_after answer account after;
+  within = within;
+} where
+  ended_after : (answer : Option ℕ) → seat_account t ≡ with_taken (seat_account s) (task_of answer ∷ []) → t.more ≡ is_some answer → (seat_account t).ended ≡ (if t.more then 0 else 1)
+  ended_after None account after = rw (account, seated.ended, more, after) refl
+  ended_after (Some k) account after = rw (account, seated.ended, more, after) refl
+
 -- a pass that took what stands for the answer
 pub seat_took : (s t : Seat) (answer : Option ℕ) → IsSeated s → s.more ≡ true → t.thief ≡ s.thief → IsPassOf (seat_deque s) t.pass → seat_account t ≡ with_taken (seat_account s) (task_of answer ∷ [])
     → IsWithin (seat_account t) → t.more ≡ is_some answer → SeatTook s answer t
 seat_took s t None seated more thief pass account within after = record {
   deque = ap (λ x. stealer_deque x) thief;
-  seated = record {
-    pass = subst (λ x. IsPassOf (stealer_deque x) t.pass) (sym thief) pass;
-    fifo = ap (λ x. stealer_flavor x) thief ∙ seated.fifo;
-    share = ap (λ (v : Account). v.shares) account ∙ seated.share;
-    full = ap (λ (v : Account). marks v.pushed) account ∙ seated.full;
-    ended = rw (account, seated.ended, more, after) refl;
-    within = within;
-  };
+  seated = seated_after s t None seated more thief pass account within after;
   pushed = ap (λ (v : Account). v.pushed) account;
   weights = λ h. ap (λ (v : Account). weigh h v.taken) account ∙ weigh-append h (seat_account s).taken [];
   more = after;
@@ -33,14 +42,7 @@ seat_took s t None seated more thief pass account within after = record {
 }
 seat_took s t (Some k) seated more thief pass account within after = record {
   deque = ap (λ x. stealer_deque x) thief;
-  seated = record {
-    pass = subst (λ x. IsPassOf (stealer_deque x) t.pass) (sym thief) pass;
-    fifo = ap (λ x. stealer_flavor x) thief ∙ seated.fifo;
-    share = ap (λ (v : Account). v.shares) account ∙ seated.share;
-    full = ap (λ (v : Account). marks v.pushed) account ∙ seated.full;
-    ended = rw (account, seated.ended, more, after) refl;
-    within = within;
-  };
+  seated = seated_after s t (Some k) seated more thief pass account within after;
   pushed = ap (λ (v : Account). v.pushed) account;
   weights = λ h. let e = weigh-append h (seat_account s).taken (k ∷ []) in let a : weigh h (seat_account t).taken ≡ weigh h ((seat_account s).taken ++ k ∷ []) = ap (λ (v : Account). weigh h v.taken) account in omega arith;
   more = after;
@@ -84,21 +86,6 @@ any_more-append : (xs ys : List Seat) → any_more (xs ++ ys) ≡ any_more xs ||
 any_more-append [] ys = refl
 any_more-append (x ∷ xs) ys = ap (λ b. x.more || b) (any_more-append xs ys) ∙ or_assoc x.more (any_more xs) (any_more ys)
 
--- a fact of each seat, joined
-pub each_of_both : (P : Seat → Type 0) (xs ys : List Seat) → AllByRecursion P xs → AllByRecursion P ys → AllByRecursion P (xs ++ ys)
-each_of_both P [] ys a b = b
-each_of_both P (x ∷ xs) ys a b = (a.0, each_of_both P xs ys a.1 b)
-
--- and of each of the first
-pub each_of_first : (P : Seat → Type 0) (xs ys : List Seat) → AllByRecursion P (xs ++ ys) → AllByRecursion P xs
-each_of_first P [] ys a = tt
-each_of_first P (x ∷ xs) ys a = (a.0, each_of_first P xs ys a.1)
-
--- and of each of the others
-pub each_of_second : (P : Seat → Type 0) (xs ys : List Seat) → AllByRecursion P (xs ++ ys) → AllByRecursion P ys
-each_of_second P [] ys a = a
-each_of_second P (x ∷ xs) ys a = each_of_second P xs ys a.1
-
 -- one of the later seats has a job
 pub took_later : (xs ys zs : List Seat) (k : ℕ) → AllByRecursion IsSeated xs → SeatsTook ys (Some k) zs → SeatsTook (xs ++ ys) (Some k) (xs ++ zs)
 took_later [] ys zs k seated took = took
@@ -117,7 +104,7 @@ pub took_earlier : (xs ys ws zs : List Seat) (answer : Option ℕ) → SeatsTook
 took_earlier xs ys ws zs answer later took = record {
   deques = map-append seat_deque ws zs ∙ (λ i. took.deques i ++ later.deques i) ∙ sym (map-append seat_deque xs ys);
   same_jobs = map-append seat_jobs ws zs ∙ (λ i. took.same_jobs i ++ later.same_jobs i) ∙ sym (map-append seat_jobs xs ys);
-  seated = each_of_both IsSeated ws zs took.seated later.seated;
+  seated = all_both IsSeated ws zs took.seated later.seated;
   dealt = λ h. let a = took.dealt h in let b = later.dealt h in let c = seats_dealt-append h xs ys in let d = seats_dealt-append h ws zs in omega arith;
   weights = λ h. let a = took.weights h in let b = later.weights h in let c = seats_weigh-append h xs ys in let d = seats_weigh-append h ws zs in omega arith;
   more = any_more-append ws zs ∙ (λ i. took.more i || later.more i) ∙ or_false (is_some answer);

@@ -5,7 +5,7 @@ ghost use Rattle.cv_range.specs.Order.{version_cmp_of, version_in};
 use cv_base::{NoMemory, Text};
 use std::alloc::Global;
 use std::cmp::Ordering;
-use std::marker::Model;
+use std::marker::{Model, PhantomData};
 
 /// A version of one kind of package, which is read from its text once.
 pub trait Version: Sized + Drop {
@@ -26,52 +26,71 @@ pub trait Version: Sized + Drop {
         ensures { result ≡ on text (version_cmp_of kind) self.now other.now };
 }
 
-/// A version of a Debian package, seen as its text.
-#[derive(Drop)]
-pub struct DebVersion {
-    source: Text,
+/// Which texts are versions of one kind of package, and how these compare.
+pub trait VersionRule {
+    ghost use Rattle.cv_base.specs.declared.«package».PackageKind.{PackageKind};
+    ghost use Rattle.cv_range.specs.Order.{is_version_of};
+
+    /// The kind of package that has such versions.
+    ghost kind: { PackageKind };
+
+    /// Whether the text is such a version.
+    fn is_version(text: &[u8]) -> bool
+        ensures { result ≡ is_version_of kind text.now };
+
+    /// How two such versions compare.
+    fn compare(a: &[u8], b: &[u8]) -> Ordering
+        ensures { result ≡ version_cmp_of kind a.now b.now };
 }
 
-impl Model for DebVersion {
-    ghost use Rattle.std.specs.Prelude.{ℕ, List};
+/// Versions as dpkg compares them.
+pub struct DebRule;
 
-    ghost Value = { List ℕ };
-
-    ghost view = { λ v. v.source };
-}
-
-impl Version for DebVersion {
+impl VersionRule for DebRule {
     ghost use Rattle.cv_base.specs.declared.«package».PackageKind.TheVariants.{Deb};
 
     ghost kind = { Deb };
 
-    ghost text = { λ v. v };
-
-    fn read(_alloc: Global, source: &Text) -> Result<Option<DebVersion>, NoMemory> {
-        if cv_debver::is_version(source.as_str().as_bytes()) {
-            Ok(Some(DebVersion {
-                source: source.clone()?,
-            }))
-        } else {
-            Ok(None)
-        }
+    fn is_version(text: &[u8]) -> bool {
+        cv_debver::is_version(text)
     }
 
-    fn compare(&self, other: &DebVersion) -> Ordering {
-        cv_debver::compare(
-            self.source.as_str().as_bytes(),
-            other.source.as_str().as_bytes(),
-        )
+    fn compare(a: &[u8], b: &[u8]) -> Ordering {
+        cv_debver::compare(a, b)
     }
 }
 
-/// A version of an Alpine package, seen as its text.
+/// Versions as apk compares them.
+pub struct ApkRule;
+
+impl VersionRule for ApkRule {
+    ghost use Rattle.cv_base.specs.declared.«package».PackageKind.TheVariants.{Apk};
+
+    ghost kind = { Apk };
+
+    fn is_version(text: &[u8]) -> bool {
+        cv_apkver::is_version(text)
+    }
+
+    fn compare(a: &[u8], b: &[u8]) -> Ordering {
+        cv_apkver::compare(a, b)
+    }
+}
+
+/// A version that is compared as a text, by the rule of its kind of package. It is seen as its text.
 #[derive(Drop)]
-pub struct ApkVersion {
+pub struct TextVersion<R: VersionRule> {
     source: Text,
+    rule: PhantomData<R>,
 }
 
-impl Model for ApkVersion {
+/// A version of a Debian package.
+pub type DebVersion = TextVersion<DebRule>;
+
+/// A version of an Alpine package.
+pub type ApkVersion = TextVersion<ApkRule>;
+
+impl<R: VersionRule> Model for TextVersion<R> {
     ghost use Rattle.std.specs.Prelude.{ℕ, List};
 
     ghost Value = { List ℕ };
@@ -79,25 +98,24 @@ impl Model for ApkVersion {
     ghost view = { λ v. v.source };
 }
 
-impl Version for ApkVersion {
-    ghost use Rattle.cv_base.specs.declared.«package».PackageKind.TheVariants.{Apk};
-
-    ghost kind = { Apk };
+impl<R: VersionRule> Version for TextVersion<R> {
+    ghost kind = { R.kind };
 
     ghost text = { λ v. v };
 
-    fn read(_alloc: Global, source: &Text) -> Result<Option<ApkVersion>, NoMemory> {
-        if cv_apkver::is_version(source.as_str().as_bytes()) {
-            Ok(Some(ApkVersion {
+    fn read(_alloc: Global, source: &Text) -> Result<Option<TextVersion<R>>, NoMemory> {
+        if R::is_version(source.as_str().as_bytes()) {
+            Ok(Some(TextVersion {
                 source: source.clone()?,
+                rule: PhantomData,
             }))
         } else {
             Ok(None)
         }
     }
 
-    fn compare(&self, other: &ApkVersion) -> Ordering {
-        cv_apkver::compare(
+    fn compare(&self, other: &TextVersion<R>) -> Ordering {
+        R::compare(
             self.source.as_str().as_bytes(),
             other.source.as_str().as_bytes(),
         )

@@ -1,3 +1,5 @@
+ghost use Rattle.std.specs.Prelude.{◌≡◌};
+
 use cv_base::{Digest, Seq};
 use std::alloc::AllocError;
 
@@ -42,8 +44,6 @@ pub enum Reply {
 
 /// A copy is equal to its source. Only the layers of a conflict take memory.
 impl Clone for Reply {
-    ghost use Rattle.std.specs.Prelude.{◌≡◌};
-
     ghost is_clone = { λ x y. y ≡ x };
 
     fn clone(&self) -> Result<Reply, AllocError> {

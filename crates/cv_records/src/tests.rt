@@ -6,8 +6,7 @@ fn is_shared<T: Send + Sync>() {}
 
 #[test]
 fn entries_are_shared() {
-    is_shared::<EventEntry>();
-    is_shared::<ReadEntry>();
+    is_shared::<(EventEntry, ReadEntry)>();
 }
 
 #[test]

@@ -9,6 +9,7 @@ use Rattle.std.specs.List.Sorted.{IsStrictlySortedBy}
 use Rattle.std.proofs.Common.{ap, subst, sym, ◌∙◌}
 use Rattle.cv_base.specs.Texts.{has_text, same}
 use Rattle.cv_base.specs.declared.manifest.Manifest.{Manifest}
+use Rattle.cv_base.proofs.Same.{same_is}
 use Rattle.cv_records.specs.declared.reply.Reply.TheVariants as reply
 use Rattle.cv_machine.specs.Laws.{IsConsistent}
 use Rattle.cv_machine.specs.Layers.{is_claimed_as, is_named}
@@ -16,14 +17,14 @@ use Rattle.cv_machine.specs.State.{Images, Layers, State, value_at, with_value, 
 use Rattle.cv_machine.specs.Step.{drop_at, entered, remaining}
 use Rattle.cv_machine.specs.declared.status.Status.{Status}
 use Rattle.cv_machine.specs.declared.status.Status.TheVariants as status
-use Rattle.cv_machine.proofs.Consistent.{IsRight, claim_consistent, cut_right, drop_consistent, either, opening_consistent, put_right, register_consistent}
+use Rattle.cv_machine.proofs.Consistent.{claim_consistent, cut_right, drop_consistent, either, layers_changed, opening_consistent, put_right, register_consistent}
 use Rattle.cv_machine.proofs.Entries.{sorted_cut, sorted_put}
-use Rattle.cv_machine.proofs.LayerTables.{same_key, value_put}
+use Rattle.cv_machine.proofs.LayerTables.{value_put, value_cut}
 use Rattle.cv_registry.specs.Registrations.{IsRegular, Leads, Registrations, alone, holding, users_of}
 use Rattle.cv_registry.specs.code.Tables.{without_unused}
 use Rattle.cv_registry.specs.code.Users.{ArePut, AreTaken, ImageSet, IsKept, Users, names, uses}
 use Rattle.cv_registry.proofs.TableLemmas.{left_remaining}
-use Rattle.cv_registry.proofs.UserLemmas.{keys_users, used_named, value_cut}
+use Rattle.cv_registry.proofs.UserLemmas.{keys_users, used_named}
 
 -- with another table, the sets stay right
 pub kept_layers : (images : Images) (before after : Layers) (users : Users) (limit : ℕ) → IsKept images before users limit
@@ -57,7 +58,7 @@ names_put : (images : Images) (image : List ℕ) (layers : List (List ℕ)) (use
 names_put images image layers users after new named put l q = put l q ∙ by_test (same image q) refl where
   by_test : (b : Bool) → same image q ≡ b → (has_text layers l && same image q || uses users l q) ≡ names (value_at (with_value images image layers) q) l
   by_test true key =
-      let unused : uses users l q ≡ false = named l q ∙ ap (λ k. names (value_at images k) l) (sym (same_key image q key)) ∙ ap (λ found. names found l) new in
+      let unused : uses users l q ≡ false = named l q ∙ ap (λ k. names (value_at images k) l) (sym (same_is image q key)) ∙ ap (λ found. names found l) new in
       ap (λ b. has_text layers l && b || uses users l q) key ∙ ap (λ u. has_text layers l && true || u) unused ∙ only (has_text layers l)
       ∙ sym (ap (λ found. names found l) (value_put images image layers q ∙ ap (λ b. cond b (Some layers) (value_at images q)) key)) where
         only : (b : Bool) → (b && true || false) ≡ b
@@ -98,7 +99,7 @@ names_taken images image layers users after h found named taken l q = taken l q 
   by_test : (b : Bool) → same image q ≡ b → cond (has_text layers l && same image q) false (uses users l q) ≡ names (value_at (without_value images image) q) l
   by_test true key =
       let used : uses users l q ≡ has_text layers l =
-      named l q ∙ ap (λ k. names (value_at images k) l) (sym (same_key image q key)) ∙ ap (λ f. names f l) found in
+      named l q ∙ ap (λ k. names (value_at images k) l) (sym (same_is image q key)) ∙ ap (λ f. names f l) found in
       ap (λ b. cond (has_text layers l && b) false (uses users l q)) key ∙ ap (cond (has_text layers l && true) false) used ∙ none (has_text layers l)
       ∙ sym (ap (λ f. names f l) (value_cut images image q h ∙ ap (λ b. cond b None (value_at images q)) key)) where
         none : (b : Bool) → cond (b && true) false b ≡ false
@@ -144,30 +145,17 @@ dropped_leads images next table after users fewer limit image layers before made
 
 -- Claim, Indexed, Fault, Memory
 
-regular_layers : (r : Registrations) (table : Layers) → IsRegular r → IsStrictlySortedBy text_cmp (keys_of table) → IsRight r.images table
-    → IsRegular (record r { layers = table })
-regular_layers r table h sorted right = record {
-  images = h.images;
-  layers = sorted;
-  feeds = h.feeds;
-  notifications = h.notifications;
-  numbers = h.numbers;
-  few_images = h.few_images;
-  few_feeds = h.few_feeds;
-  table = right;
-}
-
 pub claimed_regular : (r : Registrations) (layer : List ℕ) (worker : ℕ) → IsRegular r → IsRegular (record r { layers = with_value r.layers layer (status.Claimed worker) })
 claimed_regular r layer worker h = claim_consistent (Some status.Queued) (alone r) layer worker h
 
 pub finished_regular : (r : Registrations) (layer : List ℕ) (next : Status) → is_named r.images layer ≡ true → IsRegular r
     → IsRegular (record r { layers = with_value r.layers layer next })
 finished_regular r layer next named h =
-    regular_layers r (with_value r.layers layer next) h (sorted_put nat_list_cmp_total r.layers layer next h.layers)
+    layers_changed (alone r) (with_value r.layers layer next) h (sorted_put nat_list_cmp_total r.layers layer next h.layers)
     (put_right r.images r.layers layer next h.table (ap (λ b. b || is_claimed_as next) named))
 
 pub discarded_regular : (r : Registrations) (layer : List ℕ) → is_named r.images layer ≡ false → IsRegular r
     → IsRegular (record r { layers = without_value r.layers layer })
 discarded_regular r layer unnamed h =
-    regular_layers r (without_value r.layers layer) h (sorted_cut text_cmp (is_at (text_cmp layer)) r.layers h.layers)
+    layers_changed (alone r) (without_value r.layers layer) h (sorted_cut text_cmp (is_at (text_cmp layer)) r.layers h.layers)
     (cut_right r.images r.layers layer h.layers h.table unnamed)

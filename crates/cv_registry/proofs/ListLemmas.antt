@@ -14,7 +14,7 @@ use Rattle.std.proofs.lemmas.Map.Entries.{none_below_head, none_past_head}
 use Rattle.std.proofs.lemmas.Map.Keys.{IsDistinct-from_sorted}
 use Rattle.std.proofs.lemmas.Map.Lookups.{CmpEqualImpliesEq}
 use Rattle.std.proofs.lemmas.Option.{same_Some}
-use Rattle.cv_base.proofs.InOrder.{turned}
+use Rattle.cv_base.proofs.Orders.{turned}
 
 -- what stands at the first key
 pub at_head : {K V : Type 0} {R : K → K → Ordering} → IsTotalOrder R → (e : K × V) (es : List (K × V)) → lookup (is_at (R e.0)) (e ∷ es) ≡ Some e.1

@@ -7,6 +7,7 @@ use Rattle.std.specs.Map.{keys_of}
 use Rattle.std.proofs.Common.{ap, sym, ◌∙◌}
 use Rattle.std.proofs.lemmas.Map.Lookups.{exact_bytes}
 use Rattle.cv_base.specs.Texts.{has_text, same}
+use Rattle.cv_base.proofs.Same.{same_is}
 use Rattle.cv_match.specs.Findings.{text_cmp}
 use Rattle.cv_machine.specs.Laws.{is_claimed}
 use Rattle.cv_machine.specs.Layers.{is_claimed_as, is_named}
@@ -14,11 +15,10 @@ use Rattle.cv_machine.specs.State.{Images, Layers, value_at, without_value}
 use Rattle.cv_machine.specs.Step.{remaining}
 use Rattle.cv_machine.specs.declared.status.Status.{Status}
 use Rattle.cv_machine.proofs.Entries.{sorted_cut, sorted_filter}
-use Rattle.cv_machine.proofs.LayerTables.{remaining_found, same_key, staying, stays}
+use Rattle.cv_machine.proofs.LayerTables.{remaining_found, staying, stays, value_cut}
 use Rattle.cv_registry.specs.code.Tables.{without_unused}
 use Rattle.cv_registry.specs.code.Users.{Users, is_used}
 use Rattle.cv_registry.proofs.ListLemmas.{same_entries}
-use Rattle.cv_registry.proofs.UserLemmas.{value_cut}
 
 -- the table without one layer, if it is unused
 abbrev one_left : Layers → List ℕ → Users → Layers
@@ -51,7 +51,7 @@ one_found : (table : Layers) (layer : List ℕ) (users : Users) (q : List ℕ) �
     → value_at (one_left table layer users) q ≡ staying (same layer q) (is_used users q) (value_at table q)
 one_found table layer users q h = by_tests (is_used users layer || is_claimed (value_at table layer)) (same layer q) refl refl where
   at_key : same layer q ≡ true → (is_used users layer || is_claimed (value_at table layer)) ≡ (is_used users q || is_claimed (value_at table q))
-  at_key key = ap (λ k. is_used users k || is_claimed (value_at table k)) (same_key layer q key)
+  at_key key = ap (λ k. is_used users k || is_claimed (value_at table k)) (same_is layer q key)
 
   by_tests : (w t : Bool) → (is_used users layer || is_claimed (value_at table layer)) ≡ w → same layer q ≡ t
       → value_at (cond w table (without_value table layer)) q ≡ staying t (is_used users q) (value_at table q)

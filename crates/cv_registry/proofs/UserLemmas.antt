@@ -1,7 +1,7 @@
 -- The sets of images that name a layer: what one image more or less leaves, and that they are the images that are registered.
 use Rattle.std.specs.Prelude.{◌≡◌, ℕ, ◌-◌, ◌≤◌, length, take, drop, Bool, true, false, ◌&&◌, ◌||◌, cond, List, [], ◌∷◌, Option, Some, None, unwrap_or, refl}
 use Rattle.std.specs.BTreeMap.{is_at}
-use Rattle.std.specs.Cmp.Lexicographic.{nat_list_cmp_total, texts_ties}
+use Rattle.std.specs.Cmp.Lexicographic.{nat_list_cmp_total}
 use Rattle.std.specs.List.{list_any}
 use Rattle.std.specs.List.Sorted.{IsStrictlySortedBy}
 use Rattle.std.specs.Map.{keys_of}
@@ -11,20 +11,16 @@ use Rattle.std.proofs.Common.{ap, arith, get_or, subst, sym, ◌∙◌}
 use Rattle.std.proofs.lemmas.Grind.{common_steps}
 use Rattle.std.proofs.lemmas.Map.Lookups.{exact_bytes}
 use Rattle.cv_base.specs.Texts.{has_text, same}
+use Rattle.cv_base.proofs.Same.{same_is}
 use Rattle.cv_match.specs.Findings.{text_cmp}
 use Rattle.cv_machine.specs.Layers.{is_named}
 use Rattle.cv_machine.specs.State.{Images, value_at, with_value, without_value}
-use Rattle.cv_machine.proofs.Entries.{any_cut, lookup_cut, lookup_filter, passing, sorted_filter}
-use Rattle.cv_machine.proofs.LayerTables.{same_key, value_put}
+use Rattle.cv_machine.proofs.Entries.{any_cut, lookup_filter, passing, sorted_filter}
+use Rattle.cv_machine.proofs.LayerTables.{value_put, value_cut}
 use Rattle.cv_tree.specs.Entries.{first_entry}
 use Rattle.cv_registry.specs.Registrations.{users_of}
 use Rattle.cv_registry.specs.code.Users.{ArePut, AreTaken, ImageSet, Users, is_used, names, set_at, uses}
 use Rattle.cv_registry.proofs.ListLemmas.{at_head, past_head, same_keys}
-
--- what is found with one value less
-pub value_cut : {V : Type 0} (entries : List (List ℕ × V)) (key q : List ℕ) → IsStrictlySortedBy text_cmp (keys_of entries)
-    → value_at (without_value entries key) q ≡ cond (same key q) None (value_at entries q)
-value_cut entries key q h = lookup_cut nat_list_cmp_total entries key q h ∙ ap (λ b. cond b None (value_at entries q)) (sym (texts_ties key q))
 
 -- ---- an image is put in
 
@@ -33,10 +29,6 @@ put_in set image q = ap is_some (value_put set image tt q) ∙ by_test (same ima
   by_test : (b : Bool) → is_some (cond b (Some tt) (value_at set q)) ≡ (b || is_some (value_at set q))
   by_test true = refl
   by_test false = refl
-
-or_true : (a : Bool) → (a || false) ≡ a
-or_true true = refl
-or_true false = refl
 
 -- into the set of one layer
 pub put_one : (users after : Users) (layer image : List ℕ) (set : ImageSet) → set ≡ with_value (set_at users layer) image tt
@@ -47,7 +39,7 @@ put_one users after layer image set made is l q =
       by_test true key =
           ap (λ found. is_some (value_at (unwrap_or found []) q)) (value_put users layer set l ∙ ap (λ b. cond b (Some set) (value_at users l)) key)
           ∙ ap (λ s. is_some (value_at s q)) made ∙ put_in (set_at users layer) image q
-          ∙ ap (λ k. same image q || is_some (value_at (set_at users k) q)) (same_key layer l key)
+          ∙ ap (λ k. same image q || is_some (value_at (set_at users k) q)) (same_is layer l key)
           ∙ sym (ap (λ b. (b || false) && same image q || uses users l q) key)
       by_test false key =
           ap (λ found. is_some (value_at (unwrap_or found []) q)) (value_put users layer set l ∙ ap (λ b. cond b (Some set) (value_at users l)) key)
@@ -87,7 +79,7 @@ pub take_absent : (users after : Users) (layer image : List ℕ) → None ≡ va
 take_absent users after layer image none is l q = ap (λ us. uses us l q) is ∙ by_test (same layer l) refl where
   by_test : (b : Bool) → same layer l ≡ b → uses users l q ≡ cond ((same layer l || false) && same image q) false (uses users l q)
   by_test true key =
-      let unused : uses users l q ≡ false = ap (λ k. uses users k q) (sym (same_key layer l key)) ∙ ap (λ found. is_some (value_at (unwrap_or found []) q)) (sym none) in
+      let unused : uses users l q ≡ false = ap (λ k. uses users k q) (sym (same_is layer l key)) ∙ ap (λ found. is_some (value_at (unwrap_or found []) q)) (sym none) in
       false_both ((same layer l || false) && same image q) (uses users l q) unused
   by_test false key = sym (ap (λ b. cond ((b || false) && same image q) false (uses users l q)) key)
 
@@ -99,7 +91,7 @@ taken users after layer image set found h is l q = is l q ∙ by_test (same laye
       → cond (same layer l) (is_some (value_at (without_value set image) q)) (uses users l q) ≡ cond ((same layer l || false) && same image q) false (uses users l q)
   by_test true key =
       let whole : is_some (value_at set q) ≡ uses users l q =
-      ap (λ f. is_some (value_at (unwrap_or f []) q)) (sym found) ∙ ap (λ k. uses users k q) (same_key layer l key) in
+      ap (λ f. is_some (value_at (unwrap_or f []) q)) (sym found) ∙ ap (λ k. uses users k q) (same_is layer l key) in
       ap (λ b. cond b (is_some (value_at (without_value set image) q)) (uses users l q)) key
       ∙ take_out set image q h ∙ ap (cond (same image q) false) whole
       ∙ sym (ap (λ b. cond ((b || false) && same image q) false (uses users l q)) key)

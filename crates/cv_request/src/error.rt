@@ -1,5 +1,7 @@
 ghost use Rattle.std.specs.Prelude.{◌≡◌};
-ghost use Rattle.cv_request.specs.Fault.{fault_of};
+ghost use Rattle.cv_request.specs.Fault.{fault_of, error_of};
+ghost use Rattle.cv_request.specs.declared.error.RequestError.TheVariants as error;
+ghost use Rattle.cv_request.specs.code.Records.{requested};
 
 use cv_osv::{OsvError, RecordWhat};
 use cv_seq::NoMemory;
@@ -90,9 +92,6 @@ impl RequestError {
 }
 
 impl From<RequestFault> for RequestError {
-    ghost use Rattle.std.specs.Prelude.{◌≡◌};
-    ghost use Rattle.cv_request.specs.Fault.{error_of};
-
     ghost from_gives = { λ fault e. e ≡ error_of fault };
 
     fn from(fault: RequestFault) -> RequestError {
@@ -109,9 +108,6 @@ impl From<RequestFault> for RequestError {
 }
 
 impl From<RequestWhat> for RequestError {
-    ghost use Rattle.std.specs.Prelude.{◌≡◌};
-    ghost use Rattle.cv_request.specs.declared.error.RequestError.TheVariants as error;
-
     ghost from_gives = { λ what e. e ≡ error.BadRequest what };
 
     fn from(what: RequestWhat) -> RequestError {
@@ -121,9 +117,6 @@ impl From<RequestWhat> for RequestError {
 
 /// The refusal of records, as that of a line.
 impl From<OsvError> for RequestError {
-    ghost use Rattle.std.specs.Prelude.{◌≡◌};
-    ghost use Rattle.cv_request.specs.code.Records.{requested};
-
     ghost from_gives = { λ refusal e. e ≡ requested refusal };
 
     fn from(refusal: OsvError) -> RequestError {
@@ -138,9 +131,6 @@ impl From<OsvError> for RequestError {
 }
 
 impl From<NoMemory> for RequestError {
-    ghost use Rattle.std.specs.Prelude.{◌≡◌};
-    ghost use Rattle.cv_request.specs.declared.error.RequestError.TheVariants as error;
-
     ghost from_gives = { λ _ e. e ≡ error.NoMemory };
 
     fn from(_error: NoMemory) -> RequestError {
@@ -150,9 +140,6 @@ impl From<NoMemory> for RequestError {
 
 /// The rejected value is dropped.
 impl<T: Drop> From<AllocFailed<T>> for RequestError {
-    ghost use Rattle.std.specs.Prelude.{◌≡◌};
-    ghost use Rattle.cv_request.specs.declared.error.RequestError.TheVariants as error;
-
     ghost from_gives = { λ _ e. e ≡ error.NoMemory };
 
     fn from(_failed: AllocFailed<T>) -> RequestError {

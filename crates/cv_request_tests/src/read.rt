@@ -296,10 +296,7 @@ fn is_shared<T: Send + Sync>() {}
 
 #[test]
 fn threads_may_share_a_request_and_a_refusal() {
-    is_shared::<Request>();
-    is_shared::<Act>();
-    is_shared::<RequestError>();
-    is_shared::<RequestFault>();
+    is_shared::<(Request, Act, RequestError, RequestFault)>();
 }
 
 /// As many bytes as a line of the input may have.

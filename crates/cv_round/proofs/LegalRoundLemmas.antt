@@ -1,5 +1,5 @@
 -- The parts of the lanes and the workers in a round make its entries a legal round.
-use Rattle.std.proofs.Common.{◌≡◌, ℕ, zero, suc, ◌+◌, ◌-◌, ◌==◌, ◌≤◌, ◌<◌, ◌⊎◌, inl, inr, cond, List, [], ◌∷◌, ◌++◌, filter, get_or, length, map, None, Some, Result, Ok, Err, refl, ap, sym, subst, ◌∙◌, arith}
+use Rattle.std.proofs.Common.{◌≡◌, ℕ, zero, suc, ◌+◌, ◌-◌, ◌==◌, ◌≤◌, ◌<◌, ◌⊎◌, inl, inr, cond, List, [], ◌∷◌, ◌++◌, filter, get_or, length, map, None, Some, refl, ap, sym, subst, ◌∙◌, arith}
 use Rattle.std.specs.List.{AllByRecursion, AllZip, cons_option}
 use Rattle.std.proofs.lemmas.Bool.{cases_lt, eq-eqb, ne_eqb}
 use Rattle.std.proofs.lemmas.List.{get_or_past}
@@ -11,13 +11,11 @@ use Rattle.cv_records.specs.declared.event.Act.TheVariants as name
 use Rattle.cv_records.specs.declared.event.By.TheVariants as by
 use Rattle.cv_records.specs.declared.event.EventEntry.{EventEntry}
 use Rattle.cv_records.specs.declared.read.ReadEntry.{ReadEntry}
-use Rattle.cv_request.specs.declared.error.RequestError.{RequestError}
 use Rattle.cv_request.specs.declared.request.Act.{Act as RequestAct}
 use Rattle.cv_request.specs.declared.request.Act.TheVariants as request
-use Rattle.cv_request.specs.declared.request.Request.{Request}
 use Rattle.cv_transcript.specs.Order.{AreAscending, events_of, reads_by, reads_of}
 use Rattle.cv_transcript.specs.declared.entry.Entry.{Entry}
-use Rattle.cv_transcript.proofs.OrderLemmas.{all_weaker}
+use Rattle.cv_base.proofs.AllItems.{all_weaker}
 use Rattle.cv_machine.specs.History.{act_name}
 use Rattle.cv_machine.specs.Layers.{queued}
 use Rattle.cv_machine.specs.Scans.{IsKnown, trees_of}
@@ -27,13 +25,14 @@ use Rattle.cv_machine.specs.declared.limits.Limits.{Limits}
 use Rattle.cv_legal.specs.Parts.{claim_in, claims_of, events_by, lines_answered, times}
 use Rattle.cv_legal.specs.Replay.{event_of, submitted}
 use Rattle.cv_legal.specs.Round.{IsLegalRound}
-use Rattle.cv_legal.specs.Taken.{IsTaken, lines_requested, refusal_at, refusals, requests}
+use Rattle.cv_legal.specs.Taken.{IsTaken, lines_requested, refusals, requests}
 use Rattle.cv_legal.specs.Turns.{ClaimsBelow, Works}
 use Rattle.cv_legal.specs.code.Segment.{lane_requests}
 use Rattle.cv_legal.specs.Served.{LinesAscend}
 use Rattle.cv_legal.specs.declared.taken.Requested.{Requested}
 use Rattle.cv_legal.specs.declared.taken.Taken.{Taken}
 use Rattle.cv_legal.proofs.Assembled.{RequestsAscend, of_lane as of_this_lane, requests_ascend}
+use Rattle.cv_legal.proofs.History.{no_events}
 use Rattle.cv_legal.proofs.Order.{reads_in_order}
 use Rattle.cv_pool.specs.Jobs.{lists_weigh, weigh, weigh_below}
 use Rattle.cv_workers.specs.Events.{DeskTrees, IsReplayed, entries_from, state_of}
@@ -396,15 +395,6 @@ round_legal tree limits before later lines last taken others workers reads queue
     }
 
 -- ---- desks
-
--- refused lines are no events
-no_events : (taken : List Taken) (others : List Entry) → events_of (refusals taken ++ others) ≡ events_of others
-no_events [] others = refl
-no_events (first ∷ taken) others = by_answer first.answer (no_events taken others) where
-  by_answer : (answer : Result Request RequestError) → events_of (refusals taken ++ others) ≡ events_of others
-      → events_of (cons_option (refusal_at first.line answer) (refusals taken) ++ others) ≡ events_of others
-  by_answer (Ok request) none = none
-  by_answer (Err error) none = none
 
 -- the events of a worker are all of its seat
 desk_events : (before later : List Submission) (worker : ℕ) (others : List Entry) (taken : List Taken) (own : List Placed) → own ≡ of_seat (8 + worker) (length before + 1) later

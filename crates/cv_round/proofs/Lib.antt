@@ -1,3 +1,4 @@
+pub use Rattle.cv_workers.proofs.WorkerLemmas
 pub mod LaneLineLemmas
 pub mod LegalRoundLemmas
 pub mod ReplayLemmas

@@ -8,7 +8,8 @@ use Rattle.cv_records.specs.declared.read.ReadEntry.{ReadEntry}
 use Rattle.cv_transcript.specs.Order.{AreAscending, Precedes, events_of, reads_of}
 use Rattle.cv_transcript.specs.declared.entry.Entry.{Entry}
 use Rattle.cv_transcript.specs.declared.entry.Entry.TheVariants as entry
-use Rattle.cv_transcript.proofs.OrderLemmas.{all_weaker}
+use Rattle.cv_transcript.proofs.OrderLemmas.{event_head}
+use Rattle.cv_base.proofs.AllItems.{all_weaker}
 use Rattle.cv_machine.specs.History.{event_entry, replies, state_after}
 use Rattle.cv_machine.specs.Scans.{Trees}
 use Rattle.cv_machine.specs.State.{State, opening}
@@ -23,13 +24,6 @@ use Rattle.cv_round.specs.Round.{moment_of}
 use Rattle.cv_round.specs.code.Parts.{IsSeen, IsSourced}
 
 -- ---- entries in order
-
--- what holds of all entries holds of the first event
-event_first : (P : Entry → Type 0) (event : EventEntry) (events : List EventEntry) (es : List Entry) → AllByRecursion P es → events_of es ≡ event ∷ events → P (entry.Event event)
-event_first P event events [] h is = absurd (cc is)
-event_first P event events (entry.Refused line error ∷ es) h is = event_first P event events es h.1 is
-event_first P event events (entry.Event first ∷ es) h is = let same : first ≡ event = cc is in subst (λ e. P (entry.Event e)) same h.0
-event_first P event events (entry.Read read ∷ es) h is = event_first P event events es h.1 is
 
 -- reads after an event have it before them
 reads_follow : (event : EventEntry) (es : List Entry) → AllByRecursion (Precedes (entry.Event event)) es → AllByRecursion (λ read. event.number ≤ read.front) (reads_of es)
@@ -76,7 +70,7 @@ front_is : (before later : List Submission) (read : ReadEntry) (es : List Entry)
     → length before ≤ read.front → read.front ≤ length (before ++ later) → read.front ≡ length before
 front_is before [] read es h is low high = let none = length-append before [] in omega (arith, low, high, none)
 front_is before (event ∷ later) read es h is low high =
-    let next = event_first (Precedes (entry.Read read)) (event_entry (length before + 1) event.by event.act event.reply) (entries_from (length before + 1 + 1) later) es h is in
+    let next = event_head (Precedes (entry.Read read)) (event_entry (length before + 1) event.by event.act event.reply) (entries_from (length before + 1 + 1) later) es h is in
     omega (arith, low, next)
 
 read_next : (trees : Trees) (limits : Limits) (requested : List Requested) (low : ℕ) (before later : List Submission) (read : ReadEntry) → read.front ≡ length before

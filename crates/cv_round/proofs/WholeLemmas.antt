@@ -3,9 +3,10 @@ use Rattle.std.specs.Prelude.{IfOk, OnOk}
 use Rattle.std.proofs.Common.{◌≡◌, ℕ, zero, suc, ◌+◌, ◌<◌, ◌≤◌, ◌⊎◌, inl, inr, Result, Ok, Err, List, [], ◌∷◌, ◌++◌, drop, get_or, length, map, take, refl, ap, sym, subst, ◌∙◌, arith}
 use Rattle.std.specs.List.{AllByRecursion, AllZip}
 use Rattle.std.proofs.lemmas.Bool.{cases_lt}
-use Rattle.std.proofs.lemmas.List.{get_or_past}
+use Rattle.std.proofs.lemmas.List.{get_or_past, length-map}
 use mathlib.Core.List.{IsPrefix}
 use Rattle.cv_base.specs.Lines.{Line}
+use Rattle.cv_base.proofs.AllItems.{all_back}
 use Rattle.cv_records.specs.declared.event.EventEntry.{EventEntry}
 use Rattle.cv_records.specs.declared.read.ReadEntry.{ReadEntry}
 use Rattle.cv_transcript.specs.Order.{AreAscending, AreByLane, AreOfLane, Precedes, events_of, reads_by, reads_of}
@@ -56,14 +57,6 @@ whole_of (x ∷ xs) (y ∷ ys) begins =
     let tail = whole_of xs ys (begins.0, cc (begins.1)) in
     let first : y ≡ x = cc (begins.1) in
     ap (λ z. z ∷ ys) first ∙ ap (λ zs. x ∷ zs) tail
-
-all_after : {A : Type 0} (P : A → Type 0) (xs ys : List A) → AllByRecursion P (xs ++ ys) → AllByRecursion P ys
-all_after P [] ys h = h
-all_after P (x ∷ xs) ys h = all_after P xs ys h.1
-
-many_of : {A B : Type 0} (f : A → B) (xs : List A) → length (map f xs) ≡ length xs
-many_of f [] = refl
-many_of f (x ∷ xs) = ap suc (many_of f xs)
 
 -- what was written back over a list of the same length
 pub front_is : {A : Type 0} (n : ℕ) (xs ys : List A) → n ≡ length xs → take n (xs ++ ys) ≡ xs
@@ -136,7 +129,7 @@ module _ {D : Type 0} (listings faults : D → ℕ) (tree : DeskTrees) (limits :
       let place : 0 + k ≡ 8 + 0 = omega (arith, eight) in
       let low : AllByRecursion (λ (e : Submission). e.seat < 8 + length ds) later =
       subst (λ (n : ℕ). AllByRecursion (λ (e : Submission). e.seat < n) later) seats_are
-      (all_after (λ (e : Submission). e.seat < length ends) before later (subst (AllByRecursion (λ (e : Submission). e.seat < length ends)) is below)) in
+      (all_back (λ (e : Submission). e.seat < length ends) before later (subst (AllByRecursion (λ (e : Submission). e.seat < length ends)) is below)) in
       let lanes_at = each_lane_part tree limits before later requested 0 (take k mids) (take k ends) lanes lanes_after (begun_take before k 0 mids start) (ended_take (before ++ later) k ends end) w.dealt
       (took_many k (length ds) ends ends_are) (took_many k (length ds) mids mids_are) w.lanes_many w.lanes_did in
       let lane_parts : (lane : ℕ) → lane < 8 → LanePart tree limits before later requested lane (get_or (map (λ (l : Lane). l.reads.items) lanes_after) lane []) =
@@ -155,7 +148,7 @@ module _ {D : Type 0} (listings faults : D → ℕ) (tree : DeskTrees) (limits :
         eight = w.lanes_many ∙ eight;
         jobs = jobs;
         worker_parts = worker_parts;
-        many = ap length jobs_are ∙ (many_of (λ (h : HandState). h.list) hands ∙ w.hands_many);
+        many = ap length jobs_are ∙ (length-map hands (λ (h : HandState). h.list) ∙ w.hands_many);
         weights = weights;
         events_are = events_are;
         desks_counted = λ others taken is_events.
@@ -209,7 +202,7 @@ module _ {D : Type 0} (listings faults : D → ℕ) (tree : DeskTrees) (limits :
   joined_legal j known lines last read ascend =
       let ran = j.ran in
       let later = ran.later in
-      let eight : length reads ≡ 8 = ap length j.reads_are ∙ (many_of (λ (l : Lane). l.reads.items) lanes ∙ ran.eight) in
+      let eight : length reads ≡ 8 = ap length j.reads_are ∙ (length-map lanes (λ (l : Lane). l.reads.items) ∙ ran.eight) in
       let few : AllByRecursion (λ (r : Requested). r.request.lane < 8) (requests taken) = subst (AllByRecursion (λ (r : Requested). r.request.lane < 8)) j.requested_is (low_lanes requested j.sound) in
       let lane_parts : (lane : ℕ) → lane < 8 → LanePart tree limits before later (requests taken) lane (get_or reads lane []) =
       λ lane low. subst (λ (rs : List (List ReadEntry)). LanePart tree limits before later (requests taken) lane (get_or rs lane [])) (sym j.reads_are)

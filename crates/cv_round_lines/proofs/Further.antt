@@ -1,5 +1,5 @@
 -- What a service does goes on by what it does next.
-use Rattle.std.specs.Prelude.{◌≡◌, ℕ, suc, ◌+◌, Bool, true, false, ◌&&◌, nat_le, nat_lt, if◌then◌else◌, List, [], ◌∷◌, ◌++◌, length, Option, Result, Ok, Err, OnOk, refl}
+use Rattle.std.specs.Prelude.{◌≡◌, ℕ, suc, ◌+◌, Bool, true, false, ◌&&◌, nat_le, nat_lt, if◌then◌else◌, List, [], ◌∷◌, ◌++◌, length, Option, refl}
 use Rattle.std.specs.Io.KnownBytes.{Appends}
 use Rattle.std.specs.List.{AllByRecursion, AllZip, flat_map}
 use Rattle.std.proofs.Common.{ap, append_assoc, subst, sym, ◌∙◌}
@@ -79,10 +79,6 @@ puts trees workers cut last taken more bytes all entries now line t h number is 
     (takes_line trees workers cut last taken bytes entries now line t h number is))
 
 -- ---- by the kinds of lines
-
-pub on_ok : {X E P Q : Type 0} (r : Result X E) → (P → Q) → OnOk r P → OnOk r Q
-on_ok (Ok x) f h = f h
-on_ok (Err e) f h = tt
 
 pub same_cons : (lines : List Line) (taken : List Taken) → AllZip IsTaken lines taken → is_cons lines ≡ is_cons taken
 same_cons [] [] h = refl

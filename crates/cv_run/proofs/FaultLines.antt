@@ -1,6 +1,6 @@
 -- Each `fault` line of a legal transcript is that of one of its workers.
 use Rattle.std.proofs.Common.{◌≡◌, ℕ, ◌<◌, ◌≤◌, Bool, true, false, cond, List, [], ◌∷◌, ◌++◌, length, refl, sym, ◌∙◌, ap, subst, inl, inr, ◌⊎◌, arith, true≢false}
-use Rattle.std.specs.Prelude.{⊤, ◌==◌, filter, filter_map, if◌then◌else◌, Option, Some, None, option_and_then, Result, Ok, Err}
+use Rattle.std.specs.Prelude.{⊤, ◌==◌, filter, if◌then◌else◌, Option, Some, None, option_and_then}
 use Rattle.std.specs.List.{AllByRecursion, cons_option}
 use Rattle.std.proofs.lemmas.Bool.{cases_lt, eq-eqb, eqb-true}
 use Rattle.std.proofs.lemmas.List.Elements.{filter_map-append}
@@ -9,10 +9,8 @@ use Rattle.cv_records.specs.declared.event.Act.TheVariants as name
 use Rattle.cv_records.specs.declared.event.By.{By}
 use Rattle.cv_records.specs.declared.event.By.TheVariants as by
 use Rattle.cv_records.specs.declared.event.EventEntry.{EventEntry}
-use Rattle.cv_request.specs.declared.error.RequestError.{RequestError}
 use Rattle.cv_request.specs.declared.request.Act.{Act as RequestAct}
 use Rattle.cv_request.specs.declared.request.Act.TheVariants as request
-use Rattle.cv_request.specs.declared.request.Request.{Request}
 use Rattle.cv_transcript.specs.Order.{event_in, events_of}
 use Rattle.cv_transcript.specs.declared.entry.Entry.{Entry}
 use Rattle.cv_transcript.specs.declared.entry.Entry.TheVariants as entry
@@ -25,10 +23,9 @@ use Rattle.cv_legal.specs.Parts.{event_by, events_by}
 use Rattle.cv_legal.specs.Replay.{IsEvent, Moment, Replays, event_of, requested_at, submitted}
 use Rattle.cv_legal.specs.Round.{IsLegalRound}
 use Rattle.cv_legal.specs.Rounds.{Round}
-use Rattle.cv_legal.specs.Taken.{refusal_at, refusals}
 use Rattle.cv_legal.specs.Turns.{ClaimsBelow, FitsWork, Works}
 use Rattle.cv_legal.specs.declared.taken.Requested.{Requested}
-use Rattle.cv_legal.specs.declared.taken.Taken.{Taken}
+use Rattle.cv_legal.proofs.History.{no_events}
 use Rattle.cv_serve.specs.Round.{fault_count, is_fault}
 
 -- ---- a lane submits no fault
@@ -141,15 +138,6 @@ module _ (workers : ℕ) where
       from (by.Worker worker) e of = order worker e (cases_lt worker workers)
 
   -- ---- rounds
-
-  no_events : (taken : List Taken) (others : List Entry) → events_of (refusals taken ++ others) ≡ events_of others
-  no_events [] others = refl
-  no_events (first ∷ taken) others = by_answer first.answer (no_events taken others)
-    where
-      by_answer : (answer : Result Request RequestError) → events_of (refusals taken ++ others) ≡ events_of others
-          → events_of (cons_option (refusal_at first.line answer) (refusals taken) ++ others) ≡ events_of others
-      by_answer (Ok request) same = same
-      by_answer (Err error) same = same
 
   abbrev AreSound : List Entry → Type 0
   AreSound entries = AllByRecursion IsSound (events_of entries)

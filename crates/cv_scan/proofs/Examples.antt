@@ -3,7 +3,6 @@ use Rattle.std.specs.Prelude.{◌≡◌, ℕ, false, List, [], ◌∷◌, ◌++�
 use Rattle.cv_base.specs.Path.{components}
 use Rattle.cv_base.specs.declared.advisory.Advisory.{Advisory}
 use Rattle.cv_base.specs.declared.finding.Finding.{Finding}
-use Rattle.cv_base.specs.declared.package.PackageKind.TheVariants.{Deb}
 use Rattle.cv_base.specs.declared.tree.Content.{Content}
 use Rattle.cv_base.specs.declared.tree.Content.TheVariants.{Bytes, TooLarge}
 use Rattle.cv_base.specs.declared.tree.Node.TheVariants as node
@@ -17,6 +16,7 @@ use Rattle.cv_packages.specs.Packages.{packages}
 use Rattle.cv_scan.specs.Root.{root_entries}
 use Rattle.cv_scan.specs.Layers.{distinct}
 use Rattle.cv_scan.specs.Scan.{scan}
+use Rattle.cv_packages.proofs.Examples.{zlib_of}
 
 abbrev dir : List ℕ → TreeEntry
 dir text = record { path = components text; node = node.Dir }
@@ -82,7 +82,8 @@ twice = refl
 abbrev zlib : List ℕ
 zlib = codes "Package: zlib" ++ 10 ∷ codes "Status: install ok installed" ++ 10 ∷ codes "Version: 1" ++ 10 ∷ []
 
-abbrev listed : List ℕ → Advisory
+-- a record that affects zlib 1
+abbrev pub listed : List ℕ → Advisory
 listed id = record {
   id = id;
   modified = codes "m";
@@ -92,16 +93,7 @@ listed id = record {
 
 abbrev finding : List ℕ → Finding
 finding id = record {
-  «package» = record {
-    kind = Deb;
-    path = components (codes "var/lib/dpkg/status");
-    name = codes "zlib";
-    version = codes "1";
-    source = codes "zlib";
-    source_version = codes "1";
-    arch = [];
-    ecosystem = codes "unknown";
-  };
+  «package» = zlib_of (codes "unknown");
   feed = codes "f";
   advisory = id;
   fixed = None;

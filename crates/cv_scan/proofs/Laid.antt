@@ -14,8 +14,9 @@ use Rattle.cv_base.specs.InOrder.{in_order}
 use Rattle.cv_base.specs.Path.{Path, path_cmp, same_path}
 use Rattle.cv_base.specs.declared.tree.Node.{Node}
 use Rattle.cv_base.specs.declared.tree.TreeEntry.{TreeEntry}
-use Rattle.cv_base.proofs.InOrder.{after_lower, any_order, in_order_sorted, turned}
+use Rattle.cv_base.proofs.InOrder.{after_lower, any_order, in_order_sorted}
 use Rattle.cv_base.proofs.Same.{path_is, path_self, path_total, tied_path}
+use Rattle.cv_base.proofs.Orders.{turned}
 use Rattle.cv_overlay.specs.Lay.{hides, is_plain, lay, node_at, plain_at, root_from, root_of}
 use Rattle.cv_overlay.specs.Mark.{mark}
 use Rattle.cv_overlay.specs.Ascending.{AreAscending}
@@ -82,7 +83,7 @@ plain_none (e ∷ es) p h = by_tests (is_plain (mark e)) (same_path e.path p) h 
   by_tests false true h rest = cc
   by_tests false false h rest = rest h
 
-none_either : (b : Bool) (found : Option Node) → found ≡ None → (if b then None else found) ≡ None
+pub none_either : (b : Bool) (found : Option Node) → found ≡ None → (if b then None else found) ≡ None
 none_either true found h = refl
 none_either false found h = h
 

@@ -1,4 +1,4 @@
-mod Examples
+pub mod Examples
 pub mod Laid
 pub mod LaidTrees
 pub mod Loaded

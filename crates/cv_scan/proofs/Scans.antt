@@ -1,6 +1,7 @@
 -- The parts of a scan as the code puts them together.
 use Rattle.std.specs.Prelude.{◌≡◌, ℕ, ◌+◌, ◌≤◌, suc, ⊤, List, [], ◌∷◌, length, map, MatchBool, Option, Some, None, Result, Ok, Err, IfOk, refl}
 use Rattle.std.proofs.Common.{ap, sym, subst, arith, ◌∙◌}
+use Rattle.std.proofs.lemmas.List.{length-map}
 use Rattle.cv_base.specs.Answer.{Gives}
 use Rattle.cv_base.specs.Path.{Path}
 use Rattle.cv_base.specs.declared.limits.TheConstants.{MAX_LAYERS}
@@ -65,16 +66,12 @@ count_from index [] = refl
 count_from index (None ∷ layers) = tt
 count_from index (Some tree ∷ layers) = count_more tree (trees_from (index + 1) layers) (length layers) (count_from (index + 1) layers)
 
-count_map : {A B : Type 0} (f : A → B) (xs : List A) → length (map f xs) ≡ length xs
-count_map f [] = refl
-count_map f (x ∷ xs) = ap suc (count_map f xs)
-
 pub trees_within : {A B : Type 0} (f : A → Option (List TreeEntry)) (g : B → List TreeEntry) (layers : List A) (trees : List B) → refusing (trees_from 0 (map f layers)) ≡ Ok (map g trees)
     → length layers ≤ MAX_LAYERS → length trees ≤ MAX_LAYERS
 trees_within f g layers trees h within =
     let counted : length (map g trees) ≡ length (map f layers) = subst (λ found. IfOk found (λ ts. length ts ≡ length (map f layers))) (trees_ok (trees_from 0 (map f layers)) (map g trees) h) (count_from 0 (map f layers)) in
-    let one = count_map f layers in
-    let two = count_map g trees in
+    let one = length-map layers f in
+    let two = length-map trees g in
     omega (arith, counted, one, two)
 
 -- From the trees to the root.

@@ -1,3 +1,7 @@
+ghost use Rattle.std.specs.Prelude.{◌≡◌, Some};
+ghost use Rattle.cv_scan.specs.declared.error.ScanError.TheVariants as error;
+ghost use Rattle.cv_scan.specs.Faults.{scan_fault};
+
 use cv_base::{RelPath, What};
 use cv_packages::FileFault;
 use cv_seq::NoMemory;
@@ -22,21 +26,7 @@ pub enum ScanError {
     NoMemory,
 }
 
-impl From<NoMemory> for ScanError {
-    ghost use Rattle.std.specs.Prelude.{◌≡◌};
-    ghost use Rattle.cv_scan.specs.declared.error.ScanError.TheVariants as error;
-
-    ghost from_gives = { λ _ e. e ≡ error.NoMemory };
-
-    fn from(_error: NoMemory) -> ScanError {
-        ScanError::NoMemory
-    }
-}
-
 impl From<FileFault> for ScanError {
-    ghost use Rattle.std.specs.Prelude.{◌≡◌, Some};
-    ghost use Rattle.cv_scan.specs.Faults.{scan_fault};
-
     ghost from_gives = { λ fault e. scan_fault e ≡ Some fault };
 
     fn from(fault: FileFault) -> ScanError {
@@ -44,5 +34,13 @@ impl From<FileFault> for ScanError {
             FileFault::BadFile { path, line, what } => ScanError::BadFile { path, line, what },
             FileFault::TooLarge { path } => ScanError::TooLarge { path },
         }
+    }
+}
+
+impl From<NoMemory> for ScanError {
+    ghost from_gives = { λ _ e. e ≡ error.NoMemory };
+
+    fn from(_error: NoMemory) -> ScanError {
+        ScanError::NoMemory
     }
 }

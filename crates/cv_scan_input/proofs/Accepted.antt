@@ -95,7 +95,7 @@ module _ (before now : Reader) (l m : Option (List ℕ)) (inputs : now.max_input
 -- ---- lines after line 1
 
 -- one more line after lines
-ended_snoc : (pieces : List (List ℕ)) (piece rest : List ℕ) → ended_lines (pieces ++ piece ∷ []) ++ rest ≡ ended_lines pieces ++ (piece ++ LF ∷ rest)
+pub ended_snoc : (pieces : List (List ℕ)) (piece rest : List ℕ) → ended_lines (pieces ++ piece ∷ []) ++ rest ≡ ended_lines pieces ++ (piece ++ LF ∷ rest)
 ended_snoc [] piece rest = append_assoc (piece ++ LF ∷ []) [] rest ∙ append_assoc piece (LF ∷ []) rest
 ended_snoc (first ∷ pieces) piece rest =
     append_assoc (first ++ LF ∷ []) (ended_lines (pieces ++ piece ∷ [])) rest

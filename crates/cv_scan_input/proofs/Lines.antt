@@ -102,7 +102,7 @@ refused_by manifest number rest error (Ok all) h = absurd (cc)
 refused_by manifest number rest error (Err refusal) h =
     let k : input.Refused number refusal ≡ error = cc in subst (λ e. IsRefusedBy (RefusedAt number refusal) e) k refl
 
-refused_of : (request same : ScanRequest) (error : InputError) → request ≡ same → IsRefusedBy same error → IsRefusedBy request error
+pub refused_of : (request same : ScanRequest) (error : InputError) → request ≡ same → IsRefusedBy same error → IsRefusedBy request error
 refused_of request same error e h = subst (λ a. IsRefusedBy a error) (sym e) h
 
 -- a line is refused

@@ -12,12 +12,12 @@ use Rattle.cv_io.specs.Lines.{Reading, line_then}
 use Rattle.cv_io.specs.Reader.{Reads}
 use Rattle.cv_request.specs.declared.error.RequestFault.{RequestFault}
 use Rattle.cv_scan_input.specs.Answer.{IsRequest, IsRefusedBy, is_input_memory, stop_error}
-use Rattle.cv_scan_input.specs.Request.{ScanRequest, RefusedAt, Scan, scan_request_of, request_after, manifest_or, record_lines}
+use Rattle.cv_scan_input.specs.Request.{RefusedAt, Scan, scan_request_of, request_after, manifest_or, record_lines}
 use Rattle.cv_scan_input.specs.code.Remaining.{Begins, remaining_request, line_after, refused_at}
 use Rattle.cv_scan_input.specs.declared.error.InputError.{InputError}
 use Rattle.cv_scan_input.specs.declared.error.InputError.TheVariants as input
 use Rattle.cv_scan_input.specs.declared.input.ScanInput.{ScanInput}
-use Rattle.cv_scan_input.proofs.Lines.{line_taken, line_refused}
+use Rattle.cv_scan_input.proofs.Lines.{line_taken, line_refused, refused_of}
 
 -- the request of the whole is that of the rest after the records so far; its lines have numbers from this one on
 abbrev pub Progress : Manifest → Option Reading → Option Reading → List Advisory → ℕ → Type 0
@@ -35,9 +35,6 @@ progress_more manifest (Some whole) None next records more number text h k e = a
 progress_more manifest (Some whole) (Some rest) None records more number text h k e = absurd k
 progress_more manifest (Some whole) (Some rest) (Some later) records more number text h k e =
     h ∙ ap (remaining_request manifest records number) k ∙ line_taken manifest records more number text later e
-
-refused_of : (request same : ScanRequest) (error : InputError) → request ≡ same → IsRefusedBy same error → IsRefusedBy request error
-refused_of request same error e h = subst (λ a. IsRefusedBy a error) (sym e) h
 
 -- a line was refused, or the call ran out of memory
 pub progress_refused : (manifest : Manifest) (before now next : Option Reading) (records : List Advisory) (number : ℕ) (text : List ℕ) (error : InputError)

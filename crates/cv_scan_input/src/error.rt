@@ -1,3 +1,7 @@
+ghost use Rattle.std.specs.Prelude.{◌≡◌};
+ghost use Rattle.cv_scan_input.specs.Answer.{stop_error};
+ghost use Rattle.cv_scan_input.specs.declared.error.InputError.TheVariants as input;
+
 use cv_io::LineError;
 use cv_request::RequestFault;
 use cv_seq::NoMemory;
@@ -22,9 +26,6 @@ pub enum InputError {
 }
 
 impl From<LineError> for InputError {
-    ghost use Rattle.std.specs.Prelude.{◌≡◌};
-    ghost use Rattle.cv_scan_input.specs.Answer.{stop_error};
-
     ghost from_gives = { λ line e. e ≡ stop_error line };
 
     fn from(error: LineError) -> InputError {
@@ -38,10 +39,7 @@ impl From<LineError> for InputError {
 }
 
 impl From<NoMemory> for InputError {
-    ghost use Rattle.std.specs.Prelude.{◌≡◌};
-    ghost use Rattle.cv_scan_input.specs.declared.error.InputError.TheVariants as error;
-
-    ghost from_gives = { λ _ e. e ≡ error.NoMemory };
+    ghost from_gives = { λ _ e. e ≡ input.NoMemory };
 
     fn from(_error: NoMemory) -> InputError {
         InputError::NoMemory

@@ -10,9 +10,9 @@ one_by true = omega arith
 one_by false = omega arith
 
 -- no more than there are
-pub made_few : (index : ℕ) (list : List Submission) → made_by index list ≤ length list
-made_few index [] = omega arith
-made_few index (event ∷ list) = omega (arith, one_by (event.seat == index), made_few index list)
+pub made_at_most : (index : ℕ) (list : List Submission) → made_by index list ≤ length list
+made_at_most index [] = omega arith
+made_at_most index (event ∷ list) = omega (arith, one_by (event.seat == index), made_at_most index list)
 
 -- those of two lists, one after the other
 pub made_both : (index : ℕ) (xs ys : List Submission) → made_by index (xs ++ ys) ≡ made_by index xs + made_by index ys

@@ -96,7 +96,7 @@ impl<D: Desk, L: Identity> Seat<D, L> {
         ensures seat { self.new ≡ seat_of self.old.index front.now (self.old.count + 1) }
         ensures book { book.new.total ≡ book.old.total + 1 }
     {
-        let _few = front.len();
+        let _events = front.len();
         book.add(&mut self.share, 1);
         self.count += 1;
         self.front = front.again();

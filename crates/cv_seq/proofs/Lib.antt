@@ -1,2 +1,4 @@
+pub mod AllItems
 mod Examples
+pub mod Orders
 pub mod Utf8

@@ -1,4 +1,5 @@
 ghost use Rattle.std.specs.Prelude.{◌≡◌};
+ghost use Rattle.std.specs.List.{AllZip};
 
 use std::alloc::AllocError;
 use std::cmp::Ordering;
@@ -43,8 +44,6 @@ impl<T> Seq<T> {
 
 /// Each item is a clone of its source.
 impl<T: Clone + Drop> Clone for Seq<T> {
-    ghost use Rattle.std.specs.List.{AllZip};
-
     ghost is_clone = { AllZip T.is_clone };
 
     fn clone(&self) -> Result<Seq<T>, AllocError> {

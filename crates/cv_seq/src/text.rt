@@ -42,8 +42,6 @@ impl Text {
 /// A copy is one more owner of the same bytes. It takes no memory, and fails only if the count of owners is at its
 /// last value.
 impl Clone for Text {
-    ghost use Rattle.std.specs.Prelude.{◌≡◌};
-
     ghost is_clone = { λ x y. y ≡ x };
 
     fn clone(&self) -> Result<Text, AllocError> {

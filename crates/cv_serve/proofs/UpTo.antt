@@ -5,6 +5,7 @@ use Rattle.std.specs.List.{AllByRecursion}
 use Rattle.std.proofs.Common.{ap, append_assoc, append-nil, arith, inl, inr, length-append, length-take-le, subst, sym, take-append-drop, ◌∙◌}
 use Rattle.std.proofs.KnownBytes.{Consumes-nil}
 use Rattle.std.proofs.lemmas.Bool.{false≢true}
+use Rattle.cv_base.proofs.AllItems.{all_more}
 use Rattle.cv_io.specs.Lines.{Finished, HasNoLineEnd, LF, LongInput, LongLine, Stop, reading_of}
 use Rattle.cv_io.specs.Reader.{Reader, Step}
 use Rattle.cv_io.specs.declared.line.Line.{Line}
@@ -14,6 +15,7 @@ use Rattle.cv_io.specs.declared.line.LineError.TheVariants as line
 use Rattle.cv_io.proofs.Lines.{reading_of-last, reading_of-line, reading_of-long_input, reading_of-long_line, reading_of-nil}
 use Rattle.cv_io.proofs.Takes.{Consumes-more}
 use Rattle.cv_scan_input.specs.Unrefused.{IsPiece, ended_lines}
+use Rattle.cv_scan_input.proofs.Accepted.{ended_snoc}
 use Rattle.cv_serve.specs.code.Ends.{end_of}
 use Rattle.cv_serve.specs.Served.{IsTakenUpTo, TakesUpTo}
 use Rattle.cv_serve.specs.code.Reading.{AreTaken, IsTakenLines}
@@ -24,16 +26,6 @@ use Rattle.cv_serve.specs.declared.end.Stop.TheVariants as stop
 
 one_line : (piece rest more : List ℕ) → ((piece ++ LF ∷ []) ++ rest) ++ more ≡ piece ++ LF ∷ (rest ++ more)
 one_line piece rest more = append_assoc (piece ++ LF ∷ []) rest more ∙ append_assoc piece (LF ∷ []) (rest ++ more)
-
-ended_more : (pieces : List (List ℕ)) (piece rest : List ℕ) → ended_lines (pieces ++ piece ∷ []) ++ rest ≡ ended_lines pieces ++ (piece ++ LF ∷ rest)
-ended_more [] piece rest = one_line piece [] rest
-ended_more (first ∷ pieces) piece rest =
-    one_line first (ended_lines (pieces ++ piece ∷ [])) rest ∙ ap (λ v. first ++ LF ∷ v) (ended_more pieces piece rest)
-    ∙ sym (one_line first (ended_lines pieces) (piece ++ LF ∷ rest))
-
-all_more : (pieces : List (List ℕ)) (piece : List ℕ) → AllByRecursion IsPiece pieces → IsPiece piece → AllByRecursion IsPiece (pieces ++ piece ∷ [])
-all_more [] piece h k = (k, tt)
-all_more (first ∷ pieces) piece h k = (h.0, all_more pieces piece h.1 k)
 
 -- the lines stop as those of the rest do
 stop_after : (pieces : List (List ℕ)) (room : ℕ) (rest : List ℕ) → AllByRecursion IsPiece pieces
@@ -85,10 +77,10 @@ module _ (before now : Reader) (first l m : Option (List ℕ)) (limit : now.max_
   one_given text (inl h) s =
       elim s.answers.rest [
         | inl e ↦
-            let join = joined h s.bytes s.takes.more s.takes.joined ∙ ap (λ v. ended_lines h.pieces ++ v) e ∙ sym (ended_more h.pieces s.answers.piece now.held) in
+            let join = joined h s.bytes s.takes.more s.takes.joined ∙ ap (λ v. ended_lines h.pieces ++ v) e ∙ sym (ended_snoc h.pieces s.answers.piece now.held) in
             inl (record {
               pieces = h.pieces ++ s.answers.piece ∷ [];
-              lines = all_more h.pieces s.answers.piece h.lines (record { whole = s.answers.whole; short = omega (arith, s.answers.short, limit) });
+              lines = all_more IsPiece h.pieces s.answers.piece h.lines (record { whole = s.answers.whole; short = omega (arith, s.answers.short, limit) });
               front = subst (λ v. Consumes first m v) join (Consumes-more first l m (ended_lines h.pieces ++ before.held) s.takes.more h.front s.takes.consumed);
               counted = omega (arith, s.takes.counted, h.counted, ap length join, length-append (ended_lines h.pieces ++ before.held) s.takes.more);
             })

@@ -1,5 +1,6 @@
 ghost use Rattle.std.specs.Prelude.{◌≡◌};
 ghost use Rattle.cv_serve.specs.code.Ends.{end_of, input_end};
+ghost use Rattle.cv_serve.specs.declared.end.Stop.TheVariants as stop;
 
 use cv_io::{LineError, WriteError};
 use cv_seq::NoMemory;
@@ -58,9 +59,6 @@ fn input_end(error: LineError) -> ServeEnd
 }
 
 impl From<LineError> for Stop {
-    ghost use Rattle.std.specs.Prelude.{◌≡◌};
-    ghost use Rattle.cv_serve.specs.declared.end.Stop.TheVariants as stop;
-
     ghost from_gives = { λ error e. e ≡ stop.Input error };
 
     fn from(error: LineError) -> Stop {
@@ -69,9 +67,6 @@ impl From<LineError> for Stop {
 }
 
 impl From<WriteError> for Stop {
-    ghost use Rattle.std.specs.Prelude.{◌≡◌};
-    ghost use Rattle.cv_serve.specs.declared.end.Stop.TheVariants as stop;
-
     ghost from_gives = { λ error e. e ≡ stop.Output error };
 
     fn from(error: WriteError) -> Stop {
@@ -80,9 +75,6 @@ impl From<WriteError> for Stop {
 }
 
 impl From<NoMemory> for Stop {
-    ghost use Rattle.std.specs.Prelude.{◌≡◌};
-    ghost use Rattle.cv_serve.specs.declared.end.Stop.TheVariants as stop;
-
     ghost from_gives = { λ _ e. e ≡ stop.NoMemory };
 
     fn from(_error: NoMemory) -> Stop {

@@ -54,10 +54,10 @@ ascends_onto : (k : ℕ) (t : List ℕ) (bs : List (List Line)) → Ascends (k +
 ascends_onto k t [] h = (t ∷ [], k + 1, refl, omega arith, tt)
 ascends_onto k t (b ∷ bs) h = (t ∷ h.0, h.1, ap (λ q. record { number = k; text = t } ∷ q) h.2, omega (arith, h.3), h.4)
 
-ascends : (k : ℕ) (ts : List (List ℕ)) → Ascends k (slice_split is_gap (numbered k ts))
-ascends k [] = ([], k, refl, omega arith, tt)
-ascends k ([] ∷ ts) = ([], k + 1, refl, omega arith, ascends (k + 1) ts)
-ascends k ((x ∷ xs) ∷ ts) = ascends_onto k (x ∷ xs) (slice_split is_gap (numbered (k + 1) ts)) (ascends (k + 1) ts)
+blocks_ascend : (k : ℕ) (ts : List (List ℕ)) → Ascends k (slice_split is_gap (numbered k ts))
+blocks_ascend k [] = ([], k, refl, omega arith, tt)
+blocks_ascend k ([] ∷ ts) = ([], k + 1, refl, omega arith, blocks_ascend (k + 1) ts)
+blocks_ascend k ((x ∷ xs) ∷ ts) = ascends_onto k (x ∷ xs) (slice_split is_gap (numbered (k + 1) ts)) (blocks_ascend (k + 1) ts)
 
 from_blocks : {A : Type 0} (rules : BlockRules A) (k : ℕ) (bs : List (List Line)) → Ascends k bs → From k (flat_map (faults rules) bs)
 from_blocks rules k [] h = tt
@@ -81,7 +81,7 @@ first_of k (g ∷ fs) x f h e = let same : g.line ≡ f.line = ap err_line e in 
 
 first_by : {A : Type 0} (rules : BlockRules A) (lines : List (List ℕ)) (o : Option FileBad) → IfSome o (λ f. read_blocks rules lines ≡ Err f) → IfSome o (IsFirstBad rules lines)
 first_by rules lines None h = tt
-first_by rules lines (Some f) h = first_of 1 (all_faults rules lines) _ f (from_blocks rules 1 (slice_split is_gap (numbered 1 lines)) (ascends 1 lines)) h
+first_by rules lines (Some f) h = first_of 1 (all_faults rules lines) _ f (from_blocks rules 1 (slice_split is_gap (numbered 1 lines)) (blocks_ascend 1 lines)) h
 
 -- the fault that is answered is the first one
 pub is_first : {A X : Type 0} (rules : BlockRules A) (lines : List (List ℕ)) (view : X → List A) (r : Result X ReadBad) → Yields read_fault view r (read_blocks rules lines)

@@ -2,6 +2,7 @@ ghost use Rattle.std.specs.Prelude.{◌≡◌};
 ghost use Rattle.std.specs.Option.{option_map};
 ghost use Rattle.cv_base.specs.Reading.{read_fault};
 ghost use Rattle.cv_stanza.specs.code.Steps.{line_fault};
+ghost use Rattle.cv_stanza.specs.declared.line_error.LineError.TheVariants as error;
 
 use cv_base::{ReadBad, What};
 use cv_seq::NoMemory;
@@ -29,9 +30,6 @@ impl LineError {
 }
 
 impl From<NoMemory> for LineError {
-    ghost use Rattle.std.specs.Prelude.{◌≡◌};
-    ghost use Rattle.cv_stanza.specs.declared.line_error.LineError.TheVariants as error;
-
     ghost from_gives = { λ _ e. e ≡ error.NoMemory };
 
     fn from(_error: NoMemory) -> LineError {
@@ -40,9 +38,6 @@ impl From<NoMemory> for LineError {
 }
 
 impl From<What> for LineError {
-    ghost use Rattle.std.specs.Prelude.{◌≡◌};
-    ghost use Rattle.cv_stanza.specs.declared.line_error.LineError.TheVariants as error;
-
     ghost from_gives = { λ what e. e ≡ error.Bad what };
 
     fn from(what: What) -> LineError {

@@ -19,15 +19,15 @@ joined s h c r = record {
   feeds = r.feeds;
   notifications = c.notifications;
   numbers = c.numbers;
-  few_images = r.few_images;
-  few_feeds = r.few_feeds;
+  images_within_limit = r.images_within_limit;
+  feeds_within_limit = r.feeds_within_limit;
   table = r.table;
 }
 
 pub regular_updated : (h inventory : Holdings) (ns notices : Notifications) (generation count : ℕ) (rows : List Row) → IsRegular (core_of h ns generation count)
     → IsRegularPart inventory → notices ≡ notified ns (generation + 1) rows → IsRegular (core_of inventory notices (generation + 1) (count + 1))
 regular_updated h inventory ns notices generation count rows k r b = rw b record {
-  consistent = updated_consistent (core_of inventory ns generation count).state inventory.feeds rows (joined (core_of h ns generation count).state inventory k.consistent r) r.feeds r.few_feeds;
+  consistent = updated_consistent (core_of inventory ns generation count).state inventory.feeds rows (joined (core_of h ns generation count).state inventory k.consistent r) r.feeds r.feeds_within_limit;
   generations = let low : generation ≤ count = k.generations in omega (arith, low);
 }
 

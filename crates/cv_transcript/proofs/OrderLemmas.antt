@@ -2,16 +2,12 @@
 use Rattle.std.specs.Prelude.{◌≡◌, Bool, true, false, cond, List, [], ◌∷◌, filter, map, refl}
 use Rattle.std.specs.List.{AllByRecursion}
 use Rattle.std.proofs.Common.{ap, arith, inl, subst, sym, ◌∙◌}
+use Rattle.cv_base.proofs.AllItems.{all_kept}
 use Rattle.cv_records.specs.declared.event.EventEntry.{EventEntry}
 use Rattle.cv_records.specs.declared.read.ReadEntry.{ReadEntry}
 use Rattle.cv_transcript.specs.declared.entry.Entry.{Entry}
 use Rattle.cv_transcript.specs.declared.entry.Entry.TheVariants as entry
 use Rattle.cv_transcript.specs.Order.{AreAscending, Precedes, events_of, reads_of}
-
--- what holds of all items, and so something weaker
-pub all_weaker : {X : Type 0} (P Q : X → Type 0) (xs : List X) → ((x : X) → P x → Q x) → AllByRecursion P xs → AllByRecursion Q xs
-all_weaker P Q [] f h = tt
-all_weaker P Q (x ∷ xs) f h = (f x h.0, all_weaker P Q xs f h.1)
 
 pub Precedes-trans : (a b c : Entry) → Precedes a b → Precedes b c → Precedes a c
 Precedes-trans (entry.Refused line error) b c h k = absurd h
@@ -33,7 +29,7 @@ Precedes-trans (entry.Read a) (entry.Read b) (entry.Read c) h k = grind arith
 -- ---- events and reads in order
 
 -- what holds of all entries holds of the first event
-event_head : (P : Entry → Type 0) (event : EventEntry) (events : List EventEntry) (es : List Entry) → AllByRecursion P es → events_of es ≡ event ∷ events → P (entry.Event event)
+pub event_head : (P : Entry → Type 0) (event : EventEntry) (events : List EventEntry) (es : List Entry) → AllByRecursion P es → events_of es ≡ event ∷ events → P (entry.Event event)
 event_head P event events [] h is = absurd (cc is)
 event_head P event events (entry.Refused line error ∷ es) h is = event_head P event events es h.1 is
 event_head P event events (entry.Event first ∷ es) h is = let same : first ≡ event = cc is in subst (λ e. P (entry.Event e)) same h.0
@@ -105,13 +101,6 @@ reads_ascend [] h = tt
 reads_ascend (entry.Refused line error ∷ es) h = absurd h.0
 reads_ascend (entry.Event event ∷ es) h = reads_ascend es h.2
 reads_ascend (entry.Read read ∷ es) h = (tt, all_reads (Precedes (entry.Read read)) es h.1, reads_ascend es h.2)
-
-all_kept : (P : Entry → Type 0) (p : Entry → Bool) (es : List Entry) → AllByRecursion P es → AllByRecursion P (filter p es)
-all_kept P p [] h = tt
-all_kept P p (e ∷ es) h = by_test (p e) (all_kept P p es h.1) where
-  by_test : (b : Bool) → AllByRecursion P (filter p es) → AllByRecursion P (cond b (e ∷ filter p es) (filter p es))
-  by_test true rest = (h.0, rest)
-  by_test false rest = rest
 
 -- some of the entries in order
 pub filter_ascends : (p : Entry → Bool) (es : List Entry) → AreAscending es → AreAscending (filter p es)

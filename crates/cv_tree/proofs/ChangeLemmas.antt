@@ -8,8 +8,9 @@ use Rattle.std.specs.Ordering.{is_eq, match_ordering}
 use Rattle.std.specs.declared.cmp.Ordering.{Ordering}
 use Rattle.std.specs.declared.cmp.Ordering.TheVariants.{Less, Equal, Greater}
 use Rattle.std.proofs.Common.{ap, sym, ◌∙◌}
+use Rattle.cv_seq.proofs.Orders.{turned, equal_of}
 use Rattle.cv_tree.specs.Entries.{IsAscending, at, with_entry, without_key}
-use Rattle.cv_tree.proofs.EntryLemmas.{at_none, below_all, same_below, turned}
+use Rattle.cv_tree.proofs.EntryLemmas.{at_none, below_all, same_below}
 
 -- The keys.
 
@@ -51,14 +52,9 @@ without_ascending cmp (x ∷ xs) k h = by_test (is_eq (cmp k x.0)) (without_asce
 
 -- The values.
 
-is_equal : (r : Ordering) → is_eq r ≡ true → r ≡ Equal
-is_equal Less h = cc
-is_equal Equal h = refl
-is_equal Greater h = cc
-
 -- of two keys in order, at most one is a third
 apart : {K : Type 0} {cmp : K → K → Ordering} → IsTotalOrder cmp → (k x q : K) → cmp k x ≡ Greater → is_eq (cmp q x) ≡ true → is_eq (cmp q k) ≡ false
-apart {K} {cmp} o k x q h e = ap is_eq (o.congr q x k (is_equal (cmp q x) e) ∙ turned o k x h)
+apart {K} {cmp} o k x q h e = ap is_eq (o.congr q x k (equal_of (cmp q x) e) ∙ turned o k x h)
 
 swapped : {V : Type 0} (a b : Bool) (u v w : Option V) → (b ≡ true → a ≡ false) → cond b u (cond a v w) ≡ cond a v (cond b u w)
 swapped true true u v w h = cc (h refl)
@@ -87,7 +83,7 @@ either_way : {V : Type 0} (b : Bool) (w : Option V) → cond b w w ≡ w
 either_way true w = refl
 either_way false w = refl
 
--- the entry at the key goes: nothing is left there
+-- the entry at the key goes: nothing remains there
 gone : {V : Type 0} (a b : Bool) (u w : Option V) → b ≡ a → (b ≡ true → w ≡ None) → w ≡ cond a None (cond b u w)
 gone true true u w h n = n refl
 gone true false u w h n = cc
@@ -99,7 +95,7 @@ not_both : {K : Type 0} {cmp : K → K → Ordering} → IsTotalOrder cmp → (k
 not_both {K} {cmp} o k x q h e = by_test (is_eq (cmp q k)) refl where
   by_test : (b : Bool) → is_eq (cmp q k) ≡ b → is_eq (cmp q k) ≡ false
   by_test false g = g
-  by_test true g = cc (ap is_eq (o.congr k q x (tied_back o q k (is_equal (cmp q k) g))))
+  by_test true g = cc (ap is_eq (o.congr k q x (tied_back o q k (equal_of (cmp q k) g))))
 
 pub at_without : {K V : Type 0} {cmp : K → K → Ordering} → IsTotalOrder cmp → (es : List (K × V)) (k q : K) → IsAscending cmp es
     → at cmp (without_key cmp es k) q ≡ cond (is_eq (cmp q k)) None (at cmp es q)
@@ -109,8 +105,8 @@ at_without {K} {V} {cmp} o (x ∷ xs) k q h = by_test (is_eq (cmp k x.0)) refl (
   by_test : (b : Bool) → is_eq (cmp k x.0) ≡ b → at cmp (without_key cmp xs k) q ≡ cond (is_eq (cmp q k)) None (at cmp xs q)
       → at cmp (cond b xs (x ∷ without_key cmp xs k)) q ≡ cond (is_eq (cmp q k)) None (at cmp (x ∷ xs) q)
   by_test true e rest =
-      gone (is_eq (cmp q k)) (is_eq (cmp q x.0)) (Some x.1) (at cmp xs q) (ap is_eq (sym (alike_right o k x.0 q (is_equal (cmp k x.0) e))))
-      (λ g. at_none cmp q xs (same_below o q x xs (is_equal (cmp q x.0) g) h))
+      gone (is_eq (cmp q k)) (is_eq (cmp q x.0)) (Some x.1) (at cmp xs q) (ap is_eq (sym (alike_right o k x.0 q (equal_of (cmp k x.0) e))))
+      (λ g. at_none cmp q xs (same_below o q x xs (equal_of (cmp q x.0) g) h))
   by_test false e rest =
       ap (cond (is_eq (cmp q x.0)) (Some x.1)) rest
       ∙ swapped (is_eq (cmp q k)) (is_eq (cmp q x.0)) (Some x.1) None (at cmp xs q) (not_both o k x.0 q e)

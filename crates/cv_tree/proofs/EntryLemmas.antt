@@ -9,13 +9,10 @@ use Rattle.std.specs.Ordering.{is_eq, match_ordering, ordering_reverse}
 use Rattle.std.specs.declared.cmp.Ordering.{Ordering}
 use Rattle.std.specs.declared.cmp.Ordering.TheVariants.{Less, Equal, Greater}
 use Rattle.std.proofs.Common.{ap, ◌∙◌}
+use Rattle.cv_seq.proofs.Orders.{turned}
 use Rattle.cv_tree.specs.Entries.{IsAscending, at, with_entry, without_key}
 
 -- The order.
-
--- two keys that differ, the other way round
-pub turned : {K : Type 0} {cmp : K → K → Ordering} → IsTotalOrder cmp → (p q : K) → cmp p q ≡ Greater → cmp q p ≡ Less
-turned o p q h = o.antisymm q p ∙ ap ordering_reverse h
 
 pub returned : {K : Type 0} {cmp : K → K → Ordering} → IsTotalOrder cmp → (p q : K) → cmp p q ≡ Less → cmp q p ≡ Greater
 returned o p q h = o.antisymm q p ∙ ap ordering_reverse h

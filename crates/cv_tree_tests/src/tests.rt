@@ -8,8 +8,7 @@ fn is_shared<T: Send + Sync>() {}
 
 #[test]
 fn trees_are_shared_by_threads() {
-    is_shared::<Shared<Text>>();
-    is_shared::<Tree<u64, Shared<Text>>>();
+    is_shared::<(Shared<Text>, Tree<u64, Shared<Text>>)>();
     is_shared::<Tree<Digest, Tree<Digest, ()>>>();
 }
 

@@ -1,9 +1,9 @@
 -- What a worker does, job after job.
 use Rattle.std.proofs.Common.{◌≡◌, ℕ, ◌+◌, ◌-◌, ◌^◌, ◌<◌, ◌≤◌, Bool, true, false, List, [], ◌∷◌, ◌++◌, filter, length, map, None, Some, Option, refl, ap, sym, subst, ◌∙◌, arith, length-append}
-use Rattle.std.specs.List.{AllByRecursion}
 use Rattle.std.specs.Prelude.{get_or, OnOk, Result, Ok, Err}
 use Rattle.std.proofs.lemmas.List.{get_or_default, map-append}
 use Rattle.std.proofs.lemmas.List.Elements.{filter-append, filter_map-append}
+use Rattle.cv_base.proofs.AllItems.{all_both}
 use Rattle.cv_records.specs.declared.event.Act.TheVariants as name
 use Rattle.cv_records.specs.declared.event.By.{By}
 use Rattle.cv_records.specs.declared.event.EventEntry.{EventEntry}
@@ -15,6 +15,7 @@ use Rattle.cv_machine.specs.declared.act.WholeAct.TheVariants as whole
 use Rattle.cv_machine.specs.declared.limits.Limits.{Limits}
 use Rattle.cv_legal.specs.Parts.{claim_in, claims_of, is_grant}
 use Rattle.cv_legal.specs.Turns.{Works, work_after}
+use Rattle.cv_legal.proofs.Segments.{works_both}
 use Rattle.cv_pool.specs.Hands.{Fill, HandState, IsSameHand, hand_after}
 use Rattle.cv_lanes.specs.Events.{DeskTrees}
 use Rattle.cv_lanes.specs.Seats.{IsApplied, SeatView, one_if}
@@ -23,12 +24,6 @@ use Rattle.cv_lanes.proofs.Prefixes.{prefix_length}
 use Rattle.cv_lanes.proofs.OwnLemmas.{made_longer, made_none, made_then}
 use Rattle.cv_workers.specs.Counts.{RoseBy, fault_count, grant_count, is_fault}
 use Rattle.cv_workers.specs.code.Worker.{Claimed, EndsWork, IsByWorker, IsHandPrepared, Settled, WorkerDid, claim_at, fault_of, layers_of}
-
--- ---- lists
-
-all_both : {X : Type 0} (P : X → Type 0) (xs ys : List X) → AllByRecursion P xs → AllByRecursion P ys → AllByRecursion P (xs ++ ys)
-all_both P [] ys h k = k
-all_both P (x ∷ xs) ys h k = (h.0, all_both P xs ys h.1 k)
 
 -- ---- counts
 
@@ -46,15 +41,11 @@ grants_both : (xs ys : List EventEntry) → grant_count (xs ++ ys) ≡ grant_cou
 grants_both xs ys = ap length (filter-append (λ (event : EventEntry). is_grant event.act event.reply) xs ys)
     ∙ length-append (filter (λ (event : EventEntry). is_grant event.act event.reply) xs) (filter (λ (event : EventEntry). is_grant event.act event.reply) ys)
 
-faults_both : (xs ys : List EventEntry) → fault_count (xs ++ ys) ≡ fault_count xs + fault_count ys
+pub faults_both : (xs ys : List EventEntry) → fault_count (xs ++ ys) ≡ fault_count xs + fault_count ys
 faults_both xs ys = ap length (filter-append (λ (event : EventEntry). is_fault event.act) xs ys)
     ∙ length-append (filter (λ (event : EventEntry). is_fault event.act) xs) (filter (λ (event : EventEntry). is_fault event.act) ys)
 
 -- ---- work
-
-works_both : (a b c : Option (List ℕ)) (xs ys : List EventEntry) → Works a xs b → Works b ys c → Works a (xs ++ ys) c
-works_both a b c [] ys first second = subst (λ at. Works at ys c) first second
-works_both a b c (x ∷ xs) ys first second = (first.0, works_both (work_after x.act x.reply) b c xs ys first.1 second)
 
 -- nothing yet
 pub did_none : (worker : ℕ) (seat : SeatView) (listings faults : ℕ) → WorkerDid worker [] seat listings faults seat listings faults

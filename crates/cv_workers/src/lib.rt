@@ -1,5 +1,5 @@
 //! The workers of a round: each takes jobs with its hand, claims the layer of each at its seat of the hub, and if the claim is granted,
-//! indexes the layer from its desk and says what became of it. It re-exports what the crates above take of `cv_lanes`.
+//! indexes the layer from its desk and says what became of it. It re-exports what the crates above use of `cv_lanes`.
 //!
 //! ```text
 //! WorkerCrew { rt, alloc, hub, queue }.run(worker, hand, seat, desk)?;

@@ -23,10 +23,15 @@ use std::thread::Threads;
 const DESKS: usize = 8;
 
 fn main(rt: HostRuntime) -> ExitCode {
-    Status::exit_code_of(start(&rt, &rt))
+    let ended = start(&rt, &rt);
+    if ended.is_err() {
+        say(&rt, "out of memory");
+    }
+    Status::exit_code_of(ended)
 }
 
-/// Runs the arguments of the command line over real folders and the standard streams. Threads are started by a handle of their own.
+/// Runs the arguments of the command line over real folders and the standard streams; fails only if memory runs out before a
+/// command is started. Threads are started by a handle of their own.
 fn start<W: Threads + Wait + Sync>(rt: &HostRuntime, threads: &W) -> io::Result<Status> {
     let arguments = arguments_of(rt)?;
     let mut desks = make_desks(rt)?;

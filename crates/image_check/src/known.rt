@@ -1,7 +1,7 @@
 use crate::compare::{Compared, compare};
 use crate::contents::{DEBIAN, FIXED, MODULE_X, MODULE_Y, OPENSSL, ZLIB};
 use cv_base::{Advisory, Digest, Kind, NoMemory};
-use cv_desk::TableEntry;
+use cv_desk::{TableEntry, entry};
 use sample_data::{SampleDesk, SampleLayer};
 use std::alloc::Global;
 
@@ -51,23 +51,6 @@ fn layer(letter: u8) -> &'static [TableEntry] {
         b'4' => &FOLDER_FOR_FILE,
         _ => &ALL_OPAQUE,
     }
-}
-
-/// A folder, or a file with its bytes, or an entry of another kind.
-macro_rules! entry {
-    ($path:literal) => {
-        entry!($path, Dir, b"")
-    };
-    ($path:literal, $bytes:expr) => {
-        entry!($path, File, $bytes)
-    };
-    ($path:literal, $kind:ident, $bytes:expr) => {
-        TableEntry {
-            path: $path,
-            kind: Kind::$kind,
-            bytes: $bytes,
-        }
-    };
 }
 
 /// A Debian system with a package.

@@ -318,7 +318,7 @@ impl Machine {
     /// All rows of the notification of a number, as they stand on one page.
     pub fn show_page(&self, out: &mut Lines, number: u64) {
         if !self.has_notification(number) {
-            return out.word(" | no notification");
+            return out.word(" | no_notification");
         }
         out.word(" | pages: 1");
         for row in &self.rows {

@@ -1,36 +1,16 @@
 use cv_base::{Digest, Kind, NoMemory};
-use cv_desk::TableEntry;
+use cv_desk::{TableEntry, entry};
 use sample_data::SampleLayer;
 use std::alloc::Global;
 
-macro_rules! folder {
-    ($path:expr) => {
-        TableEntry {
-            path: $path,
-            kind: Kind::Dir,
-            bytes: b"",
-        }
-    };
-}
-
-macro_rules! file {
-    ($path:expr, $bytes:expr) => {
-        TableEntry {
-            path: $path,
-            kind: Kind::File,
-            bytes: $bytes,
-        }
-    };
-}
-
 /// A Debian system with two packages.
 static DEBIAN: [TableEntry; 6] = [
-    folder!("etc"),
-    file!("etc/os-release", b"ID=debian\nVERSION_ID=12\n"),
-    folder!("var"),
-    folder!("var/lib"),
-    folder!("var/lib/dpkg"),
-    file!(
+    entry!("etc"),
+    entry!("etc/os-release", b"ID=debian\nVERSION_ID=12\n"),
+    entry!("var"),
+    entry!("var/lib"),
+    entry!("var/lib/dpkg"),
+    entry!(
         "var/lib/dpkg/status",
         b"Package: curl\nStatus: install ok installed\nArchitecture: amd64\nVersion: 7.88\n\nPackage: zlib1g\nStatus: install ok installed\nArchitecture: amd64\nSource: zlib\nVersion: 1:1.2\n"
     ),
@@ -38,10 +18,10 @@ static DEBIAN: [TableEntry; 6] = [
 
 /// The packages of the system in other versions.
 static UPGRADE: [TableEntry; 4] = [
-    folder!("var"),
-    folder!("var/lib"),
-    folder!("var/lib/dpkg"),
-    file!(
+    entry!("var"),
+    entry!("var/lib"),
+    entry!("var/lib/dpkg"),
+    entry!(
         "var/lib/dpkg/status",
         b"Package: curl\nStatus: install ok installed\nArchitecture: amd64\nVersion: 8.5\n\nPackage: zlib1g\nStatus: install ok installed\nArchitecture: amd64\nSource: zlib\nVersion: 1:1.3\n"
     ),
@@ -49,15 +29,15 @@ static UPGRADE: [TableEntry; 4] = [
 
 /// Two npm packages.
 static MODULES: [TableEntry; 6] = [
-    folder!("app"),
-    folder!("app/node_modules"),
-    folder!("app/node_modules/x"),
-    file!(
+    entry!("app"),
+    entry!("app/node_modules"),
+    entry!("app/node_modules/x"),
+    entry!(
         "app/node_modules/x/package.json",
         b"{\"name\":\"x\",\"version\":\"1.0.0\"}"
     ),
-    folder!("app/node_modules/y"),
-    file!(
+    entry!("app/node_modules/y"),
+    entry!(
         "app/node_modules/y/package.json",
         b"{\"name\":\"y\",\"version\":\"2.0.0\"}"
     ),
@@ -65,27 +45,27 @@ static MODULES: [TableEntry; 6] = [
 
 /// Hides the status file and one of the npm packages of the layers below.
 static WHITEOUTS: [TableEntry; 6] = [
-    folder!("app"),
-    folder!("app/node_modules"),
-    file!("app/node_modules/.wh.x", b""),
-    folder!("var"),
-    folder!("var/lib"),
-    file!("var/lib/.wh.dpkg", b""),
+    entry!("app"),
+    entry!("app/node_modules"),
+    entry!("app/node_modules/.wh.x", b""),
+    entry!("var"),
+    entry!("var/lib"),
+    entry!("var/lib/.wh.dpkg", b""),
 ];
 
 /// A status file whose line 3 has no colon.
 static BAD_STATUS: [TableEntry; 4] = [
-    folder!("var"),
-    folder!("var/lib"),
-    folder!("var/lib/dpkg"),
-    file!(
+    entry!("var"),
+    entry!("var/lib"),
+    entry!("var/lib/dpkg"),
+    entry!(
         "var/lib/dpkg/status",
         b"Package: curl\nStatus: install ok installed\nnocolon\n"
     ),
 ];
 
 /// A file whose folder is no entry.
-static BAD_TREE: [TableEntry; 2] = [folder!("etc"), file!("var/lib/dpkg", b"")];
+static BAD_TREE: [TableEntry; 2] = [entry!("etc"), entry!("var/lib/dpkg", b"")];
 
 /// The digest of 32 bytes that are all this letter.
 pub fn digest(letter: u8) -> Digest {

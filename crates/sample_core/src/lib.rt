@@ -3,7 +3,7 @@
 //!
 //! ```text
 //! restart(alloc, &mut core, limits)?;
-//! let word = report_step(alloc, &mut core, Step::DropImage(b'A'), &mut lines);
+//! let name = report_step(alloc, &mut core, Step::DropImage(b'A'), &mut lines);
 //! ```
 #![tactic(auto)]
 

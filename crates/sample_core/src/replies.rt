@@ -13,9 +13,9 @@ pub fn report_step(
     out: &mut Lines,
 ) -> &'static str {
     out.word(" -> ");
-    let word = write_reply(alloc, core, step, out);
+    let name = write_reply(alloc, core, step, out);
     show_state(alloc, out, core);
-    word
+    name
 }
 
 /// Applies an event, and writes the reply.

@@ -108,12 +108,12 @@ fn show_bad_file(out: &mut Lines, image: u8, path: &str, line: u64) {
 /// A page of a notification.
 pub fn show_page(out: &mut Lines, notices: &Notices, number: u64, size: u64, page: u64) {
     if size < 1 || page < 1 {
-        return out.word(" | no such page");
+        return out.word(" | no_page");
     }
     match notices.page(number, size, page) {
         Ok(shown) => show_rows(out, shown.pages, shown.rows),
-        Err(PageError::NoNotification) => out.word(" | no notification"),
-        Err(PageError::NoPage { pages }) => out.number(" | no such page, pages: ", pages),
+        Err(PageError::NoNotification) => out.word(" | no_notification"),
+        Err(PageError::NoPage { pages }) => out.number(" | no_page, pages: ", pages),
     }
 }
 

@@ -1,7 +1,7 @@
 ghost use Rattle.std.specs.Prelude.{◌≡◌, IfOk};
 
 use cv_base::{Digest, Kind, ListEntry, NoMemory, PathError, RelPath, Seq};
-use cv_desk::{Desk, DeskFault, FileRead, TableEntry};
+use cv_desk::{Desk, DeskFault, FileRead, ReadResult, TableEntry};
 use std::alloc::Global;
 
 /// An entry of a layer. The bytes are those of a file.
@@ -77,6 +77,8 @@ impl Desk for SampleDesk {
 
     ghost distinct = { λ _. tt };
 
+    ghost paths = { λ _. tt };
+
     ghost listings = { λ s. s.listings };
 
     ghost reads = { λ s. s.reads };
@@ -93,13 +95,7 @@ impl Desk for SampleDesk {
         Ok(Some(Seq::of(listing)))
     }
 
-    fn read(
-        &mut self,
-        alloc: Global,
-        layer: &Digest,
-        path: &RelPath,
-        limit: u32,
-    ) -> Result<FileRead, DeskFault> {
+    fn read(&mut self, alloc: Global, layer: &Digest, path: &RelPath, limit: u32) -> ReadResult {
         self.reads = self.reads.saturating_add(1);
         match self.file(layer, path.text()) {
             None => Ok(FileRead::NotFile),

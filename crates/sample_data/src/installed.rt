@@ -1,6 +1,6 @@
 ghost use Rattle.std.specs.Prelude.{◌≡◌, IfOk};
 
-use cv_base::{NoMemory, Package, PackageKind, RelPath, Text};
+use cv_base::{NoMemory, Package, PackageKind, PathError, RelPath, Text};
 use std::alloc::Global;
 
 /// A package that is installed. Its source package has the same version.
@@ -30,4 +30,17 @@ pub fn package(alloc: Global, installed: &Installed<'_>, path: RelPath) -> Resul
         arch: Text::of(alloc, "amd64")?,
         ecosystem: Text::of(alloc, installed.ecosystem)?,
     })
+}
+
+/// Version 1 of a package of Debian 12, which is its own source.
+pub fn debian_package(alloc: Global, name: &str) -> Result<Package, PathError> {
+    let installed = Installed {
+        kind: PackageKind::Deb,
+        ecosystem: "Debian:12",
+        name,
+        source: name,
+        version: "1",
+    };
+    let path = RelPath::read(alloc, "var/lib/dpkg/status")?;
+    Ok(package(alloc, &installed, path)?)
 }

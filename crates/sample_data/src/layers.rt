@@ -4,7 +4,7 @@ use crate::desk::{SampleDesk, SampleEntry, SampleLayer};
 use crate::facts::facts_of;
 use crate::images::{LAYERS, number_of};
 use cv_base::{Digest, Kind, NoMemory};
-use cv_desk::TableEntry;
+use cv_desk::{TableEntry, entry};
 use cv_facts::LayerFacts;
 use std::alloc::Global;
 
@@ -17,28 +17,14 @@ const PACKAGES: u64 = 100;
 /// How far the names of packages move from one image to the next.
 const STEP: u64 = 37;
 
-macro_rules! entry {
-    ($path:literal, $kind:ident, $bytes:literal) => {
-        TableEntry {
-            path: $path,
-            kind: Kind::$kind,
-            bytes: $bytes,
-        }
-    };
-}
-
 /// What all layers have.
 static SYSTEM: [TableEntry; 6] = [
-    entry!("usr", Dir, b""),
-    entry!("usr/lib", Dir, b""),
-    entry!(
-        "usr/lib/os-release",
-        File,
-        b"ID=debian\nVERSION_ID=\"12\"\n"
-    ),
-    entry!("var", Dir, b""),
-    entry!("var/lib", Dir, b""),
-    entry!("var/lib/dpkg", Dir, b""),
+    entry!("usr"),
+    entry!("usr/lib"),
+    entry!("usr/lib/os-release", b"ID=debian\nVERSION_ID=\"12\"\n"),
+    entry!("var"),
+    entry!("var/lib"),
+    entry!("var/lib/dpkg"),
 ];
 
 /// The facts of the layer of an image: an os-release, and a dpkg status file of a hundred packages.

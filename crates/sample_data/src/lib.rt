@@ -26,6 +26,6 @@ pub use facts::{facts_of, facts_of_rows};
 pub use feed::FeedRecords;
 pub use flaw::{Flaw, advisory};
 pub use images::{hash, last_layer, manifest, manifest_over};
-pub use installed::{Installed, package};
+pub use installed::{Installed, debian_package, package};
 pub use layers::image_facts;
 pub use lines::{finding_lines, finding_text, package_lines};

@@ -2,35 +2,21 @@ ghost use Rattle.std.specs.Prelude.{◌≡◌};
 ghost use Rattle.sample_runs.specs.Layers.{rows_by, rows_of};
 
 use cv_base::{Digest, Kind};
-use cv_desk::{Table, TableEntry};
-
-/// A folder.
-macro_rules! dir {
-    ($path:literal) => {
-        TableEntry { path: $path, kind: Kind::Dir, bytes: b"" }
-    };
-}
-
-/// A file with these bytes.
-macro_rules! file {
-    ($path:literal, $bytes:literal) => {
-        TableEntry { path: $path, kind: Kind::File, bytes: $bytes }
-    };
-}
+use cv_desk::{Table, TableEntry, entry};
 
 /// A Debian system, which has a link in place of one os-release, with this status file.
 macro_rules! debian {
     ($status:literal) => {
         [
-            dir!("etc"),
-            TableEntry { path: "etc/os-release", kind: Kind::Other, bytes: b"" },
-            dir!("usr"),
-            dir!("usr/lib"),
-            file!("usr/lib/os-release", b"ID=debian\nVERSION_ID=\"12\"\n"),
-            dir!("var"),
-            dir!("var/lib"),
-            dir!("var/lib/dpkg"),
-            file!("var/lib/dpkg/status", $status),
+            entry!("etc"),
+            entry!("etc/os-release", Other, b""),
+            entry!("usr"),
+            entry!("usr/lib"),
+            entry!("usr/lib/os-release", b"ID=debian\nVERSION_ID=\"12\"\n"),
+            entry!("var"),
+            entry!("var/lib"),
+            entry!("var/lib/dpkg"),
+            entry!("var/lib/dpkg/status", $status),
         ]
     };
 }
@@ -52,19 +38,19 @@ static SHORT: [TableEntry; 9] = debian!(
 
 /// Takes the packages of the layers below away.
 static WITHOUT: [TableEntry; 4] = [
-    dir!("var"),
-    dir!("var/lib"),
-    dir!("var/lib/dpkg"),
-    file!("var/lib/dpkg/.wh.status", b""),
+    entry!("var"),
+    entry!("var/lib"),
+    entry!("var/lib/dpkg"),
+    entry!("var/lib/dpkg/.wh.status", b""),
 ];
 
 /// Puts another package in their place.
 static OTHER: [TableEntry; 5] = [
-    dir!("var"),
-    dir!("var/lib"),
-    dir!("var/lib/dpkg"),
-    file!("var/lib/dpkg/.wh.status", b""),
-    file!(
+    entry!("var"),
+    entry!("var/lib"),
+    entry!("var/lib/dpkg"),
+    entry!("var/lib/dpkg/.wh.status", b""),
+    entry!(
         "var/lib/dpkg/status",
         b"Package: zlib1g\nStatus: install ok installed\nArchitecture: amd64\nSource: zlib\nVersion: 1:1.2.13.dfsg-1\n"
     ),
@@ -72,17 +58,17 @@ static OTHER: [TableEntry; 5] = [
 
 /// Two npm packages.
 static MODULES: [TableEntry; 8] = [
-    dir!("app"),
-    dir!("app/node_modules"),
-    dir!("app/node_modules/x"),
-    file!(
+    entry!("app"),
+    entry!("app/node_modules"),
+    entry!("app/node_modules/x"),
+    entry!(
         "app/node_modules/x/package.json",
         b"{\"name\":\"x\",\"version\":\"1.0.0\"}"
     ),
-    dir!("srv"),
-    dir!("srv/node_modules"),
-    dir!("srv/node_modules/y"),
-    file!(
+    entry!("srv"),
+    entry!("srv/node_modules"),
+    entry!("srv/node_modules/y"),
+    entry!(
         "srv/node_modules/y/package.json",
         b"{\"name\":\"y\",\"version\":\"1.0.0\"}"
     ),
@@ -90,20 +76,20 @@ static MODULES: [TableEntry; 8] = [
 
 /// Takes all that the layers below have in one folder away.
 static OPAQUE: [TableEntry; 3] = [
-    dir!("app"),
-    dir!("app/node_modules"),
-    file!("app/node_modules/.wh..wh..opq", b""),
+    entry!("app"),
+    entry!("app/node_modules"),
+    entry!("app/node_modules/.wh..wh..opq", b""),
 ];
 
 /// Puts a file in the place of a folder.
-static FILE: [TableEntry; 1] = [file!("app", b"")];
+static FILE: [TableEntry; 1] = [entry!("app", b"")];
 
 /// A status file whose line 3 has no colon.
 static BROKEN: [TableEntry; 4] = [
-    dir!("var"),
-    dir!("var/lib"),
-    dir!("var/lib/dpkg"),
-    file!(
+    entry!("var"),
+    entry!("var/lib"),
+    entry!("var/lib/dpkg"),
+    entry!(
         "var/lib/dpkg/status",
         b"Package: a\nStatus: install ok installed\nnocolon\n"
     ),
@@ -111,30 +97,30 @@ static BROKEN: [TableEntry; 4] = [
 
 /// An Alpine system.
 static ALPINE: [TableEntry; 6] = [
-    dir!("etc"),
-    file!("etc/os-release", b"ID=alpine\nVERSION_ID=3.18.4\n"),
-    dir!("lib"),
-    dir!("lib/apk"),
-    dir!("lib/apk/db"),
-    file!(
+    entry!("etc"),
+    entry!("etc/os-release", b"ID=alpine\nVERSION_ID=3.18.4\n"),
+    entry!("lib"),
+    entry!("lib/apk"),
+    entry!("lib/apk/db"),
+    entry!(
         "lib/apk/db/installed",
         b"P:libcrypto3\nV:3.1.1-r1\nA:x86_64\no:openssl\n\n"
     ),
 ];
 
 /// A mark that names nothing.
-static MARKED: [TableEntry; 1] = [file!(".wh.", b"")];
+static MARKED: [TableEntry; 1] = [entry!(".wh.", b"")];
 
 /// A folder in the place of the status file.
 static FOLDER: [TableEntry; 4] = [
-    dir!("var"),
-    dir!("var/lib"),
-    dir!("var/lib/dpkg"),
-    dir!("var/lib/dpkg/status"),
+    entry!("var"),
+    entry!("var/lib"),
+    entry!("var/lib/dpkg"),
+    entry!("var/lib/dpkg/status"),
 ];
 
 /// Takes all that the layers below have away.
-static EMPTIED: [TableEntry; 1] = [file!(".wh..wh..opq", b"")];
+static EMPTIED: [TableEntry; 1] = [entry!(".wh..wh..opq", b"")];
 
 /// Layers by the first byte of their digests.
 pub struct Layers;

@@ -1,15 +1,16 @@
--- Rows that are added one by one make the tree of a table, and no path stands twice in it.
+-- Rows that are added one by one make the tree of a table. Each entry stands at a path, and no path stands twice.
 use Rattle.std.specs.Prelude.{◌≡◌, Bool, true, false, ◌&&◌, ◌||◌, not, cond, List, [], ◌∷◌, ◌++◌, Option, Some, None, option_map, option_to_list, Result, Ok, Err, refl, fold}
-use Rattle.std.specs.List.{list_any}
+use Rattle.std.specs.List.{AllByRecursion, list_any}
 use Rattle.std.proofs.Common.{ap, append-nil, append_assoc, sym, ◌∙◌}
 use Rattle.std.proofs.Math.Bool.{or_comm}
 use Rattle.cv_base.specs.Path.{Path, path_of, same_path}
 use Rattle.cv_path.proofs.Same.{path_is}
 use Rattle.cv_path.specs.declared.path.PathError.{PathError}
+use Rattle.cv_seq.proofs.AllItems.{all_both}
 use Rattle.cv_base.proofs.Lists.{any_last}
 use Rattle.cv_desk.specs.Row.{Row}
-use Rattle.cv_desk.specs.Stored.{Stored, is_distinct, IsDistinctIn, item_at}
-use Rattle.cv_desk.specs.Table.{entries_after, entry_read, have, is_path, item_of, tree_of_rows}
+use Rattle.cv_desk.specs.Stored.{ArePathsIn, IsRead, Stored, is_distinct, IsDistinctIn, item_at}
+use Rattle.cv_desk.specs.Table.{entries_after, entry_after, entry_read, have, is_path, item_of, tree_of_rows}
 use Rattle.cv_desk.specs.code.TableSteps.{first_at, stands, with_read, with_row}
 
 -- No path stands twice in entries that were added one by one.
@@ -124,3 +125,24 @@ first_found rows p = sym (after_found [] rows p refl)
 pub table_distinct : (found : Option (List Row)) → IsDistinctIn (Some (option_map tree_of_rows found))
 table_distinct None = tt
 table_distinct (Some rows) = sym (ap is_distinct (rows_added rows)) ∙ rows_distinct [] rows refl
+
+-- Each entry of the tree stands at a path.
+
+read_paths : (before : List Row) (row : Row) (found : Result Path PathError) → path_of row.path ≡ found
+    → AllByRecursion (λ (e : Stored). IsRead e.path) (option_to_list (entry_read before row found))
+read_paths before row (Err error) is = tt
+read_paths before row (Ok path) is = by_test (have before path) where
+  by_test : (b : Bool) → AllByRecursion (λ (e : Stored). IsRead e.path) (option_to_list (cond b None (Some (record { path = path; item = item_of row.kind row.bytes }))))
+  by_test true = tt
+  by_test false = ((row.path, is), tt)
+
+rows_paths : (before rows : List Row) → AllByRecursion (λ (e : Stored). IsRead e.path) (entries_after before rows)
+rows_paths before [] = tt
+rows_paths before (row ∷ rows) =
+    all_both (λ (e : Stored). IsRead e.path) (option_to_list (entry_after before row)) (entries_after (row ∷ before) rows)
+    (read_paths before row (path_of row.path) refl) (rows_paths (row ∷ before) rows)
+
+-- a table's tree, if it has a layer
+pub table_paths : (found : Option (List Row)) → ArePathsIn (Some (option_map tree_of_rows found))
+table_paths None = tt
+table_paths (Some rows) = rows_paths [] rows

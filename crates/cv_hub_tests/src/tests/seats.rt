@@ -1,4 +1,5 @@
 ghost use Rattle.std.specs.Prelude.{◌≡◌, ◌≤◌, length, IfOk};
+ghost use Rattle.cv_base.specs.declared.limits.TheConstants.{MAX_LAYERS};
 ghost use Rattle.sample_events.specs.Core.{opened};
 
 use super::taken;
@@ -70,7 +71,7 @@ fn learn_and_view<L: Identity, W: Wait>(
 
 /// An image of one layer.
 fn manifest(alloc: Global) -> Result<Manifest, NoMemory>
-    ensures { IfOk result (λ manifest. (1 ≤ length manifest.layers) × (length manifest.layers ≤ 128)) }
+    ensures { IfOk result (λ manifest. (1 ≤ length manifest.layers) × (length manifest.layers ≤ MAX_LAYERS)) }
 {
     Ok(Manifest {
         hash: hash(1),

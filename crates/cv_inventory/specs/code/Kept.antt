@@ -26,8 +26,8 @@ registrations h = record { images = h.images; layers = h.layers; limit = h.limit
 pub record IsKept (trees : List ℕ → Option (Option (List Stored))) (r : Registrations) (k : KnowledgeView) : Type 0 where
   pub right : AreFactsOf trees r.layers k.facts
   pub made : k.outcomes ≡ map_values (outcome_at k.facts k.feeds.feeds) r.images
-  pub few_feeds : length k.feeds.feeds ≤ k.feeds.limit
-  pub few_layers : HaveAtMost128Layers r.images
+  pub feeds_within_limit : length k.feeds.feeds ≤ k.feeds.limit
+  pub at_most_128_layers : HaveAtMost128Layers r.images
 
 -- the same images are registered, and the same layers are Indexed
 pub record IsAlike (before after : Registrations) : Type 0 where

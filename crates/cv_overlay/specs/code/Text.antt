@@ -1,7 +1,8 @@
 -- Marks and parents by the texts of paths, as the code reads them. It is shown in `proofs/` that these are those of
 -- `Mark.antt`.
-use Rattle.std.specs.Prelude.{ℕ, Bool, false, ◌&&◌, ◌==◌, not, if◌then◌else◌, List, [], ◌∷◌}
-use Rattle.cv_base.specs.Path.{is_slash}
+use Rattle.std.specs.Prelude.{ℕ, Bool, ◌&&◌, ◌||◌, not, if◌then◌else◌, List}
+use Rattle.cv_base.specs.Texts.{same}
+use Rattle.cv_base.specs.code.PathText.{goes_on}
 use Rattle.cv_overlay.specs.Mark.{has_mark, is_opaque_name, is_reserved_name, is_whiteout_name}
 use Rattle.cv_overlay.specs.declared.mark.Mark.{Mark}
 use Rattle.cv_overlay.specs.declared.mark.Mark.TheVariants.{Reserved, Opaque, Whiteout, Bad, Plain}
@@ -14,9 +15,6 @@ mark_by in_reserved name dir =
     else (if not (has_mark name) then Plain
     else (if not dir && is_whiteout_name name then Whiteout else Bad)))
 
--- a text is a directory's own, where `dir` says so, or goes on with a slash where that ends
+-- a text lies within a directory, or is the directory's own, if `dir` says that it is one
 abbrev pub is_within : List ℕ → List ℕ → Bool → Bool
-is_within [] [] dir = dir
-is_within [] (y ∷ ys) dir = is_slash y
-is_within (x ∷ xs) [] dir = false
-is_within (x ∷ xs) (y ∷ ys) dir = (x == y) && is_within xs ys dir
+is_within directory text dir = goes_on directory text || (dir && same text directory)

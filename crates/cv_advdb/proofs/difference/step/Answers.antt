@@ -1,6 +1,6 @@
 use Rattle.std.proofs.Common.{sym}
+use Rattle.cv_base.proofs.Orders.{turned}
 use Rattle.cv_advdb.proofs.Walked.{below_all, below_none, below_rest, less_both, less_left, less_right, step_both, step_left, step_right, turned_equal}
-use Rattle.cv_base.proofs.InOrder.{turned}
 use Rattle.cv_advdb.specs.Feeds.{id_total}
 use Rattle.cv_advdb.proofs.difference.step.Goals as goal
 

@@ -1,7 +1,7 @@
 use Rattle.std.proofs.Common.{◌≡◌, length}
 use Rattle.cv_base.specs.InOrder.{in_order}
+use Rattle.cv_base.proofs.Ordered.{put_all}
 use Rattle.cv_match.specs.Keys.{name_cmp}
-use Rattle.cv_advdb.proofs.Ordered.{put_all}
 use Rattle.cv_advdb.proofs.names.in_name_order.Given as goal
 
 -- those that remain, put among those that were taken, are all in order

@@ -1,6 +1,6 @@
 use Rattle.std.proofs.Common.{◌≡◌, length}
+use Rattle.cv_base.proofs.Ordered.{put_all}
 use Rattle.cv_advdb.specs.Feeds.{by_id, id_cmp}
-use Rattle.cv_advdb.proofs.Ordered.{put_all}
 use Rattle.cv_advdb.proofs.record.in_id_order.Given as goal
 
 -- those that remain, put among those that were taken, are all in order

@@ -1,10 +1,10 @@
-use Rattle.std.proofs.Common.{◌≤◌, ◌+◌, ◌-◌, length}
+use Rattle.std.proofs.Common.{◌<◌, ◌+◌, ◌-◌, length}
 use Rattle.cv_folder_desk.specs.Folder.{most_entries}
 use Rattle.cv_folder_desk.proofs.walk.list_all.Given as goal
 
--- the walk has no more entries than it may have
+-- the walk may have more entries
 abbrev pub invariant-loop-path : goal.invariant-loop-path
-invariant-loop-path g l = length l.entries.items ≤ most_entries
+invariant-loop-path g l = length l.entries.items < most_entries
 
 -- each folder that is listed goes, and it adds no more folders than entries
 abbrev pub decreases-loop-path : goal.decreases-loop-path

@@ -1,29 +1,17 @@
-use mathlib.Core.List.{List, [], ◌∷◌}
-use mir.Syntax.{Sym}
-use denote.RattleType.{RattleType}
+use mathlib.Core.List.{[], ◌∷◌}
 use denote.Exit.{no}
 use denote.Ref.{ShrRef}
-use denote.Struct.Field.{row_field}
-use denote.Struct.Tuple.{TupleAt, type_at, parts}
 use denote.Param.{param}
-use denote.Param.Send.{AllSync, IsSync, param_sync, arg_sync, shr_sync}
-use denote.Param.SendFields.{FieldsHave, declared_sync, as_row_sync}
+use denote.Param.Send.{param_sync, arg_sync, shr_sync}
 use Rattle.std.specs.contracts.alloc.Global as global
 use Rattle.std.proofs.alloc.Global.TheSendSync as global_crossing
+use Rattle.cv_hub.proofs.Captured.{captured_sync}
 use Rattle.cv_hub.proofs.Crossing.{hub_sync}
 use Rattle.cv_hub.specs.contracts.hub.Hub as hub
 use Rattle.sample_data.proofs.desk.SampleDesk.TheSendSync as desk_crossing
 use Rattle.sample_data.specs.contracts.desk.SampleDesk as desk
 use Rattle.sample_data.specs.contracts.desk.SampleDeskDesk.TheImpl as desk_impl
 use Rattle.cv_hub_tests.proofs.tests.submit_all.Goals as goal
-
--- what a closure holds
-fields_sync : (Ts : List RattleType) → AllSync Ts → FieldsHave IsSync (parts Ts)
-fields_sync [] s = tt
-fields_sync (T ∷ Ts) s = (as_row_sync (row_field T) s.0, fields_sync Ts s.1)
-
-captured_sync : (ν : Sym) (Ts : List RattleType) → AllSync Ts → IsSync (TupleAt ν Ts)
-captured_sync ν Ts s = declared_sync (type_at ν Ts) (fields_sync Ts s)
 
 -- each step is named: a search that sees the inside of a hub gives up
 pub for_each_mut-requires-sync-F : goal.for_each_mut-requires-sync-F

@@ -6,5 +6,5 @@ use Rattle.cv_lanes.proofs.reads.report_at.Goals as goal
 
 pub returns : goal.returns
 returns g c =
-    look_answered g.D.Desk.tree g.L.Identity.limits c.args.place (act.Report c.args.image) (Report c.args.image) c.args.seat.now c.view-now.new.seat c.view-now.result c.report-answer.result c.read_entry.result
-    c.view-now.ensures.seen c.view-now.ensures.seat c.read_entry.ensures refl c.report-answer.ensures
+    look_answered g.D.Desk.tree g.L.Identity.limits c.args.place (act.Report c.args.image) (Report c.args.image) c.args.seat.now c.view-view.new.seat c.view-view.result c.report-answer.result c.read_entry.result
+    c.view-view.ensures.seen c.view-view.ensures.seat c.read_entry.ensures refl c.report-answer.ensures

@@ -1,13 +1,10 @@
 use Rattle.std.proofs.Common.{◌∷◌, ◌++◌, sym, ap, ◌∙◌, Result, Ok, Err}
 use Rattle.std.specs.Result.{IfOk}
 use Rattle.cv_base.specs.Path.{components}
+use Rattle.cv_base.proofs.Results.{if_ok}
 use Rattle.cv_overlay.specs.Mark.{target_of}
 use Rattle.cv_overlay.proofs.CoverLemmas.{target_in, target_top}
 use Rattle.cv_overlay.proofs.cover.target_text.Goals as goal
-
-if_ok : {A E : Type 0} (P Q : A → Type 0) (r : Result A E) → IfOk r P → ((x : A) → P x → Q x) → IfOk r Q
-if_ok P Q (Ok x) h f = f x h
-if_ok P Q (Err e) h f = tt
 
 pub returns-in-Some : goal.returns-in-Some
 returns-in-Some c =

@@ -1,7 +1,7 @@
 use Rattle.std.proofs.Common.{◌≡◌, map, take}
 use Rattle.std.specs.Option.{option_map}
 use Rattle.cv_osrel.specs.Ecosystem.{eco}
-use Rattle.cv_packages.specs.code.Texts.{package_with}
+use Rattle.cv_packages.specs.Texts.{package_with}
 use Rattle.cv_packages.proofs.package.packages_of.Given as goal
 
 abbrev pub invariant-loop-package : goal.invariant-loop-package

@@ -2,7 +2,7 @@ use Rattle.std.proofs.Common.{◌≡◌, length}
 use Rattle.cv_path.specs.code.PathText.{text_cmp}
 use Rattle.cv_path.proofs.path_text.text_order.Given as goal
 
--- what is left compares as the whole does
+-- what remains compares as the whole does
 abbrev pub invariant-loop-left : goal.invariant-loop-left
 invariant-loop-left l = text_cmp l.left l.right ≡ text_cmp l.fn.one l.fn.other
 

@@ -1,6 +1,6 @@
 use Rattle.std.proofs.Common.{◌-◌, drop, length, take}
 use Rattle.cv_registry.specs.code.Users.{ArePut}
-use Rattle.cv_registry.proofs.ResultLemmas.{if_ok}
+use Rattle.cv_base.proofs.Results.{if_ok}
 use Rattle.cv_registry.proofs.UserLemmas.{put_slice}
 use Rattle.cv_registry.proofs.users.+put_all.Goals as goal
 

@@ -1,7 +1,7 @@
 use Rattle.std.proofs.Common.{◌≡◌, [], ◌∷◌}
 use Rattle.cv_machine.specs.State.{with_value}
 use Rattle.cv_registry.specs.code.Users.{ArePut, Users}
-use Rattle.cv_registry.proofs.ResultLemmas.{if_ok}
+use Rattle.cv_base.proofs.Results.{if_ok}
 use Rattle.cv_registry.proofs.UserLemmas.{put_one}
 use Rattle.cv_registry.proofs.users.put.Goals as goal
 

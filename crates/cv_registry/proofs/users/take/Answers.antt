@@ -2,7 +2,7 @@ use Rattle.std.proofs.Common.{◌≡◌, [], ◌∷◌, cond, is_none}
 use Rattle.cv_machine.specs.State.{with_value, without_value}
 use Rattle.cv_tree.specs.Entries.{first_entry}
 use Rattle.cv_registry.specs.code.Users.{AreTaken, Users}
-use Rattle.cv_registry.proofs.ResultLemmas.{if_ok}
+use Rattle.cv_base.proofs.Results.{if_ok}
 use Rattle.cv_registry.proofs.UserLemmas.{take_absent, take_some}
 use Rattle.cv_registry.proofs.users.take.Goals as goal
 

@@ -2,7 +2,7 @@ use Rattle.cv_inventory.proofs.KeptLemmas.{kept_entered}
 use Rattle.cv_inventory.proofs.inventory.Inventory.entered.Goals as goal
 
 pub with_facts-requires : goal.with_facts-requires
-with_facts-requires g c = record { at_most_128_layers = c.self.invariant.few_layers }
+with_facts-requires g c = record { at_most_128_layers = c.self.invariant.at_most_128_layers }
 
 pub of-requires : goal.of-requires
 of-requires g c =

@@ -1,4 +1,4 @@
-use Rattle.cv_registry.proofs.ResultLemmas.{if_ok}
+use Rattle.cv_base.proofs.Results.{if_ok}
 use Rattle.cv_inventory.proofs.KeptLemmas.{board_kept}
 use Rattle.cv_inventory.proofs.inventory.Inventory.outcomes.Goals as goal
 

@@ -1,12 +1,11 @@
--- Findings are put in order one by one, the last of them first.
-use Rattle.std.specs.Prelude.{◌≡◌, List, [], ◌∷◌, ◌++◌, map, refl}
+-- The set of the program is that of its findings.
+use Rattle.std.specs.Prelude.{◌≡◌, List, [], ◌∷◌, map, refl}
 use Rattle.std.specs.BTreeSet.{insert_key}
 use Rattle.std.specs.Ordering.{match_ordering}
 use Rattle.std.specs.declared.cmp.Ordering.{Ordering}
 use Rattle.std.specs.declared.cmp.Ordering.TheVariants.{Less, Equal, Greater}
 use Rattle.std.proofs.Common.{ap}
 use Rattle.cv_base.specs.declared.finding.Finding.{Finding}
-use Rattle.cv_base.specs.InOrder.{in_order}
 use Rattle.cv_match.specs.Findings.{finding_cmp}
 use Rattle.cv_match.specs.code.Keyed.{keyed_cmp}
 use Rattle.cv_match.specs.declared.order.KeyedFinding.{KeyedFinding}
@@ -14,21 +13,6 @@ use Rattle.cv_match.specs.declared.order.KeyedFinding.{KeyedFinding}
 -- the findings of a type of the program
 abbrev pub findings_in : List KeyedFinding → List Finding
 findings_in ks = map (λ (k : KeyedFinding). k.finding) ks
-
--- findings put among others that are in order
-abbrev pub put_all : List Finding → List Finding → List Finding
-put_all others [] = others
-put_all others (f ∷ fs) = insert_key finding_cmp (put_all others fs) f
-
--- the last one is put first
-pub put_last : (others fs : List Finding) (f : Finding) → put_all others (fs ++ f ∷ []) ≡ put_all (insert_key finding_cmp others f) fs
-put_last others [] f = refl
-put_last others (g ∷ fs) f = ap (λ xs. insert_key finding_cmp xs g) (put_last others fs f)
-
--- put among none they are in order
-pub put_none : (fs : List Finding) → put_all [] fs ≡ in_order finding_cmp fs
-put_none [] = refl
-put_none (f ∷ fs) = ap (λ xs. insert_key finding_cmp xs f) (put_none fs)
 
 -- one more in a set of the program
 pub put_seen : (ks : List KeyedFinding) (k : KeyedFinding) → findings_in (insert_key keyed_cmp ks k) ≡ insert_key finding_cmp (findings_in ks) k.finding
