@@ -8,7 +8,7 @@ use Rattle.cv_base.proofs.advisory.Advisory.TheSendSync as advisory
 use Rattle.cv_base.proofs.«package».PackageName.TheSendSync as package_name
 use Rattle.cv_match.proofs.Crossing.{kinds_send, kinds_sync}
 use Rattle.cv_advdb.specs.contracts.feeds.Feeds as feeds
-use Rattle.cv_advdb.specs.contracts.index.RecordList as list
+use Rattle.cv_advdb.specs.contracts.list.RecordList as list
 use Rattle.cv_advdb.specs.contracts.record.PreparedRecord as record_of
 use Rattle.cv_advdb.specs.contracts.record.StoredRecord as stored
 use Rattle.cv_advdb.specs.contracts.stock.IndexedRecords as indexed

@@ -5,51 +5,12 @@ ghost use Rattle.cv_match.specs.Keys.{is_key, is_named, name_cmp};
 ghost use Rattle.cv_advdb.specs.Touched.{has_name};
 ghost use Rattle.cv_advdb.specs.code.Index.{found_under};
 
+use crate::list::RecordList;
 use crate::names::{in_name_order, push_names};
 use crate::record::StoredRecord;
 use cv_base::{NoMemory, PackageName};
 use std::alloc::Global;
 use std::collections::BTreeMap;
-use std::marker::Model;
-
-/// The records under one name. Contracts see them as a list.
-#[derive(Drop)]
-pub struct RecordList {
-    records: Vec<StoredRecord>,
-}
-
-impl Model for RecordList {
-    ghost use Rattle.std.specs.Prelude.{List};
-    ghost use Rattle.cv_base.specs.declared.advisory.Advisory.{Advisory};
-
-    ghost Value = { List Advisory };
-
-    ghost view = { λ l. l.records.items };
-}
-
-impl RecordList {
-    fn new(alloc: Global) -> RecordList
-        ensures { result ≡ [] }
-    {
-        RecordList {
-            records: Vec::new(alloc),
-        }
-    }
-
-    fn push(&mut self, stored: StoredRecord) -> Result<(), NoMemory>
-        ensures { OnOk result (self.new ≡ self.old ++ stored ∷ []) }
-    {
-        self.records.push(stored)?;
-        Ok(())
-    }
-
-    /// The records, the first one first.
-    pub fn as_slice(&self) -> &[StoredRecord]
-        ensures { result.now ≡ self.now }
-    {
-        self.records.as_slice()
-    }
-}
 
 /// The records under each name that they have, in the order in which they stand. The time is n log n in the names.
 pub fn index_records(

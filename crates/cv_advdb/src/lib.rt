@@ -13,6 +13,7 @@ mod error;
 mod feeds;
 mod index;
 mod laws;
+mod list;
 mod names;
 mod record;
 mod same;

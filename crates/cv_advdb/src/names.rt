@@ -3,9 +3,8 @@ ghost use Rattle.cv_base.specs.InOrder.{in_order};
 ghost use Rattle.cv_match.specs.Keys.{name_cmp};
 ghost use Rattle.cv_advdb.specs.code.Index.{names_in};
 
-use cv_base::{Advisory, Affected, NoMemory, PackageName};
+use cv_base::{Advisory, Affected, NoMemory, PackageName, in_order};
 use std::alloc::Global;
-use std::collections::BTreeSet;
 
 /// Appends the names of the packages of a record's entries.
 pub fn push_names(names: &mut Vec<PackageName>, advisory: &Advisory) -> Result<(), NoMemory>
@@ -28,20 +27,8 @@ fn push_name(names: &mut Vec<PackageName>, entry: &Affected) -> Result<(), NoMem
 }
 
 /// Names by ecosystem and then by name, each once. The time is n log n in the names.
-#[tactic(auto, using(cv_base::proofs::Ordered::put_last, cv_base::proofs::Ordered::put_none))]
-pub fn in_name_order(
-    alloc: Global,
-    mut names: Vec<PackageName>,
-) -> Result<Vec<PackageName>, NoMemory>
+pub fn in_name_order(alloc: Global, names: Vec<PackageName>) -> Result<Vec<PackageName>, NoMemory>
     ensures { IfOk result (λ out. out.items ≡ in_order name_cmp names.items) }
 {
-    let mut sorted = BTreeSet::new(alloc);
-    while let Some(name) = names.pop() {
-        sorted.insert(name)?;
-    }
-    let mut out = Vec::new(alloc);
-    for name in sorted {
-        out.push(name)?;
-    }
-    Ok(out)
+    in_order(alloc, names)
 }

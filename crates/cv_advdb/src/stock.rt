@@ -3,7 +3,8 @@ ghost use Rattle.std.specs.List.Sorted.{IsStrictlySortedBy};
 ghost use Rattle.cv_match.specs.Keys.{is_named};
 ghost use Rattle.cv_advdb.specs.Feeds.{by_id, id_cmp};
 
-use crate::index::{RecordList, index_records};
+use crate::index::index_records;
+use crate::list::RecordList;
 use crate::record::{StoredRecord, in_id_order};
 use cv_base::{Advisory, NoMemory, PackageName};
 use std::alloc::{AllocError, Global};

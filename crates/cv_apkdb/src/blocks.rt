@@ -5,7 +5,7 @@ use crate::facts::Facts;
 use crate::letter::split_entry;
 use crate::package::ApkPackage;
 use cv_base::What;
-use cv_stanza::{BlockFormat, LineError};
+use cv_stanza::{BlockFormat, LineError, LineResult};
 use std::alloc::Global;
 
 /// Blocks that are packages.
@@ -41,22 +41,22 @@ impl<'a> BlockFormat<'a> for PackageBlocks {
     }
 
     fn open(&self, _alloc: Global) -> Facts<'a> {
-        Facts::new()
+        Facts {
+            name: None,
+            version: None,
+            arch: None,
+            origin: None,
+        }
     }
 
-    fn take(&self, block: &mut Facts<'a>, line: &'a [u8]) -> Result<(), LineError> {
+    fn take(&self, block: &mut Facts<'a>, line: &'a [u8]) -> LineResult {
         match split_entry(line) {
             Some(entry) => Ok(block.add(entry)?),
             None => Err(LineError::Bad(What::NoColon)),
         }
     }
 
-    fn close(
-        &self,
-        alloc: Global,
-        block: &Facts<'a>,
-        found: &mut Vec<ApkPackage>,
-    ) -> Result<(), LineError> {
+    fn close(&self, alloc: Global, block: &Facts<'a>, found: &mut Vec<ApkPackage>) -> LineResult {
         match block.fault() {
             Some(what) => Err(LineError::Bad(what)),
             None => Ok(block.push_package(alloc, found)?),

@@ -5,12 +5,12 @@ ghost use Rattle.cv_base.specs.Answer.{Yields};
 ghost use Rattle.cv_base.specs.Texts.{filled};
 ghost use Rattle.cv_apkdb.specs.Installed.{whole_fault};
 ghost use Rattle.cv_apkdb.specs.Package.{package_in, package_of};
-ghost use Rattle.cv_apkdb.specs.code.Steps.{entry_step, facts_view, new_value, nothing};
-ghost use Rattle.cv_apkdb.specs.declared.letter.Letter.TheVariants as letter;
+ghost use Rattle.cv_apkdb.specs.code.Steps.{entry_step, facts_view};
 
 use crate::letter::{Entry, Letter};
 use crate::package::ApkPackage;
-use cv_base::{What, printing_text};
+use crate::value::{new_filled_value, new_value};
+use cv_base::What;
 use cv_seq::{NoMemory, Text};
 use std::alloc::Global;
 
@@ -24,18 +24,6 @@ pub struct Facts<'a> {
 }
 
 impl<'a> Facts<'a> {
-    /// No values.
-    pub fn new() -> Facts<'a>
-        ensures { facts_view result ≡ nothing }
-    {
-        Facts {
-            name: None,
-            version: None,
-            arch: None,
-            origin: None,
-        }
-    }
-
     /// Adds an entry, unless it is bad.
     pub fn add(&mut self, entry: Entry<'a>) -> Result<(), What>
         ensures { Yields Some (λ _. facts_view self.new) result (entry_step entry.entry.letter entry.entry.value.now (facts_view self.old)) }
@@ -67,14 +55,10 @@ impl<'a> Facts<'a> {
     pub fn push_package(&self, alloc: Global, found: &mut Vec<ApkPackage>) -> Result<(), NoMemory>
         ensures { IfOk result (λ _. found.new.items ≡ found.old.items ++ package_in (facts_view self.now)) }
     {
-        let Some(name) = self.name else {
-            return Ok(());
-        };
-        let Some(version) = self.version else {
-            return Ok(());
-        };
-        let package = self.package(alloc, name, version)?;
-        Ok(found.push(package)?)
+        if let (Some(name), Some(version)) = (self.name, self.version) {
+            found.push(self.package(alloc, name, version)?)?;
+        }
+        Ok(())
     }
 
     fn package(&self, alloc: Global, name: &str, version: &str) -> Result<ApkPackage, NoMemory>
@@ -91,29 +75,6 @@ impl<'a> Facts<'a> {
             origin,
         })
     }
-}
-
-/// The value of a letter that did not stand before.
-fn new_value<'a>(before: Option<&str>, value: &'a [u8]) -> Result<&'a str, What>
-    ensures { Yields Some (λ text. text.now) result (new_value letter.Arch (option_map (λ s. s.now) before.entry) value.now) }
-{
-    if before.is_some() {
-        return Err(What::Repeated);
-    }
-    match printing_text(value) {
-        Some(text) => Ok(text),
-        None => Err(What::BadValue),
-    }
-}
-
-/// The value, which is not empty, of a letter that did not stand before.
-fn new_filled_value<'a>(before: Option<&str>, value: &'a [u8]) -> Result<&'a str, What>
-    ensures { Yields Some (λ text. text.now) result (new_value letter.Name (option_map (λ s. s.now) before.entry) value.now) }
-{
-    if before.is_none() && value.is_empty() {
-        return Err(What::BadValue);
-    }
-    new_value(before, value)
 }
 
 /// A text that is not empty, or else the other one, whose bytes are then shared.

@@ -12,6 +12,7 @@ mod facts;
 mod installed;
 mod letter;
 mod package;
+mod value;
 
 pub use installed::read_installed;
 pub use package::ApkPackage;

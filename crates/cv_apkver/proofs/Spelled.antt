@@ -2,7 +2,7 @@
 use Rattle.std.proofs.Common.{◌≡◌, ℕ, ◌==◌, Bool, true, false, not, ◌&&◌, List, [], ◌∷◌, ◌++◌, map, Option, Some, None, is_some, option_map, unwrap_or, refl, ap, sym, ◌∙◌, append-nil, append_assoc, arith}
 use Rattle.std.specs.List.{AllByRecursion, flat_map, list_all, find}
 use Rattle.std.specs.Option.{option_to_list}
-use Rattle.std.proofs.lemmas.Bool.{and_parts, and_from, not-true}
+use Rattle.std.proofs.lemmas.Bool.{and_parts, and_from, eqb-true, not-true}
 use Rattle.std.proofs.lemmas.Bool.Decides.{nat_tests}
 use Rattle.std.proofs.lemmas.List.Folds.{list_all-append}
 use Rattle.cv_order.specs.Digits.{is_digit, front_while, after_while, front_digits, after_digits}
@@ -41,23 +41,16 @@ module _ (test : ℕ → Bool) where
 abbrev but : ℕ → ℕ → Bool
 but c x = not (x == c)
 
-digit_no_dot : (x : ℕ) → is_digit x ≡ true → but DOT x ≡ true
-digit_no_dot x h = grind (arith, nat_tests)
+same_byte : (test : ℕ → Bool) (c x : ℕ) → x ≡ c → test c ≡ false → test x ≡ true → false ≡ true
+same_byte test c x same fails passes = cc
 
-digit_no_underscore : (x : ℕ) → is_digit x ≡ true → but UNDERSCORE x ≡ true
-digit_no_underscore x h = grind (arith, nat_tests)
+apart_by : (test : ℕ → Bool) (c x : ℕ) (same : Bool) → (x == c) ≡ same → test c ≡ false → test x ≡ true → not same ≡ true
+apart_by test c x false e fails passes = refl
+apart_by test c x true e fails passes = same_byte test c x (eqb-true x c e) fails passes
 
-digit_no_hyphen : (x : ℕ) → is_digit x ≡ true → but HYPHEN x ≡ true
-digit_no_hyphen x h = grind (arith, nat_tests)
-
-letter_no_dot : (x : ℕ) → is_letter x ≡ true → but DOT x ≡ true
-letter_no_dot x h = grind (arith, nat_tests)
-
-letter_no_underscore : (x : ℕ) → is_letter x ≡ true → but UNDERSCORE x ≡ true
-letter_no_underscore x h = grind (arith, nat_tests)
-
-letter_no_hyphen : (x : ℕ) → is_letter x ≡ true → but HYPHEN x ≡ true
-letter_no_hyphen x h = grind (arith, nat_tests)
+-- a byte that passes a test is none that fails it
+apart : (test : ℕ → Bool) (c : ℕ) → test c ≡ false → (x : ℕ) → test x ≡ true → but c x ≡ true
+apart test c fails x passes = apart_by test c x (x == c) refl fails passes
 
 digit_no_letter : (x : ℕ) → is_digit x ≡ true → is_letter x ≡ false
 digit_no_letter x h = grind (arith, nat_tests)
@@ -128,7 +121,7 @@ suffixes_front (s ∷ ss) = refl
 suffixes_cut : (ss : List WrittenSuffix) → AllByRecursion IsSuffixWritten ss → pieces_after UNDERSCORE (after UNDERSCORE (suffixes_text ss)) ≡ map suffix_text ss
 suffixes_cut [] w = refl
 suffixes_cut (s ∷ ss) w =
-    cut_first UNDERSCORE (suffix_text s) (suffixes_text ss) (suffix_all (but UNDERSCORE) digit_no_underscore letter_no_underscore s w.0) (suffixes_front ss)
+    cut_first UNDERSCORE (suffix_text s) (suffixes_text ss) (suffix_all (but UNDERSCORE) (apart is_digit UNDERSCORE refl) (apart is_letter UNDERSCORE refl) s w.0) (suffixes_front ss)
     ∙ ap (λ r. suffix_text s ∷ r) (suffixes_cut ss w.1)
 
 digits_front : (ds : List ℕ) → list_all is_digit ds ≡ true → front_letters ds ≡ []
@@ -196,12 +189,12 @@ release_cut : (first : List ℕ) (more : List (List ℕ)) (letter : Option ℕ) 
 release_cut first [] letter a b c =
     ap (pieces DOT) (sym (append-nil (first ++ option_to_list letter)))
     ∙ cut_first DOT (first ++ option_to_list letter) []
-    (all-append (but DOT) first (option_to_list letter) (all-from is_digit (but DOT) digit_no_dot first (number_digits first a)) (all-from is_letter (but DOT) letter_no_dot (option_to_list letter) c))
+    (all-append (but DOT) first (option_to_list letter) (all-from is_digit (but DOT) (apart is_digit DOT refl) first (number_digits first a)) (all-from is_letter (but DOT) (apart is_letter DOT refl) (option_to_list letter) c))
     refl
 release_cut first (n ∷ more) letter a b c =
     let parts = and_parts (is_number n) (list_all is_number more) b in
     let rest = flat_map (λ number. DOT ∷ number) more in
-    cut_first DOT first (DOT ∷ ((n ++ rest) ++ option_to_list letter)) (all-from is_digit (but DOT) digit_no_dot first (number_digits first a)) refl
+    cut_first DOT first (DOT ∷ ((n ++ rest) ++ option_to_list letter)) (all-from is_digit (but DOT) (apart is_digit DOT refl) first (number_digits first a)) refl
     ∙ ap (λ t. first ∷ pieces DOT t) (append_assoc n rest (option_to_list letter))
     ∙ ap (λ r. first ∷ r) (release_cut n more letter parts.0 parts.1 c)
 
@@ -254,29 +247,29 @@ module _ (w : Written) (well : IsWellWritten w) where
 
   hyphen_front : before HYPHEN (text_of w) ≡ release_text w.first w.more w.letter ++ suffixes_text w.suffixes
   hyphen_front =
-      front-append (but HYPHEN) (release_text w.first w.more w.letter) (suffixes_text w.suffixes ++ build_text w.build) (release_but HYPHEN refl digit_no_hyphen letter_no_hyphen)
+      front-append (but HYPHEN) (release_text w.first w.more w.letter) (suffixes_text w.suffixes ++ build_text w.build) (release_but HYPHEN refl (apart is_digit HYPHEN refl) (apart is_letter HYPHEN refl))
       ∙ ap (λ r. release_text w.first w.more w.letter ++ r)
-      (front-append (but HYPHEN) (suffixes_text w.suffixes) (build_text w.build) (suffixes_all (but HYPHEN) digit_no_hyphen refl letter_no_hyphen w.suffixes well.suffixes)
+      (front-append (but HYPHEN) (suffixes_text w.suffixes) (build_text w.build) (suffixes_all (but HYPHEN) (apart is_digit HYPHEN refl) refl (apart is_letter HYPHEN refl) w.suffixes well.suffixes)
       ∙ (ap (λ r. suffixes_text w.suffixes ++ r) (no_front w.build) ∙ append-nil (suffixes_text w.suffixes)))
 
   build_is : build_part (text_of w) ≡ option_map (λ number. BUILD_MARK ∷ number) w.build
   build_is =
       ap rest_of
-      (after-append (but HYPHEN) (release_text w.first w.more w.letter) (suffixes_text w.suffixes ++ build_text w.build) (release_but HYPHEN refl digit_no_hyphen letter_no_hyphen)
-      ∙ after-append (but HYPHEN) (suffixes_text w.suffixes) (build_text w.build) (suffixes_all (but HYPHEN) digit_no_hyphen refl letter_no_hyphen w.suffixes well.suffixes))
+      (after-append (but HYPHEN) (release_text w.first w.more w.letter) (suffixes_text w.suffixes ++ build_text w.build) (release_but HYPHEN refl (apart is_digit HYPHEN refl) (apart is_letter HYPHEN refl))
+      ∙ after-append (but HYPHEN) (suffixes_text w.suffixes) (build_text w.build) (suffixes_all (but HYPHEN) (apart is_digit HYPHEN refl) refl (apart is_letter HYPHEN refl) w.suffixes well.suffixes))
       ∙ build_rest w.build
 
   release_is : release_part (text_of w) ≡ release_text w.first w.more w.letter
   release_is =
       ap (before UNDERSCORE) hyphen_front
-      ∙ front-append (but UNDERSCORE) (release_text w.first w.more w.letter) (suffixes_text w.suffixes) (release_but UNDERSCORE refl digit_no_underscore letter_no_underscore)
+      ∙ front-append (but UNDERSCORE) (release_text w.first w.more w.letter) (suffixes_text w.suffixes) (release_but UNDERSCORE refl (apart is_digit UNDERSCORE refl) (apart is_letter UNDERSCORE refl))
       ∙ ap (λ r. release_text w.first w.more w.letter ++ r) (suffixes_front w.suffixes) ∙ append-nil (release_text w.first w.more w.letter)
 
   suffixes_are : suffix_parts (text_of w) ≡ map suffix_text w.suffixes
   suffixes_are =
       ap (λ t. pieces_after UNDERSCORE (after UNDERSCORE t)) hyphen_front
       ∙ ap (λ t. pieces_after UNDERSCORE (rest_of t))
-      (after-append (but UNDERSCORE) (release_text w.first w.more w.letter) (suffixes_text w.suffixes) (release_but UNDERSCORE refl digit_no_underscore letter_no_underscore))
+      (after-append (but UNDERSCORE) (release_text w.first w.more w.letter) (suffixes_text w.suffixes) (release_but UNDERSCORE refl (apart is_digit UNDERSCORE refl) (apart is_letter UNDERSCORE refl)))
       ∙ suffixes_cut w.suffixes well.suffixes
 
   -- it is a version

@@ -68,10 +68,9 @@ fn compare_releases(a: &[u8], b: &[u8]) -> Ordering
         left = x_more;
         right = y_more;
     }
-    if right.is_some() {
-        Ordering::Less
-    } else {
-        Ordering::Equal
+    match right {
+        Some(_) => Ordering::Less,
+        None => Ordering::Equal,
     }
 }
 

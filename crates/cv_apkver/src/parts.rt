@@ -51,10 +51,10 @@ pub(crate) fn split_word(text: &[u8]) -> (&[u8], &[u8])
     ensures word { result.0.now ≡ front_letters text.now }
     ensures rest { result.1.now ≡ after_letters text.now }
 {
-    match word_end(text) {
-        Some(end) => text.split_at(end),
-        None => (text, &[]),
-    }
+    let Some(end) = word_end(text) else {
+        return (text, &[]);
+    };
+    text.split_at(end)
 }
 
 fn word_end(text: &[u8]) -> Option<usize>

@@ -82,13 +82,7 @@ impl<K, V> Share for Branch<K, V> {
 
 impl<K: Drop, V: Drop> Branch<K, V> {
     /// A node over two branches.
-    pub fn of(
-        alloc: Global,
-        left: Branch<K, V>,
-        key: K,
-        value: V,
-        right: Branch<K, V>,
-    ) -> Result<Branch<K, V>, NoMemory>
+    pub fn of(alloc: Global, left: Self, key: K, value: V, right: Self) -> Result<Self, NoMemory>
         ensures { IfOk result (λ b. b ≡ left ++ (key, value) ∷ right) }
     {
         let height = left.height().max(right.height()).saturating_add(1);

@@ -18,13 +18,39 @@ impl<K: Copy, V: Share + Drop> Branch<K, V> {
         ensures { IfOk result (λ b. b ≡ left ++ (key, value) ∷ right) }
     {
         if left.height() > right.height().saturating_add(1) {
-            let left = left_heavy(alloc, &left)?;
+            let left = left.left_heavy(alloc)?;
             rotated_right(alloc, &left, key, value, right)
         } else if right.height() > left.height().saturating_add(1) {
-            let right = right_heavy(alloc, &right)?;
+            let right = right.right_heavy(alloc)?;
             rotated_left(alloc, left, key, value, &right)
         } else {
             Branch::of(alloc, left, key, value, right)
+        }
+    }
+
+    /// The same entries, with the higher branch on the left.
+    fn left_heavy(&self, alloc: Global) -> Result<Self, NoMemory>
+        ensures { IfOk result (λ b. b ≡ self.now) }
+    {
+        match self.fork() {
+            Some(top) if top.left.height() < top.right.height() => {
+                let left = top.left.share()?;
+                rotated_left(alloc, left, top.key, top.value.share()?, &top.right)
+            }
+            _ => self.share(),
+        }
+    }
+
+    /// The same entries, with the higher branch on the right.
+    fn right_heavy(&self, alloc: Global) -> Result<Self, NoMemory>
+        ensures { IfOk result (λ b. b ≡ self.now) }
+    {
+        match self.fork() {
+            Some(top) if top.right.height() < top.left.height() => {
+                let right = top.right.share()?;
+                rotated_right(alloc, &top.left, top.key, top.value.share()?, right)
+            }
+            _ => self.share(),
         }
     }
 }
@@ -67,36 +93,4 @@ fn rotated_left<K: Copy, V: Share + Drop>(
         top.value.share()?,
         top.right.share()?,
     )
-}
-
-/// The same entries, with the higher branch on the left.
-fn left_heavy<K: Copy, V: Share + Drop>(
-    alloc: Global,
-    branch: &Branch<K, V>,
-) -> Result<Branch<K, V>, NoMemory>
-    ensures { IfOk result (λ b. b ≡ branch.now) }
-{
-    match branch.fork() {
-        Some(top) if top.left.height() < top.right.height() => {
-            let left = top.left.share()?;
-            rotated_left(alloc, left, top.key, top.value.share()?, &top.right)
-        }
-        _ => branch.share(),
-    }
-}
-
-/// The same entries, with the higher branch on the right.
-fn right_heavy<K: Copy, V: Share + Drop>(
-    alloc: Global,
-    branch: &Branch<K, V>,
-) -> Result<Branch<K, V>, NoMemory>
-    ensures { IfOk result (λ b. b ≡ branch.now) }
-{
-    match branch.fork() {
-        Some(top) if top.right.height() < top.left.height() => {
-            let right = top.right.share()?;
-            rotated_right(alloc, &top.left, top.key, top.value.share()?, right)
-        }
-        _ => branch.share(),
-    }
 }

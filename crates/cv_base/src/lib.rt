@@ -1,4 +1,4 @@
-//! The plain data of cvwatch: digests, trees, packages, advisories and findings, over the paths of `cv_path`.
+//! The plain data of cvwatch: digests, trees, packages, advisories and findings, over the paths of `cv_path`; and items put in order.
 //!
 //! ```text
 //! let path = RelPath::read(alloc, "var/lib/dpkg/status")?;
@@ -14,6 +14,7 @@ mod finding;
 mod limits;
 mod manifest;
 mod package;
+mod sorting;
 mod steps;
 mod tree;
 
@@ -30,5 +31,6 @@ pub use finding::{Finding, Reason, Row};
 pub use limits::{MAX_ADVISORIES, MAX_ENTRIES, MAX_LAYERS, PACKAGE_FILE_LIMIT};
 pub use manifest::Manifest;
 pub use package::{Package, PackageKind, PackageName};
+pub use sorting::in_order;
 pub use steps::Steps;
 pub use tree::{Content, Kind, ListEntry, Node, Tree, TreeEntry};

@@ -13,6 +13,7 @@ use cv_arguments::{Packages, Versions, versions_of};
 use cv_base::{NoMemory, PackageKind, Text};
 use cv_io::Sink;
 use cv_match::SemanticVersion;
+use cv_range::{ApkRule, DebRule, VersionRule};
 use std::alloc::Global;
 use std::cmp::Ordering;
 
@@ -72,34 +73,23 @@ fn compare_as(
     ensures { IfOk result (λ compared. compared ≡ compared_as kind first.now second.now) }
 {
     match kind {
-        PackageKind::Deb => Ok(compare_deb(first.as_bytes(), second.as_bytes())),
-        PackageKind::Apk => Ok(compare_apk(first.as_bytes(), second.as_bytes())),
+        PackageKind::Deb => Ok(compare_by::<DebRule>(first.as_bytes(), second.as_bytes())),
+        PackageKind::Apk => Ok(compare_by::<ApkRule>(first.as_bytes(), second.as_bytes())),
         PackageKind::Npm => compare_semantic(alloc, first, second),
     }
 }
 
-fn compare_deb(first: &[u8], second: &[u8]) -> Compared
-    ensures { result ≡ compared_as kind.Deb first.now second.now }
+/// How two texts compare by the rule of one kind of package.
+fn compare_by<R: VersionRule>(first: &[u8], second: &[u8]) -> Compared
+    ensures { result ≡ compared_as R.kind first.now second.now }
 {
-    if !cv_debver::is_version(first) {
+    if !R::is_version(first) {
         return Compared::NotFirst;
     }
-    if !cv_debver::is_version(second) {
+    if !R::is_version(second) {
         return Compared::NotSecond;
     }
-    Compared::Ordered(cv_debver::compare(first, second))
-}
-
-fn compare_apk(first: &[u8], second: &[u8]) -> Compared
-    ensures { result ≡ compared_as kind.Apk first.now second.now }
-{
-    if !cv_apkver::is_version(first) {
-        return Compared::NotFirst;
-    }
-    if !cv_apkver::is_version(second) {
-        return Compared::NotSecond;
-    }
-    Compared::Ordered(cv_apkver::compare(first, second))
+    Compared::Ordered(R::compare(first, second))
 }
 
 #[tactic(auto, using(crate::proofs::Versions::both_read))]

@@ -28,8 +28,8 @@ impl<D: Desk + Drop> Core<D> {
         ensures count { IfOk result (λ _. self.new.count ≡ self.old.count + 1) }
         ensures err { OnErr result (self.new ≡ self.old) }
     {
-        let (next, reply) = self.next(alloc, event, steps)?;
-        *self = next;
+        let (machine, reply) = event.after(alloc, &self.machine, steps)?;
+        *self = Core { machine };
         Ok(reply)
     }
 }

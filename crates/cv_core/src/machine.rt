@@ -1,20 +1,16 @@
-ghost use Rattle.std.specs.Prelude.{◌≡◌, ◌+◌, ◌^◌, ◌<◌, ◌≤◌, false, IfOk};
+ghost use Rattle.std.specs.Prelude.{◌≡◌, ◌≤◌, IfOk};
 ghost use Rattle.cv_machine.specs.Layers.{queued};
-ghost use Rattle.cv_machine.specs.Scans.{IsKnown, Trees, trees_of};
-ghost use Rattle.cv_machine.specs.Step.{step};
 ghost use Rattle.cv_machine.specs.declared.limits.TheConstants.{MAX_FEEDS, MAX_IMAGES};
-ghost use Rattle.cv_steps.specs.Core.{IsRegular, IsSound, act_of, counted, is_update, opened};
+ghost use Rattle.cv_steps.specs.Core.{IsRegular, opened};
 
-use cv_base::{Digest, Steps};
+use cv_base::Digest;
 use cv_desk::Desk;
 use cv_machine::Limits;
 use cv_notice::Notices;
-use cv_records::Reply;
 use cv_seq::{NoMemory, Seq};
-use cv_steps::{Event, Machine};
+use cv_steps::Machine;
 use std::alloc::Global;
 use std::marker::Model;
-use std::sync::ledger::Ledger;
 
 /// The machine of the service. Contracts see its state, and how many events it replied to. The outcome of each image is kept, so
 /// that reports are read without matching.
@@ -75,22 +71,5 @@ impl<D: Desk + Drop> Core<D> {
         ensures { IsRegular self.now }
     {
         self.machine.regular();
-    }
-
-    /// The core after an event, with its reply. This one stays as it is.
-    pub(crate) fn next<L: Ledger>(
-        &self,
-        alloc: Global,
-        event: Event<D>,
-        steps: &mut Steps<L>,
-    ) -> Result<(Core<D>, Reply), NoMemory>
-        requires room { self.now.count < 2 ^ 63 }
-        requires sound { IsSound (act_of event) }
-        ensures stepped { IsKnown D.tree → IfOk result (λ after. after ≡ counted self.now (step (trees_of D.tree) self.now.state (act_of event))) }
-        ensures others { (trees : Trees) → is_update (act_of event) ≡ false → IfOk result (λ after. after ≡ counted self.now (step trees self.now.state (act_of event))) }
-        ensures count { IfOk result (λ after. after.0.count ≡ self.now.count + 1) }
-    {
-        let (machine, reply) = self.machine.next(alloc, event, steps)?;
-        Ok((Core { machine }, reply))
     }
 }

@@ -60,10 +60,10 @@ impl<D: Desk + Drop> Core<D> {
         ensures before { IfOk result (λ planned. planned.before ≡ self) }
         ensures err { IfErr result (λ refused. refused.0 ≡ self) }
     {
-        match self.next(alloc, event, steps) {
-            Ok((after, reply)) => Ok(Planned {
+        match event.after(alloc, &self.machine, steps) {
+            Ok((machine, reply)) => Ok(Planned {
                 before: self,
-                after,
+                after: Core { machine },
                 reply,
             }),
             Err(NoMemory) => Err((self, NoMemory)),

@@ -5,6 +5,13 @@ use Rattle.cv_debver.specs.Grammar.{is_version}
 use Rattle.cv_debver.specs.Parts.{of, pairs, part_cmp}
 use Rattle.cv_debver.specs.Version.{version_of, version_cmp}
 
+-- which texts are versions
+versions : (is_version (codes "1:1.2.13.dfsg-1") ≡ true) × (is_version (codes "2.0~rc1-1~bpo12+1") ≡ true) × (is_version (codes "0") ≡ true)
+versions = (refl, refl, refl)
+
+others : (is_version (codes "a:1") ≡ false) × (is_version (codes "1:1:1") ≡ false) × (is_version (codes "1.0-") ≡ false) × (is_version (codes "1:") ≡ false) × (is_version [] ≡ false)
+others = (refl, refl, refl, refl, refl)
+
 -- a text is cut into its parts at the first colon and the last hyphen, and an absent part is `0`
 whole : version_of (codes "1:2-3-4") ≡ record { epoch = codes "1"; upstream = codes "2-3"; revision = codes "4" }
 whole = refl
@@ -41,10 +48,3 @@ numbers = (refl, refl)
 
 long : version_cmp (codes "100000000000000000000000000001") (codes "100000000000000000000000000000") ≡ Greater
 long = refl
-
--- which texts are versions
-versions : (is_version (codes "1:1.2.13.dfsg-1") ≡ true) × (is_version (codes "2.0~rc1-1~bpo12+1") ≡ true) × (is_version (codes "0") ≡ true)
-versions = (refl, refl, refl)
-
-others : (is_version (codes "a:1") ≡ false) × (is_version (codes "1:1:1") ≡ false) × (is_version (codes "1.0-") ≡ false) × (is_version (codes "1:") ≡ false) × (is_version [] ≡ false)
-others = (refl, refl, refl, refl, refl)

@@ -74,6 +74,16 @@ fn compare_words<'a>(a: &'a [u8], b: &'a [u8]) -> Compared<'a>
     }
 }
 
+fn weight(byte: u8) -> u16
+    ensures { result ≡ weight_of byte }
+{
+    match byte {
+        b'~' => 0,
+        b'A'..=b'Z' | b'a'..=b'z' => u16::from(byte) + 1,
+        _ => u16::from(byte) + 257,
+    }
+}
+
 /// The byte that leads the text, if it is not a digit, and what comes after it.
 fn split_letter(text: &[u8]) -> Option<(u8, &[u8])>
     ensures letter { IfSome result (λ found. (text.now ≡ found.0 ∷ found.1.now) × (is_digit found.0 ≡ false)) }
@@ -82,15 +92,5 @@ fn split_letter(text: &[u8]) -> Option<(u8, &[u8])>
     match text {
         [byte, rest @ ..] if !byte.is_ascii_digit() => Some((*byte, rest)),
         _ => None,
-    }
-}
-
-fn weight(byte: u8) -> u16
-    ensures { result ≡ weight_of byte }
-{
-    match byte {
-        b'~' => 0,
-        b'A'..=b'Z' | b'a'..=b'z' => u16::from(byte) + 1,
-        _ => u16::from(byte) + 257,
     }
 }

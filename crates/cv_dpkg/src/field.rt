@@ -6,6 +6,7 @@ ghost use Rattle.cv_dpkg.specs.code.Names.{entry_of, name_cmp};
 
 use crate::text::trim_front;
 use cv_base::{are_printing, cut_at};
+use cv_path::{ByteKey, compare_by};
 use std::cmp::Ordering;
 
 /// The fields that are used. Every other one is ignored.
@@ -73,26 +74,22 @@ fn is_same_name(one: &[u8], other: &[u8]) -> bool
     name_order(one, other).is_eq()
 }
 
+/// Letters are compared in lower case.
+struct InLowerCase;
+
+impl ByteKey for InLowerCase {
+    ghost use Rattle.std.specs.Char.{to_ascii_lowercase};
+
+    ghost key = { to_ascii_lowercase };
+
+    fn key_of(byte: u8) -> u8 {
+        byte.to_ascii_lowercase()
+    }
+}
+
 /// The order of names, which are not case-sensitive in ASCII.
 pub fn name_order(one: &[u8], other: &[u8]) -> Ordering
     ensures { result ≡ name_cmp one.now other.now }
 {
-    let mut rest = one;
-    let mut other_rest = other;
-    while let [x, xs @ ..] = rest {
-        let [y, ys @ ..] = other_rest else {
-            return Ordering::Greater;
-        };
-        match x.to_ascii_lowercase().cmp(&y.to_ascii_lowercase()) {
-            Ordering::Equal => {}
-            order => return order,
-        }
-        rest = xs;
-        other_rest = ys;
-    }
-    if other_rest.is_empty() {
-        Ordering::Equal
-    } else {
-        Ordering::Less
-    }
+    compare_by::<InLowerCase>(one, other)
 }

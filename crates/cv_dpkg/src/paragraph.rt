@@ -10,7 +10,7 @@ use crate::field::{Entry, is_name, named, split_field};
 use crate::names::{FieldName, add_name};
 use crate::text::begins_with_blank;
 use cv_base::What;
-use cv_stanza::LineError;
+use cv_stanza::{LineError, LineResult};
 use std::alloc::Global;
 use std::collections::BTreeSet;
 
@@ -36,7 +36,7 @@ impl<'a> Paragraph<'a> {
     }
 
     /// Takes one more line, which is not empty.
-    pub fn take(&mut self, line: &'a [u8]) -> Result<(), LineError>
+    pub fn take(&mut self, line: &'a [u8]) -> LineResult
         ensures { Yields line_fault (λ _. state_view self.new) result (line_step (state_view self.old) line.now) }
     {
         if begins_with_blank(line) {
@@ -52,7 +52,7 @@ impl<'a> Paragraph<'a> {
         }
     }
 
-    fn take_field(&mut self, entry: Entry<'a>) -> Result<(), LineError>
+    fn take_field(&mut self, entry: Entry<'a>) -> LineResult
         ensures { Yields line_fault (λ _. state_view self.new) result (field_step (state_view self.old) (Some (entry_of entry.entry))) }
     {
         if !is_name(entry.name) {

@@ -5,7 +5,7 @@ use crate::package::DebPackage;
 use crate::paragraph::Paragraph;
 use crate::rule::StatusRule;
 use cv_base::trim_line;
-use cv_stanza::{BlockFormat, LineError};
+use cv_stanza::{BlockFormat, LineError, LineResult};
 use std::alloc::Global;
 
 impl<'a> BlockFormat<'a> for StatusRule {
@@ -40,7 +40,7 @@ impl<'a> BlockFormat<'a> for StatusRule {
         Paragraph::new(alloc)
     }
 
-    fn take(&self, block: &mut Paragraph<'a>, line: &'a [u8]) -> Result<(), LineError> {
+    fn take(&self, block: &mut Paragraph<'a>, line: &'a [u8]) -> LineResult {
         block.take(line)
     }
 
@@ -49,7 +49,7 @@ impl<'a> BlockFormat<'a> for StatusRule {
         alloc: Global,
         block: &Paragraph<'a>,
         found: &mut Vec<DebPackage>,
-    ) -> Result<(), LineError> {
+    ) -> LineResult {
         match block.facts.fault(*self) {
             Some(what) => Err(LineError::Bad(what)),
             None => Ok(block.facts.push_package(alloc, found)?),

@@ -8,6 +8,20 @@ ghost use Rattle.cv_dpkg.specs.code.NextWord.{next_word};
 
 use cv_base::is_blank;
 
+/// A text without the blanks at its front.
+pub fn trim_front(text: &[u8]) -> &[u8]
+    ensures { result.now ≡ without_front text.now }
+{
+    let mut rest = text;
+    while let [first, after @ ..] = rest {
+        if !is_blank(*first) {
+            return rest;
+        }
+        rest = after;
+    }
+    rest
+}
+
 /// A text without the blanks at its end.
 #[tactic(auto, using(cv_path::proofs::Ends::end_more, cv_path::proofs::Ends::end_done))]
 pub fn trim_end(text: &[u8]) -> &[u8]
@@ -19,20 +33,6 @@ pub fn trim_end(text: &[u8]) -> &[u8]
             return rest;
         }
         rest = front;
-    }
-    rest
-}
-
-/// A text without the blanks at its front.
-pub fn trim_front(text: &[u8]) -> &[u8]
-    ensures { result.now ≡ without_front text.now }
-{
-    let mut rest = text;
-    while let [first, after @ ..] = rest {
-        if !is_blank(*first) {
-            return rest;
-        }
-        rest = after;
     }
     rest
 }

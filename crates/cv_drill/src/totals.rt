@@ -1,6 +1,6 @@
 ghost use Rattle.std.specs.Prelude.{◌≡◌, None, map, option_map, sum, unwrap_or, []};
 ghost use Rattle.serde_json.specs.View.{view};
-ghost use Rattle.cv_drill.specs.Summary.{count, findings, generation, last_notifications, notifications, replies, rows, standing, totals_of, update_generation};
+ghost use Rattle.cv_drill.specs.Summary.{count, findings, generation, last_notifications, notifications, replies, rows, standing, totals_of};
 
 use crate::report::good_findings;
 use crate::transcript::{list, number_at, says};
@@ -57,22 +57,11 @@ fn generation(values: &[Value]) -> u64
 {
     let mut greatest: u64 = 0;
     for value in values {
-        if let Some(generation) = update_generation(value) {
-            greatest = greatest.max(generation);
+        if says(value, "event", "update") {
+            greatest = greatest.max(number_at(value, "generation"));
         }
     }
     greatest
-}
-
-/// The generation of an update.
-fn update_generation(value: &Value) -> Option<u64>
-    ensures { result ≡ update_generation (view value.now) }
-{
-    if says(value, "event", "update") {
-        Some(number_at(value, "generation"))
-    } else {
-        None
-    }
 }
 
 /// The notifications of the last list; none if there is no list.

@@ -1,11 +1,11 @@
 -- The entries of a generated layer stand in path order.
-use Rattle.std.proofs.Common.{◌≡◌, ℕ, ◌%◌, ◌<◌, ◌++◌, Bool, true, List, [], ◌∷◌, take, ap, arith, ◌∙◌, refl}
+use Rattle.std.proofs.Common.{◌≡◌, ℕ, ◌<◌, Bool, true, List, [], ◌∷◌, refl}
 use Rattle.std.specs.Prelude.{◌&&◌}
 use Rattle.std.specs.Ordering.{is_lt}
 use Rattle.cv_base.specs.Path.{path_cmp}
 use Rattle.cv_drill_desk.specs.Generated.{npm_package, opaque_tree, package_tree, status_file, system_tree}
 use Rattle.cv_desk.specs.Stored.{Stored}
-use Rattle.cv_drill_desk.specs.code.GeneratedDistinct.{entries_same}
+use Rattle.cv_drill_desk.specs.code.GeneratedDistinct.{holds_of_all}
 use Rattle.cv_drill_desk.specs.code.GeneratedLaws.{below_at}
 
 -- each path is below the next one
@@ -28,8 +28,7 @@ all_ascend = below_at 100 (λ n. ascends (package_tree n)) refl
 
 -- role 2, also where the numbers begin at 0 again
 packages_ascend : (s : ℕ) → ascends (package_tree s) ≡ true
-packages_ascend s =
-    ap (λ entries. ascends (take 2 (package_tree 0) ++ entries)) (entries_same s) ∙ all_ascend (s % 100) (omega arith)
+packages_ascend = holds_of_all ascends all_ascend
 
 -- role 3
 opaque_ascends : ascends opaque_tree ≡ true

@@ -142,17 +142,11 @@ minor_within Second j h = by (nat_eq (j % 3) 1) (div-le_self j 40) where
 
 debian_within : (m j : ℕ) → m < 2 ^ 64 → most (debian_data m j) ≤ 1200
 unfolding debian_data entry_data range_data fixed_data
-debian_within m j h =
-    let called = name_within (codes "p") j refl in
-    let version = version_within m (codes "-1") h refl in
-    omega (arith, called, version)
+debian_within m j h = omega (arith, name_within (codes "p") j refl, version_within m (codes "-1") h refl)
 
 npm_within : (m j : ℕ) → m < 2 ^ 64 → most (npm_data m j) ≤ 1200
 unfolding npm_data entry_data range_data last_affected_data
-npm_within m j h =
-    let called = name_within (codes "n") j refl in
-    let version = version_within m (codes ".0") h refl in
-    omega (arith, called, version)
+npm_within m j h = omega (arith, name_within (codes "n") j refl, version_within m (codes ".0") h refl)
 
 affected_within : (m j : ℕ) → m < 2 ^ 64 → most (affected_data m j) ≤ 1200
 affected_within m j h = by (nat_eq (j % 2) 0) where

@@ -11,7 +11,6 @@
 
 mod error;
 mod facts;
-mod files;
 mod hides;
 mod index;
 mod order;

@@ -11,6 +11,7 @@ use crate::slots::{Slots, SlotsByKind, empty_slots, prepared_at};
 use cv_base::{Advisory, Finding, NoMemory, Package, PackageKind, Seq, Steps, Text};
 use cv_finding::find_one;
 use cv_match::{ReadyAdvisory, ReadyPackage, in_order, prepare_package};
+use cv_seq::push_some;
 use std::alloc::Global;
 use std::marker::Brand;
 use std::sync::ledger::{Blank, Ledger};
@@ -147,7 +148,7 @@ fn find_indexed<L: Ledger>(
         let found = find_next(
             alloc, package, &prepared, feed, advisories, *index, slots, steps,
         )?;
-        add(&mut out, found)?;
+        push_some(&mut out, found)?;
     }
     Ok(out)
 }
@@ -218,15 +219,5 @@ fn add_all(out: &mut Vec<Finding>, mut found: Vec<Finding>) -> Result<(), NoMemo
     ensures { OnOk result (out.new.items ≡ out.old.items ++ found.items) }
 {
     out.append(&mut found)?;
-    Ok(())
-}
-
-/// Adds a finding, if there is one.
-fn add(out: &mut Vec<Finding>, found: Option<Finding>) -> Result<(), NoMemory>
-    ensures { OnOk result (out.new.items ≡ out.old.items ++ option_to_list found) }
-{
-    if let Some(finding) = found {
-        out.push(finding)?;
-    }
     Ok(())
 }

@@ -37,14 +37,9 @@ then_equal Greater s h = cc
 
 same_kind : (k l : PackageKind) → kind_rank k ≡ kind_rank l → k ≡ l
 same_kind Deb Deb h = refl
-same_kind Deb Apk h = cc
-same_kind Deb Npm h = cc
-same_kind Apk Deb h = cc
 same_kind Apk Apk h = refl
-same_kind Apk Npm h = cc
-same_kind Npm Deb h = cc
-same_kind Npm Apk h = cc
 same_kind Npm Npm h = refl
+same_kind k l h = cc
 
 pub same_package : (p q : Package) → package_cmp p q ≡ Equal → p ≡ q
 same_package p q h =

@@ -8,7 +8,7 @@ use crate::inventory::Inventory;
 use crate::replies::is_registered;
 use cv_base::{Digest, Manifest, Steps};
 use cv_desk::Desk;
-use cv_records::Reply;
+use cv_records::Replied;
 use cv_registry::Registry;
 use cv_seq::NoMemory;
 use std::alloc::Global;
@@ -23,7 +23,7 @@ impl<D: Desk + Drop> Inventory<D> {
         alloc: Global,
         manifest: &Manifest,
         steps: &mut Steps<L>,
-    ) -> Result<(Inventory<D>, Reply), NoMemory>
+    ) -> Replied<Inventory<D>>
         requires at_most_128_layers { length manifest.now.layers ≤ MAX_LAYERS }
         ensures { IfOk result (Leads (λ state. register state manifest.now) self.now) }
     {
@@ -36,11 +36,7 @@ impl<D: Desk + Drop> Inventory<D> {
 
     /// Drops an image: `NotRegistered` if it is not registered, or else `Dropped`. Its layers that no other image names go, but
     /// for those that are claimed. The time is that of its layers, whatever else is registered.
-    pub fn drop_image(
-        &self,
-        alloc: Global,
-        image: &Digest,
-    ) -> Result<(Inventory<D>, Reply), NoMemory>
+    pub fn drop_image(&self, alloc: Global, image: &Digest) -> Replied<Inventory<D>>
         ensures { IfOk result (Leads (λ state. drop_image state image.now) self.now) }
     {
         let (registry, reply) = self.registry.drop_image(alloc, image)?;

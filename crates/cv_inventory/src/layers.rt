@@ -9,7 +9,7 @@ use cv_base::{Digest, Steps};
 use cv_desk::Desk;
 use cv_facts::LayerFacts;
 use cv_machine::Status;
-use cv_records::Reply;
+use cv_records::{Replied, Reply};
 use cv_registry::Registry;
 use cv_seq::NoMemory;
 use std::alloc::Global;
@@ -18,12 +18,7 @@ use std::sync::ledger::Ledger;
 impl<D: Desk + Drop> Inventory<D> {
     /// Claims a layer for a worker: `Claimed` if the layer waits for one, `Taken` if it is claimed or indexed, `Unwanted` if it
     /// is not known.
-    pub fn claim(
-        &self,
-        alloc: Global,
-        layer: &Digest,
-        worker: u32,
-    ) -> Result<(Inventory<D>, Reply), NoMemory>
+    pub fn claim(&self, alloc: Global, layer: &Digest, worker: u32) -> Replied<Inventory<D>>
         ensures { IfOk result (Leads (λ state. claim state layer.now worker) self.now) }
     {
         let (registry, reply) = self.registry.claim(alloc, layer, worker)?;
@@ -39,7 +34,7 @@ impl<D: Desk + Drop> Inventory<D> {
         facts: LayerFacts<D>,
         worker: u32,
         steps: &mut Steps<L>,
-    ) -> Result<(Inventory<D>, Reply), NoMemory>
+    ) -> Replied<Inventory<D>>
         ensures { IfOk result (Leads (λ state. finish state facts.digest worker Status.Indexed Reply.Entered) self.now) }
     {
         self.registry.regular();
@@ -52,12 +47,7 @@ impl<D: Desk + Drop> Inventory<D> {
 
     /// A worker gives a layer back, after a fault or when memory ran out: `Requeued`, and the layer waits for a worker again;
     /// `NotClaimed` and `Discarded` as for `index`.
-    pub fn requeue(
-        &self,
-        alloc: Global,
-        layer: &Digest,
-        worker: u32,
-    ) -> Result<(Inventory<D>, Reply), NoMemory>
+    pub fn requeue(&self, alloc: Global, layer: &Digest, worker: u32) -> Replied<Inventory<D>>
         ensures { IfOk result (Leads (λ state. finish state layer.now worker Status.Queued Reply.Requeued) self.now) }
     {
         self.registry.regular();

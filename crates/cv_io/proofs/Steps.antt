@@ -172,6 +172,12 @@ gives_unknown (Ok (Text line)) v = tt
 gives_unknown (Ok End) v = tt
 gives_unknown (Err error) v = tt
 
+-- what one call means for the readings, for the bytes that are not yet given, and for the limits
+pub record Meaning (before now : Reader) (l m : Option (List ℕ)) (answer : Result Line LineError) : Type 0 where
+  pub reads : Reads (reading before l) (reading now m) answer
+  pub gives : Gives (ungiven before l) (ungiven now m) answer
+  pub narrows : Narrows before now answer
+
 module _ (before now : Reader) (l m : Option (List ℕ)) (lines : now.max_line ≡ before.max_line) (inputs : now.max_input ≡ before.max_input) where
   known_reads : (answer : Result Line LineError) → Step before now l m answer → (whole : List ℕ) → ungiven before l ≡ Some whole → Reads (Some (reading_of before.max_line (room_of before) whole)) (reading now m) answer
   known_reads answer s whole known = subst (λ (v : Option (List ℕ)). Reads (Some (reading_of before.max_line (room_of before) whole)) (option_map (reading_of now.max_line (room_of now)) v) answer) (sym t.new) (by answer s.answers)
@@ -207,7 +213,7 @@ module _ (before now : Reader) (l m : Option (List ℕ)) (lines : now.max_line �
       by (Err NoMemory) x = kept x
 
   -- a call is a step of the reading of the whole input
-  pub reads_law : (answer : Result Line LineError) → Step before now l m answer → Reads (reading before l) (reading now m) answer
+  reads_law : (answer : Result Line LineError) → Step before now l m answer → Reads (reading before l) (reading now m) answer
   reads_law answer s = by (ungiven before l) refl
     where
       by : (u : Option (List ℕ)) → ungiven before l ≡ u → Reads (option_map (reading_of before.max_line (room_of before)) u) (reading now m) answer
@@ -215,7 +221,7 @@ module _ (before now : Reader) (l m : Option (List ℕ)) (lines : now.max_line �
       by (Some whole) e = known_reads answer s whole e
 
   -- a call gives the first line of the remaining bytes
-  pub gives_law : (answer : Result Line LineError) → Step before now l m answer → Gives (ungiven before l) (ungiven now m) answer
+  gives_law : (answer : Result Line LineError) → Step before now l m answer → Gives (ungiven before l) (ungiven now m) answer
   gives_law answer s = by (ungiven before l) refl
     where
       by : (u : Option (List ℕ)) → ungiven before l ≡ u → Gives u (ungiven now m) answer
@@ -223,10 +229,14 @@ module _ (before now : Reader) (l m : Option (List ℕ)) (lines : now.max_line �
       by (Some whole) e = known_gives answer s whole e
 
   -- each line takes of the room
-  pub narrows_law : (answer : Result Line LineError) → Step before now l m answer → Narrows before now answer
+  narrows_law : (answer : Result Line LineError) → Step before now l m answer → Narrows before now answer
   narrows_law answer s = by answer s.answers
     where
       by : (a : Result Line LineError) → Answers s.bytes now a → Narrows before now a
       by (Ok (Text line)) x = narrower before now l m s.bytes s.takes lines inputs s.within line x
       by (Ok End) x = tt
       by (Err error) x = tt
+
+  -- a step has its meaning
+  pub meaning : (answer : Result Line LineError) → Step before now l m answer → Meaning before now l m answer
+  meaning answer s = record { reads = reads_law answer s; gives = gives_law answer s; narrows = narrows_law answer s }

@@ -4,20 +4,12 @@ use Rattle.cv_facts.specs.Reduction.{Known}
 use Rattle.cv_facts.specs.declared.reduction.Shape.TheVariants.{NoLayer}
 use Rattle.cv_machine.specs.State.{Images}
 use Rattle.cv_machine.specs.declared.status.Status.TheVariants as status
+use Rattle.cv_machine.proofs.Examples.{a, b, c}
 use Rattle.cv_outcome.specs.Outcome.{outcome_at}
 use Rattle.cv_outcome.specs.declared.outcome.Outcome.TheVariants.{Pending}
 use Rattle.cv_records.specs.declared.read.ReportOutcome.TheVariants as report
 use Rattle.cv_knowledge.specs.Changes.{all_renewed, image_dropped, layer_indexed, remaining_facts}
 use Rattle.cv_knowledge.specs.Knowledge.{KnowledgeView, nothing_known, report_by}
-
-abbrev a : List ℕ
-a = 97 ∷ []
-
-abbrev b : List ℕ
-b = 98 ∷ []
-
-abbrev c : List ℕ
-c = 99 ∷ []
 
 -- the facts of a digest that names no layer
 abbrev known : List ℕ → Known

@@ -18,7 +18,7 @@ use Rattle.cv_machine.specs.Step.{entered, remaining}
 use Rattle.cv_machine.specs.declared.status.Status.{Status}
 use Rattle.cv_machine.specs.declared.status.Status.TheVariants as status
 use Rattle.cv_machine.proofs.Entries.{sorted_cut}
-use Rattle.cv_machine.proofs.LayerTables.{remaining_found, staying, value_put, value_cut}
+use Rattle.cv_machine.proofs.LayerTables.{entered_tested, remaining_found, staying, value_put, value_cut}
 use Rattle.cv_outcome.specs.Outcome.{FactTable, outcome_at}
 use Rattle.cv_outcome.specs.Truth.{AreFactsOf}
 use Rattle.cv_outcome.proofs.FactLemmas.{agree}
@@ -27,25 +27,8 @@ use Rattle.cv_knowledge.specs.Changes.{remaining_facts}
 
 -- ---- layers enter the table: none of them is Indexed
 
-not_indexed : (found : Option Status) → is_some found ≡ false → is_indexed_as found ≡ false
-not_indexed None h = refl
-not_indexed (Some status) h = absurd (cc h)
-
-one_entered : (table : Layers) (layer q : List ℕ)
-    → is_indexed_as (value_at (cond (is_some (value_at table layer)) table (with_value table layer status.Queued)) q) ≡ is_indexed_as (value_at table q)
-one_entered table layer q = by_tests (is_some (value_at table layer)) (same layer q) refl refl where
-  by_tests : (s t : Bool) → is_some (value_at table layer) ≡ s → same layer q ≡ t
-      → is_indexed_as (value_at (cond s table (with_value table layer status.Queued)) q) ≡ is_indexed_as (value_at table q)
-  by_tests true t some key = refl
-  by_tests false true some key =
-      ap is_indexed_as (value_put table layer status.Queued q ∙ ap (λ b. cond b (Some status.Queued) (value_at table q)) key)
-      ∙ sym (ap (λ k. is_indexed_as (value_at table k)) (sym (same_is layer q key)) ∙ not_indexed (value_at table layer) some)
-  by_tests false false some key = ap is_indexed_as (value_put table layer status.Queued q ∙ ap (λ b. cond b (Some status.Queued) (value_at table q)) key)
-
 pub entered_indexed : (table : Layers) (layers : List (List ℕ)) (q : List ℕ) → is_indexed_as (value_at (entered table layers) q) ≡ is_indexed_as (value_at table q)
-entered_indexed table [] q = refl
-entered_indexed table (layer ∷ layers) q =
-    entered_indexed (cond (is_some (value_at table layer)) table (with_value table layer status.Queued)) layers q ∙ one_entered table layer q
+entered_indexed = entered_tested is_indexed_as refl
 
 -- ---- a layer is Indexed: it has facts
 

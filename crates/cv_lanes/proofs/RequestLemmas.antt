@@ -20,7 +20,9 @@ use Rattle.cv_hub.proofs.Prefixes.{prefix_length}
 use Rattle.cv_legal.specs.Replay.{event_of, read_of}
 use Rattle.cv_lanes.specs.code.Own.{Placed, Submission, placed}
 use Rattle.cv_lanes.specs.code.Lane.{Answered, OneStep, Submitted}
-use Rattle.cv_lanes.specs.code.Place.{answer_of, answered_read, request_of}
+use Rattle.cv_lanes.specs.code.Place.{answer_of, answered_read, read_by, request_of, requested_by}
+use Rattle.cv_lanes.specs.declared.request.Look.{Look}
+use Rattle.cv_lanes.specs.declared.request.Look.TheVariants as look
 use Rattle.cv_lanes.specs.declared.request.Place.{Place}
 use Rattle.cv_lanes.proofs.OwnLemmas.{made_one, made_seen}
 
@@ -47,14 +49,21 @@ answered_with tree limits place act before after list found entry begins is made
       within = omega (arith, size, ap length now);
     }
 
+-- the request of a read is for that read
+read_requested : (wanted : Look) → read_of (requested_by wanted) ≡ Some (read_by wanted)
+read_requested (look.Report image) = refl
+read_requested (look.Page number size page) = refl
+read_requested look.List = refl
+
 -- a read was answered after the events of a list
-pub look_answered : (tree : DeskTrees) (limits : Limits) (place : Place) (act : Act) (read : Read) (before after : SeatView) (list : List Submission) (found : Result Answer NoMemory) (entry : ReadEntry)
+pub look_answered : (tree : DeskTrees) (limits : Limits) (place : Place) (wanted : Look) (before after : SeatView) (list : List Submission) (found : Result Answer NoMemory) (entry : ReadEntry)
     → IsPrefix before.list list → after ≡ seat_of before.index list before.count → entry ≡ answered_read place list found
-    → read_of act ≡ Some read → (IsKnown tree → IfOk found (λ a. a ≡ answer_to (trees_of tree) (state_of (trees_of tree) limits list) read))
-    → OneStep tree limits (request_of place act) before after (Answered entry)
-look_answered tree limits place act read before after list found entry begins is made asks h =
-    answered_with tree limits place act before after list found entry begins is made
-    (λ seen same known. answered_by tree limits act read list seen found entry.answer (ap (λ r. r.answer) made) same asks (h known))
+    → (IsKnown tree → IfOk found (λ a. a ≡ answer_to (trees_of tree) (state_of (trees_of tree) limits list) (read_by wanted)))
+    → OneStep tree limits (request_of place (requested_by wanted)) before after (Answered entry)
+look_answered tree limits place wanted before after list found entry begins is made h =
+    answered_with tree limits place (requested_by wanted) before after list found entry begins is made
+    (λ seen same known. answered_by tree limits (requested_by wanted) (read_by wanted) list seen found entry.answer (ap (λ r. r.answer) made) same
+    (read_requested wanted) (h known))
 
 -- a request of any kind ran out of memory after the events of a list
 pub no_memory : (tree : DeskTrees) (limits : Limits) (place : Place) (act : Act) (before after : SeatView) (list : List Submission) (error : NoMemory) (entry : ReadEntry)

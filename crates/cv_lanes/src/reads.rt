@@ -1,15 +1,14 @@
 ghost use Rattle.std.specs.Prelude.{◌≡◌, ◌≤◌, IfOk, Some};
 ghost use Rattle.cv_records.specs.declared.read.ReportOutcome.TheVariants as outcome;
-ghost use Rattle.cv_machine.specs.Answer.{Heads, Page, Read, Report, answer_to, report_of};
+ghost use Rattle.cv_request.specs.Limits.{IsWithinLimits};
+ghost use Rattle.cv_machine.specs.Answer.{Heads, Page, Report, answer_to, report_of};
 ghost use Rattle.cv_machine.specs.Scans.{IsKnown, trees_of};
 ghost use Rattle.cv_request.specs.declared.request.Act.{Act};
-ghost use Rattle.cv_request.specs.declared.request.Act.TheVariants as act;
-ghost use Rattle.cv_legal.specs.Replay.{read_of};
 ghost use Rattle.cv_hub.specs.Events.{state_of};
 ghost use Rattle.cv_lanes.specs.code.Lane.{Answered, OneStep};
-ghost use Rattle.cv_lanes.specs.code.Place.{answered_read, request_of};
+ghost use Rattle.cv_lanes.specs.code.Place.{answered_read, read_by, request_of, requested_by};
 
-use crate::request::Place;
+use crate::request::{Look, Place};
 use cv_base::{Digest, Finding};
 use cv_board::ReportRefusal;
 use cv_dealing::{copy_findings, copy_rows};
@@ -21,57 +20,6 @@ use cv_records::{Answer, PageOutcome, ReadEntry, ReportOutcome};
 use cv_seq::NoMemory;
 use std::alloc::Global;
 use std::sync::Wait;
-
-/// The report of an image, read now.
-pub fn report_at<D: Desk + Drop, L: Identity, W: Wait>(
-    rt: &W,
-    alloc: Global,
-    hub: &Hub<D, L>,
-    seat: &mut Seat<D, L>,
-    place: Place,
-    image: Digest,
-) -> ReadEntry
-    ensures { OneStep D.tree L.limits (request_of place (act.Report image)) seat.old seat.new (Answered result) }
-{
-    let view = hub.view(rt, seat);
-    let answer = report(alloc, &view, image);
-    read_entry(&view, place, answer)
-}
-
-/// A page of a notification, read now.
-pub fn page_at<D: Desk + Drop, L: Identity, W: Wait>(
-    rt: &W,
-    alloc: Global,
-    hub: &Hub<D, L>,
-    seat: &mut Seat<D, L>,
-    place: Place,
-    number: u64,
-    size: u32,
-    page: u64,
-) -> ReadEntry
-    requires size { 1 ≤ size }
-    requires page { 1 ≤ page }
-    ensures { OneStep D.tree L.limits (request_of place (act.Page number size page)) seat.old seat.new (Answered result) }
-{
-    let view = hub.view(rt, seat);
-    let answer = page_of(alloc, &view, number, size, page);
-    read_entry(&view, place, answer)
-}
-
-/// All notifications, read now.
-pub fn list_at<D: Desk + Drop, L: Identity, W: Wait>(
-    rt: &W,
-    alloc: Global,
-    hub: &Hub<D, L>,
-    seat: &mut Seat<D, L>,
-    place: Place,
-) -> ReadEntry
-    ensures { OneStep D.tree L.limits (request_of place act.List) seat.old seat.new (Answered result) }
-{
-    let view = hub.view(rt, seat);
-    let answer = list(alloc, &view);
-    read_entry(&view, place, answer)
-}
 
 /// That a request ran out of memory, now.
 pub fn no_memory_at<D: Desk + Drop, L: Identity, W: Wait>(
@@ -87,7 +35,7 @@ pub fn no_memory_at<D: Desk + Drop, L: Identity, W: Wait>(
 }
 
 /// The entry of a read with this answer, or that memory ran out.
-fn read_entry<D: Desk + Drop, L: Identity>(
+pub fn read_entry<D: Desk + Drop, L: Identity>(
     view: &View<'_, D, L>,
     place: Place,
     answer: Result<Answer, NoMemory>,
@@ -99,6 +47,22 @@ fn read_entry<D: Desk + Drop, L: Identity>(
         lane: place.lane,
         line: place.line,
         answer: answer.unwrap_or(Answer::NoMemory),
+    }
+}
+
+/// The answer to a read, in the state that is viewed.
+pub fn look_up<D: Desk + Drop, L: Identity>(
+    alloc: Global,
+    view: &View<'_, D, L>,
+    look: Look,
+) -> Result<Answer, NoMemory>
+    requires within { IsWithinLimits (requested_by look) }
+    ensures { IsKnown D.tree → IfOk result (λ found. found ≡ answer_to (trees_of D.tree) (state_of (trees_of D.tree) L.limits view.now) (read_by look)) }
+{
+    match look {
+        Look::Report(image) => report(alloc, view, image),
+        Look::Page { number, size, page } => page_of(alloc, view, number, size, page),
+        Look::List => list(alloc, view),
     }
 }
 

@@ -7,7 +7,7 @@ ghost use Rattle.cv_lanes.specs.code.Lane.{Answered, OneStep, Submitted};
 ghost use Rattle.cv_lanes.specs.code.Own.{Placed};
 ghost use Rattle.cv_lanes.specs.code.Place.{request_of, requested_by};
 
-use crate::reads::{list_at, no_memory_at, page_at, report_at};
+use crate::reads::{look_up, no_memory_at, read_entry};
 use cv_base::Digest;
 use cv_desk::Desk;
 use cv_hub::{Hub, Identity, Seat};
@@ -73,7 +73,7 @@ fn event_in<D: Desk>(act: Act) -> Result<Event<D>, Look>
     }
 }
 
-/// The read of a request, now.
+/// The answer to a read, now.
 fn look_at<D: Desk + Drop, L: Identity, W: Wait>(
     rt: &W,
     alloc: Global,
@@ -85,13 +85,9 @@ fn look_at<D: Desk + Drop, L: Identity, W: Wait>(
     requires within { IsWithinLimits (requested_by look) }
     ensures { OneStep D.tree L.limits (request_of place (requested_by look)) seat.old seat.new (Answered result) }
 {
-    match look {
-        Look::Report(image) => report_at(rt, alloc, hub, seat, place, image),
-        Look::Page { number, size, page } => {
-            page_at(rt, alloc, hub, seat, place, number, size, page)
-        }
-        Look::List => list_at(rt, alloc, hub, seat, place),
-    }
+    let view = hub.view(rt, seat);
+    let answer = look_up(alloc, &view, look);
+    read_entry(&view, place, answer)
 }
 
 /// Submits the event of a request.

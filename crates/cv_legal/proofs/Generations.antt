@@ -1,5 +1,5 @@
 -- The generations that a legal transcript names never fall.
-use Rattle.std.specs.Prelude.{◌≡◌, ℕ, ◌≤◌, ◌⊎◌, List, [], ◌∷◌, ◌++◌, Option, Some, None, Result, Ok, Err, option_map, refl}
+use Rattle.std.specs.Prelude.{◌≡◌, ℕ, ◌≤◌, ◌⊎◌, List, [], ◌∷◌, ◌++◌, Option, Some, None, Ok, Err, option_map, refl}
 use Rattle.std.specs.List.{cons_option}
 use Rattle.std.proofs.Common.{ap, arith, inl, inr, subst, sym, ◌∙◌}
 use Rattle.std.proofs.lemmas.Option.{same_Some}
@@ -9,8 +9,6 @@ use Rattle.cv_records.specs.declared.read.Answer.TheVariants as answer
 use Rattle.cv_records.specs.declared.read.ReadEntry.{ReadEntry}
 use Rattle.cv_records.specs.declared.reply.Reply.{Reply}
 use Rattle.cv_records.specs.declared.reply.Reply.TheVariants as reply
-use Rattle.cv_request.specs.declared.error.RequestError.{RequestError}
-use Rattle.cv_request.specs.declared.request.Request.{Request}
 use Rattle.cv_scan.specs.Scan.{Scanned}
 use Rattle.cv_transcript.specs.declared.entry.Entry.{Entry}
 use Rattle.cv_transcript.specs.declared.entry.Entry.TheVariants as entry
@@ -27,9 +25,10 @@ use Rattle.cv_legal.specs.Legal.{AreLast, AreLegal, AreLegalRounds}
 use Rattle.cv_legal.specs.Replay.{IsRead, Moment, Replays, moment_after, read_of}
 use Rattle.cv_legal.specs.Round.{IsLegalRound}
 use Rattle.cv_legal.specs.Rounds.{Round}
-use Rattle.cv_legal.specs.Taken.{refusal_at, refusals, requests}
+use Rattle.cv_legal.specs.Taken.{refusals, requests}
 use Rattle.cv_legal.specs.declared.taken.Requested.{Requested}
 use Rattle.cv_legal.specs.declared.taken.Taken.{Taken}
+use Rattle.cv_legal.proofs.History.{skip_refusals}
 
 -- what is known of every event
 abbrev pub KnownSteps : Type 0
@@ -99,12 +98,7 @@ fall_entries known trees requested before after (entry.Read read ∷ entries) h 
 
 -- a refused line names no generation
 none_named : (taken : List Taken) (others : List Entry) → generations (refusals taken ++ others) ≡ generations others
-none_named [] others = refl
-none_named (first ∷ taken) others = by_answer first.answer (none_named taken others) where
-  by_answer : (answer : Result Request RequestError) → generations (refusals taken ++ others) ≡ generations others
-      → generations (cons_option (refusal_at first.line answer) (refusals taken) ++ others) ≡ generations others
-  by_answer (Ok request) same = same
-  by_answer (Err error) same = same
+none_named = skip_refusals generations (λ line error entries. refl)
 
 fall_round : KnownSteps → (trees : Trees) (workers : ℕ) (before : Moment) (lines : Round) (entries : List Entry) (after : Moment)
     → IsLegalRound trees workers before lines entries after → NeverFall before.state.generation (generations entries) after.state.generation

@@ -59,14 +59,19 @@ follow_entries trees requested before after (entry.Event event ∷ entries) h =
     (h.1.act, h.1.is, subst (λ m. Follow trees m (events_of entries) after) h.1.next (follow_entries trees requested h.0 after entries h.2))
 follow_entries trees requested before after (entry.Read read ∷ entries) h = follow_entries trees requested before after entries h.1
 
+-- if a refused line adds nothing to what is made of entries, neither do the refusals of what was taken
+pub skip_refusals : {A : Type 0} (f : List Entry → A) → ((line : ℕ) (error : RequestError) (entries : List Entry) → f (entry.Refused line error ∷ entries) ≡ f entries)
+    → (taken : List Taken) (others : List Entry) → f (refusals taken ++ others) ≡ f others
+skip_refusals f skips [] others = refl
+skip_refusals f skips (first ∷ taken) others = by_answer first.answer (skip_refusals f skips taken others) where
+  by_answer : (answer : Result Request RequestError) → f (refusals taken ++ others) ≡ f others
+      → f (cons_option (refusal_at first.line answer) (refusals taken) ++ others) ≡ f others
+  by_answer (Ok request) same = same
+  by_answer (Err error) same = skips first.line error (refusals taken ++ others) ∙ same
+
 -- a refused line is no event
 pub no_events : (taken : List Taken) (others : List Entry) → events_of (refusals taken ++ others) ≡ events_of others
-no_events [] others = refl
-no_events (first ∷ taken) others = by_answer first.answer (no_events taken others) where
-  by_answer : (answer : Result Request RequestError) → events_of (refusals taken ++ others) ≡ events_of others
-      → events_of (cons_option (refusal_at first.line answer) (refusals taken) ++ others) ≡ events_of others
-  by_answer (Ok request) same = same
-  by_answer (Err error) same = same
+no_events = skip_refusals events_of (λ line error entries. refl)
 
 follow_round : (trees : Trees) (workers : ℕ) (before : Moment) (lines : Round) (entries : List Entry) (after : Moment)
     → IsLegalRound trees workers before lines entries after → Follow trees before (events_of entries) after

@@ -64,10 +64,8 @@ impl<D: Desk + Drop, L: Identity> Locked<D, L> {
         ensures list { result.list ≡ [] }
         ensures taken { result.taken ≡ 0 }
     {
-        Locked {
-            core,
-            events: EventList::new(alloc, head, front, book),
-        }
+        let events = EventList::new(alloc, head, front, book);
+        Locked { core, events }
     }
 
     /// The core after the events of the list.

@@ -41,13 +41,13 @@ wide = opening (record { images = 3; feeds = 1 })
 abbrev image : ℕ → List (List ℕ) → Manifest
 image hash layers = record { hash = hash ∷ []; layers = layers }
 
-abbrev a : List ℕ
+abbrev pub a : List ℕ
 a = 10 ∷ []
 
-abbrev b : List ℕ
+abbrev pub b : List ℕ
 b = 11 ∷ []
 
-abbrev c : List ℕ
+abbrev pub c : List ℕ
 c = 12 ∷ []
 
 -- Register.

@@ -42,20 +42,6 @@ one_some table layer q = by_tests (is_some (value_at table layer)) (same layer q
   by_tests false true some key = ap is_some (value_put table layer status.Queued q ∙ ap (λ b. cond b (Some status.Queued) (value_at table q)) key)
   by_tests false false some key = ap is_some (value_put table layer status.Queued q ∙ ap (λ b. cond b (Some status.Queued) (value_at table q)) key)
 
-unclaimed : (found : Option Status) → is_some found ≡ false → is_claimed found ≡ false
-unclaimed None h = refl
-unclaimed (Some status) h = absurd (cc h)
-
-one_claimed : (table : Layers) (layer q : List ℕ) → is_claimed (value_at (one_entered table layer) q) ≡ is_claimed (value_at table q)
-one_claimed table layer q = by_tests (is_some (value_at table layer)) (same layer q) refl refl where
-  by_tests : (s t : Bool) → is_some (value_at table layer) ≡ s → same layer q ≡ t
-      → is_claimed (value_at (cond s table (with_value table layer status.Queued)) q) ≡ is_claimed (value_at table q)
-  by_tests true t some key = refl
-  by_tests false true some key =
-      ap is_claimed (value_put table layer status.Queued q ∙ ap (λ b. cond b (Some status.Queued) (value_at table q)) key)
-      ∙ sym (ap (λ k. is_claimed (value_at table k)) (sym (same_is layer q key)) ∙ unclaimed (value_at table layer) some)
-  by_tests false false some key = ap is_claimed (value_put table layer status.Queued q ∙ ap (λ b. cond b (Some status.Queued) (value_at table q)) key)
-
 or_turned : (a b c : Bool) → (b || (a || c)) ≡ ((a || b) || c)
 or_turned true true c = refl
 or_turned true false c = refl
@@ -71,10 +57,30 @@ entered_some table (layer ∷ layers) q =
     ∙ ap (λ b. has_text layers q || b) (one_some table layer q)
     ∙ or_turned (same layer q) (has_text layers q) (is_some (value_at table q))
 
--- and no other ones are Claimed
+-- If a test says the same of a Queued layer and of one that is not in the table, it says of each layer what it said before layers entered.
+
+module _ (test : Option Status → Bool) (queued : test None ≡ test (Some status.Queued)) where
+  absent : (found : Option Status) → is_some found ≡ false → test found ≡ test (Some status.Queued)
+  absent None h = queued
+  absent (Some status) h = absurd (cc h)
+
+  one_tested : (table : Layers) (layer q : List ℕ) → test (value_at (one_entered table layer) q) ≡ test (value_at table q)
+  one_tested table layer q = by_tests (is_some (value_at table layer)) (same layer q) refl refl where
+    by_tests : (s t : Bool) → is_some (value_at table layer) ≡ s → same layer q ≡ t
+        → test (value_at (cond s table (with_value table layer status.Queued)) q) ≡ test (value_at table q)
+    by_tests true t some key = refl
+    by_tests false true some key =
+        ap test (value_put table layer status.Queued q ∙ ap (λ b. cond b (Some status.Queued) (value_at table q)) key)
+        ∙ sym (ap (λ k. test (value_at table k)) (sym (same_is layer q key)) ∙ absent (value_at table layer) some)
+    by_tests false false some key = ap test (value_put table layer status.Queued q ∙ ap (λ b. cond b (Some status.Queued) (value_at table q)) key)
+
+  pub entered_tested : (table : Layers) (layers : List (List ℕ)) (q : List ℕ) → test (value_at (entered table layers) q) ≡ test (value_at table q)
+  entered_tested table [] q = refl
+  entered_tested table (layer ∷ layers) q = entered_tested (one_entered table layer) layers q ∙ one_tested table layer q
+
+-- no other layers are Claimed after layers entered
 pub entered_claimed : (table : Layers) (layers : List (List ℕ)) (q : List ℕ) → is_claimed (value_at (entered table layers) q) ≡ is_claimed (value_at table q)
-entered_claimed table [] q = refl
-entered_claimed table (layer ∷ layers) q = entered_claimed (one_entered table layer) layers q ∙ one_claimed table layer q
+entered_claimed = entered_tested is_claimed refl
 
 some_stays : (found : Option Status) (other : Option Status) → is_some found ≡ true → found ≡ option_or found other
 some_stays None other h = absurd (cc h)

@@ -10,16 +10,15 @@ use crate::node::{Node, Texts};
 use cv_base::{NoMemory, Seq};
 use std::alloc::Global;
 
+/// A part of a record, or why it was not read.
+pub(crate) type PartRead<P> = Result<P, AdvisoryError>;
+
 /// A part of a record, of which a list has one for each item.
 pub(crate) trait Part: Sized + Drop {
     /// What a value is read as.
     ghost part_of: { Data → Result Self RecordWhat };
 
-    fn read<V: Node<T>, T: Texts>(
-        alloc: Global,
-        texts: &mut T,
-        value: &V,
-    ) -> Result<Self, AdvisoryError>
+    fn read<V: Node<T>, T: Texts>(alloc: Global, texts: &mut T, value: &V) -> PartRead<Self>
         ensures { Reads (λ part. part) result (part_of (V.data_of value.now)) };
 }
 
@@ -29,7 +28,7 @@ pub(crate) fn read_each<P: Part, V: Node<T>, T: Texts>(
     alloc: Global,
     texts: &mut T,
     items: &[V],
-) -> Result<Seq<P>, AdvisoryError>
+) -> PartRead<Seq<P>>
     ensures { Reads (λ parts. parts) result (each P.part_of (items_of (map V.data_of items.now))) }
 {
     let mut parts = room_for(alloc, items.len())?;

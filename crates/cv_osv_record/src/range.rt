@@ -9,7 +9,7 @@ ghost use Rattle.serde_json.specs.View.{items_of};
 use crate::error::{AdvisoryError, RecordWhat};
 use crate::json::{items_or, member_at, object_or, optional_text_or, text_or};
 use crate::node::{Node, Texts};
-use crate::part::{Part, push, room_for};
+use crate::part::{Part, PartRead, push, room_for};
 use cv_base::{Range, RangeKind, Seq, Text, Turn};
 use std::alloc::Global;
 
@@ -52,11 +52,7 @@ impl Part for Range {
     ghost part_of = { range_of };
 
     #[tactic(auto, unfolding(crate::specs::Record::range_of))]
-    fn read<V: Node<T>, T: Texts>(
-        alloc: Global,
-        texts: &mut T,
-        value: &V,
-    ) -> Result<Range, AdvisoryError> {
+    fn read<V: Node<T>, T: Texts>(alloc: Global, texts: &mut T, value: &V) -> PartRead<Range> {
         let kind = kind_of(text_or(member_at(value, "type"), RecordWhat::BadRange)?);
         let events = items_or(member_at(value, "events"), RecordWhat::BadEvent)?;
         let turns = read_turns(alloc, texts, events)?;

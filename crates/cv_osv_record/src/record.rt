@@ -8,7 +8,7 @@ ghost use Rattle.serde_json.specs.View.{view};
 use crate::error::{AdvisoryError, RecordWhat};
 use crate::json::{items_or, member_at, object_or, optional_text_or, text_or};
 use crate::node::{NewTexts, Node, Texts};
-use crate::part::{Part, read_each};
+use crate::part::{Part, PartRead, read_each};
 use cv_base::{Advisory, Affected, PackageName, Text};
 use serde_json::Value;
 use std::alloc::Global;
@@ -68,11 +68,7 @@ impl Part for Affected {
     ghost part_of = { entry_of };
 
     #[tactic(auto, unfolding(crate::specs::Record::entry_of))]
-    fn read<V: Node<T>, T: Texts>(
-        alloc: Global,
-        texts: &mut T,
-        value: &V,
-    ) -> Result<Affected, AdvisoryError> {
+    fn read<V: Node<T>, T: Texts>(alloc: Global, texts: &mut T, value: &V) -> PartRead<Affected> {
         object_or(value, RecordWhat::BadEntry)?;
         let package = read_package(alloc, texts, member_at(value, "package"))?;
         let ranges = items_or(member_at(value, "ranges"), RecordWhat::BadRange)?;
@@ -113,11 +109,7 @@ impl Part for Text {
 
     ghost part_of = { version_of };
 
-    fn read<V: Node<T>, T: Texts>(
-        alloc: Global,
-        texts: &mut T,
-        value: &V,
-    ) -> Result<Text, AdvisoryError> {
+    fn read<V: Node<T>, T: Texts>(alloc: Global, texts: &mut T, value: &V) -> PartRead<Text> {
         let version = text_or(Some(value), RecordWhat::BadVersions)?;
         Ok(texts.text(alloc, version)?)
     }

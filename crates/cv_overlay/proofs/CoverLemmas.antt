@@ -277,13 +277,9 @@ searched_text key xs t (Err i) sorted bound found =
 whiteout_by : (a r o m d w : Bool)
     → (if a then Reserved else (if r then (if o then Opaque else Reserved) else (if not m then Plain else (if d && w then Whiteout else Bad)))) ≡ Whiteout
     → w ≡ true
-whiteout_by true r o m d w h = cc
-whiteout_by false true true m d w h = cc
-whiteout_by false true false m d w h = cc
-whiteout_by false false o false d w h = cc
-whiteout_by false false o true false w h = cc
 whiteout_by false false o true true true h = refl
-whiteout_by false false o true true false h = cc
+whiteout_by false true true m d w h = cc
+whiteout_by a r o m d w h = cc
 
 -- a whiteout has the name of one
 pub named_whiteout : (p : Path) (dir : Bool) → mark_of p dir ≡ Whiteout → is_whiteout_name (name_of p) ≡ true

@@ -38,12 +38,16 @@ needs_parent (c ∷ d ∷ ds) = true
 abbrev pub has_parent : List Outline → Outline → Bool
 has_parent before e = not (needs_parent e.path) || list_any (λ b. b.is_dir && same_path b.path (parent_of e.path)) before
 
+-- which fault of the entry at an index is named: it is not in order, has no parent, or is a bad mark
+abbrev pub fault_by : (in_order with_parent : Bool) → ℕ → Outline → Option TreeFault
+fault_by in_order with_parent i e =
+    if not in_order then Some (Unsorted i)
+    else (if not with_parent then Some (NoParent i)
+    else (if is_bad e.path e.is_dir then Some (BadMark i) else None))
+
 -- the fault of the entry at an index, with all entries before it
 abbrev pub fault_at : ℕ → List Outline → Outline → Option TreeFault
-fault_at i before e =
-    if not (is_sorted_after before e) then Some (Unsorted i)
-    else (if not (has_parent before e) then Some (NoParent i)
-    else (if is_bad e.path e.is_dir then Some (BadMark i) else None))
+fault_at i before e = fault_by (is_sorted_after before e) (has_parent before e) i e
 
 -- the first fault of entries of which the first has this index, with all entries before them, the last one first
 abbrev pub first_fault : ℕ → List Outline → List Outline → Option TreeFault

@@ -1,11 +1,10 @@
-ghost use Rattle.std.specs.Prelude.{◌≡◌, IfOk, OnOk, ◌++◌};
-ghost use Rattle.std.specs.Option.{option_to_list};
+ghost use Rattle.std.specs.Prelude.{◌≡◌, IfOk};
 ghost use Rattle.cv_package_files.specs.Files.{file_found, files_found};
 
 use crate::found::FileFound;
 use crate::read::read_file;
 use cv_base::{Node, TreeEntry, place};
-use cv_seq::NoMemory;
+use cv_seq::{NoMemory, push_some};
 use std::alloc::Global;
 
 /// The package files of a root, whose entries stand in the order of their paths.
@@ -15,19 +14,9 @@ pub fn read_files(alloc: Global, entries: &[TreeEntry]) -> Result<Vec<FileFound>
     let mut files = Vec::new(alloc);
     for entry in entries {
         let file = file_found(alloc, entry)?;
-        add(&mut files, file)?;
+        push_some(&mut files, file)?;
     }
     Ok(files)
-}
-
-/// Adds a file, if there is one.
-fn add(files: &mut Vec<FileFound>, file: Option<FileFound>) -> Result<(), NoMemory>
-    ensures { OnOk result (files.new.items ≡ files.old.items ++ option_to_list file) }
-{
-    if let Some(file) = file {
-        files.push(file)?;
-    }
-    Ok(())
 }
 
 /// The package file that an entry is, if it is one.

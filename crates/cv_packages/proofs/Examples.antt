@@ -11,6 +11,7 @@ use Rattle.cv_base.specs.declared.tree.Content.TheVariants as content
 use Rattle.cv_base.specs.declared.tree.Node.TheVariants as node
 use Rattle.cv_base.specs.declared.tree.TreeEntry.{TreeEntry}
 use Rattle.cv_packages.specs.Packages.{assembled, packages}
+use Rattle.cv_packages.specs.Texts.{package_with}
 use Rattle.cv_npm.specs.declared.package.NpmPackage.{NpmPackage}
 use Rattle.cv_package_files.specs.declared.found.FileFound.{FileFound}
 use Rattle.cv_package_files.specs.declared.found.Found.TheVariants as found
@@ -33,16 +34,8 @@ usr_alpine = file (codes "usr/lib/os-release") (codes "ID=alpine\nVERSION_ID=3.1
 
 -- a package by the text of its path, its name and version, its source of the same version, its architecture and its ecosystem
 abbrev pub package_of : PackageKind → List ℕ → List ℕ → List ℕ → List ℕ → List ℕ → List ℕ → Package
-package_of kind path name version source arch ecosystem = record {
-  kind = kind;
-  path = components path;
-  name = name;
-  version = version;
-  source = source;
-  source_version = version;
-  arch = arch;
-  ecosystem = ecosystem;
-}
+package_of kind path name version source arch ecosystem =
+    package_with kind (components path) ecosystem (record { name = name; version = version; source = source; source_version = version; arch = arch })
 
 -- a status file with one package, and the package
 abbrev zlib : TreeEntry

@@ -5,6 +5,7 @@ ghost use Rattle.cv_path.specs.Texts.{is_nil};
 ghost use Rattle.cv_path.specs.Path.{components, is_component, is_name, is_slash, is_special};
 ghost use Rattle.cv_path.specs.code.PathText.{front_text, goes_on, is_above_text, is_end, joined, rank, slashes_after, text_cmp};
 
+use crate::compare::{ByteKey, compare_by};
 use crate::limits::MAX_PATH_LEN;
 use cv_seq::NoMemory;
 use std::alloc::Global;
@@ -76,28 +77,24 @@ fn rank(byte: u8) -> u8
     if byte == b'/' { 0 } else { byte }
 }
 
+/// Bytes are compared by their ranks.
+struct ByRank;
+
+impl ByteKey for ByRank {
+    ghost use Rattle.cv_path.specs.code.PathText.{rank};
+
+    ghost key = { rank };
+
+    fn key_of(byte: u8) -> u8 {
+        rank(byte)
+    }
+}
+
 /// The order of two texts by the ranks of their bytes.
 pub(crate) fn text_order(one: &[u8], other: &[u8]) -> Ordering
     ensures { result ≡ text_cmp one.now other.now }
 {
-    let mut left = one;
-    let mut right = other;
-    while let [x, xs @ ..] = left {
-        let [y, ys @ ..] = right else {
-            return Ordering::Greater;
-        };
-        match rank(*x).cmp(&rank(*y)) {
-            Ordering::Equal => {}
-            order => return order,
-        }
-        left = xs;
-        right = ys;
-    }
-    if right.is_empty() {
-        Ordering::Equal
-    } else {
-        Ordering::Less
-    }
+    compare_by::<ByRank>(one, other)
 }
 
 /// The order of a text and the front of another one that ends before the slash with this index, or of all of

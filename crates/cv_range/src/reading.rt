@@ -2,6 +2,7 @@ ghost use Rattle.std.specs.Prelude.{◌≡◌, IfOk, if◌then◌else◌, map, o
 ghost use Rattle.cv_range.specs.ReadRange.{bound_text, event_text, events_of, range_text};
 ghost use Rattle.cv_range.specs.Within.{belongs, introduced_at, limited_at};
 ghost use Rattle.cv_range.specs.code.Reading.{read_bound, read_event, read_events};
+ghost use Rattle.cv_range.specs.declared.placed.Bound.TheVariants.{At};
 
 use crate::placed::{Bound, Placed};
 use crate::version::Version;
@@ -76,10 +77,9 @@ fn introduced<V: Version>(alloc: Global, text: &Text) -> Result<Option<Bound<V>>
     ensures { IfOk result (λ bound. option_map (bound_text V.text) bound ≡ read_bound V.kind (introduced_at text.now)) }
 {
     if text.as_str() == "0" {
-        Ok(Some(Bound::Start))
-    } else {
-        Ok(V::read(alloc, text)?.map(|version| Bound::At(version)))
+        return Ok(Some(Bound::Start));
     }
+    at_version(alloc, text)
 }
 
 /// Limit `*` is after every version.
@@ -87,8 +87,14 @@ fn limited<V: Version>(alloc: Global, text: &Text) -> Result<Option<Bound<V>>, N
     ensures { IfOk result (λ bound. option_map (bound_text V.text) bound ≡ read_bound V.kind (limited_at text.now)) }
 {
     if text.as_str() == "*" {
-        Ok(Some(Bound::End))
-    } else {
-        Ok(V::read(alloc, text)?.map(|version| Bound::At(version)))
+        return Ok(Some(Bound::End));
     }
+    at_version(alloc, text)
+}
+
+/// The place of a version, unless the text is not a valid version.
+fn at_version<V: Version>(alloc: Global, text: &Text) -> Result<Option<Bound<V>>, NoMemory>
+    ensures { IfOk result (λ bound. option_map (bound_text V.text) bound ≡ read_bound V.kind (At text.now)) }
+{
+    Ok(V::read(alloc, text)?.map(|version| Bound::At(version)))
 }

@@ -14,4 +14,4 @@ mod tests;
 
 pub use event::{Act, By, EventEntry};
 pub use read::{Answer, NoticeHead, PageOutcome, ReadEntry, ReportOutcome};
-pub use reply::Reply;
+pub use reply::{Replied, Reply};

@@ -1,7 +1,11 @@
 ghost use Rattle.std.specs.Prelude.{◌≡◌};
 
 use cv_base::{Digest, Seq};
+use cv_seq::NoMemory;
 use std::alloc::AllocError;
+
+/// What an event leads to, with the reply to it, or that memory ran out.
+pub type Replied<T> = Result<(T, Reply), NoMemory>;
 
 /// What the machine replies to an event.
 #[derive(Debug, PartialEq, Eq, Drop)]

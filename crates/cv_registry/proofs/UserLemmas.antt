@@ -22,6 +22,24 @@ use Rattle.cv_registry.specs.Registrations.{users_of}
 use Rattle.cv_registry.specs.code.Users.{ArePut, AreTaken, ImageSet, Users, is_used, names, set_at, uses}
 use Rattle.cv_registry.proofs.ListLemmas.{at_head, past_head, same_keys}
 
+-- ---- one layer after the other
+
+-- A change of the sets of layers, by what it makes of each use: nothing where it changes none, and the same if it is made twice.
+module _ (change : Bool → Bool → Bool) (none : (u : Bool) → change false u ≡ u) (twice : (u : Bool) → change true (change true u) ≡ change true u) where
+  both : (a b s u : Bool) → change (b && s) (change ((a || false) && s) u) ≡ change ((a || b) && s) u
+  both a false s u = none (change ((a || false) && s) u)
+  both false true s u = ap (change s) (none u)
+  both true true true u = twice u
+  both true true false u = none (change false u)
+
+  changed_more : (users next after : Users) (layer image : List ℕ) (layers : List (List ℕ))
+      → ((l q : List ℕ) → uses next l q ≡ change ((same layer l || false) && same image q) (uses users l q))
+      → ((l q : List ℕ) → uses after l q ≡ change (has_text layers l && same image q) (uses next l q))
+      → (l q : List ℕ) → uses after l q ≡ change ((same layer l || has_text layers l) && same image q) (uses users l q)
+  changed_more users next after layer image layers one more l q =
+      more l q ∙ ap (change (has_text layers l && same image q)) (one l q)
+      ∙ both (same layer l) (has_text layers l) (same image q) (uses users l q)
+
 -- ---- an image is put in
 
 put_in : (set : ImageSet) (image q : List ℕ) → is_some (value_at (with_value set image tt) q) ≡ (same image q || is_some (value_at set q))
@@ -45,21 +63,9 @@ put_one users after layer image set made is l q =
           ap (λ found. is_some (value_at (unwrap_or found []) q)) (value_put users layer set l ∙ ap (λ b. cond b (Some set) (value_at users l)) key)
           ∙ sym (ap (λ b. (b || false) && same image q || uses users l q) key)
 
-put_both : (a b s u : Bool) → (b && s || ((a || false) && s || u)) ≡ ((a || b) && s || u)
-put_both a false s u = refl
-put_both true true true u = refl
-put_both true true false u = refl
-put_both false true true u = refl
-put_both false true false u = refl
-
-pub put_none : (image : List ℕ) (users after : Users) → after ≡ users → ArePut [] image users after
-put_none image users after is l q = ap (λ us. uses us l q) is
-
 pub put_more : (users next after : Users) (layer image : List ℕ) (layers : List (List ℕ)) → ArePut (layer ∷ []) image users next → ArePut layers image next after
     → ArePut (layer ∷ layers) image users after
-put_more users next after layer image layers one more l q =
-    more l q ∙ ap (λ b. has_text layers l && same image q || b) (one l q)
-    ∙ put_both (same layer l) (has_text layers l) (same image q) (uses users l q)
+put_more = changed_more (λ b u. b || u) (λ u. refl) (λ u. refl)
 
 -- ---- an image is taken out
 
@@ -136,21 +142,9 @@ take_some users after layer image set rest order found h made is = by_rest (is_n
   by_rest false some =
       take_rest users after layer image set rest (sym found) h made (is ∙ ap (λ b. cond b (without_value users layer) (with_value users layer rest)) some)
 
-take_both : (a b s u : Bool) → cond (b && s) false (cond ((a || false) && s) false u) ≡ cond ((a || b) && s) false u
-take_both a false s u = refl
-take_both true true true u = refl
-take_both true true false u = refl
-take_both false true true u = refl
-take_both false true false u = refl
-
-pub take_none : (image : List ℕ) (users after : Users) → after ≡ users → AreTaken [] image users after
-take_none image users after is l q = ap (λ us. uses us l q) is
-
 pub take_more : (users next after : Users) (layer image : List ℕ) (layers : List (List ℕ)) → AreTaken (layer ∷ []) image users next → AreTaken layers image next after
     → AreTaken (layer ∷ layers) image users after
-take_more users next after layer image layers one more l q =
-    more l q ∙ ap (cond (has_text layers l && same image q) false) (one l q)
-    ∙ take_both (same layer l) (has_text layers l) (same image q) (uses users l q)
+take_more = changed_more (λ b u. cond b false u) (λ u. refl) (λ u. refl)
 
 -- ---- the slice of layers, its first one and the rest
 

@@ -8,11 +8,9 @@
 //! ```
 #![tactic(auto)]
 
-mod claim;
-mod drop_image;
-mod finish;
+mod images;
+mod layers;
 mod parts;
-mod register;
 mod registry;
 mod standing;
 mod table;

@@ -8,7 +8,7 @@ use crate::standing::Standing;
 use crate::users::Users;
 use cv_base::Digest;
 use cv_machine::Status;
-use cv_records::Reply;
+use cv_records::{Replied, Reply};
 use cv_seq::NoMemory;
 use cv_tree::Share;
 use std::alloc::Global;
@@ -28,7 +28,7 @@ impl Registry {
     }
 
     /// The registry as it is, with a reply.
-    pub(crate) fn unchanged(&self, reply: Reply) -> Result<(Registry, Reply), NoMemory>
+    pub(crate) fn unchanged(&self, reply: Reply) -> Replied<Registry>
         ensures { IfOk result (λ after. after ≡ (self.now, reply)) }
     {
         Ok((self.share()?, reply))

@@ -10,16 +10,13 @@
 //! ```
 #![tactic(auto)]
 
-mod end;
-mod lines;
 mod print;
 mod round;
-mod run;
+mod rounds;
 mod start;
 
 pub use cv_core::Core;
 pub use cv_hub::{Blank, Identity};
-pub use end::end_input;
-pub use lines::take_line;
 pub use round::Round;
+pub use rounds::{end_input, take_line};
 pub use start::{Service, new_core, started};

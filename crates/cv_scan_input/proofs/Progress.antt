@@ -12,7 +12,7 @@ use Rattle.cv_io.specs.Lines.{Reading, line_then}
 use Rattle.cv_io.specs.Reader.{Reads}
 use Rattle.cv_request.specs.declared.error.RequestFault.{RequestFault}
 use Rattle.cv_scan_input.specs.Answer.{IsRequest, IsRefusedBy, is_input_memory, stop_error}
-use Rattle.cv_scan_input.specs.Request.{RefusedAt, Scan, scan_request_of, request_after, manifest_or, record_lines}
+use Rattle.cv_scan_input.specs.Request.{RefusedAt, Scan, ScanRequest, scan_request_of, request_after, manifest_or, record_lines}
 use Rattle.cv_scan_input.specs.code.Remaining.{Begins, remaining_request, line_after, refused_at}
 use Rattle.cv_scan_input.specs.declared.error.InputError.{InputError}
 use Rattle.cv_scan_input.specs.declared.error.InputError.TheVariants as input
@@ -36,6 +36,16 @@ progress_more manifest (Some whole) (Some rest) None records more number text h 
 progress_more manifest (Some whole) (Some rest) (Some later) records more number text h k e =
     h ∙ ap (remaining_request manifest records number) k ∙ line_taken manifest records more number text later e
 
+-- an error refuses a request if that is what its cause means, or the call ran out of memory
+unless_memory : (Cause : InputError → Type 0) (request : ScanRequest) → ((e : InputError) → Cause e → IsRefusedBy request e)
+    → (e : InputError) → MatchBool (is_input_memory e) ⊤ (Cause e) → IsRefusedBy request e
+unless_memory Cause request refused_by input.NoManifest cause = refused_by input.NoManifest cause
+unless_memory Cause request refused_by (input.Refused at_line refusal) cause = refused_by (input.Refused at_line refusal) cause
+unless_memory Cause request refused_by input.ReadFault cause = tt
+unless_memory Cause request refused_by input.LineTooLong cause = refused_by input.LineTooLong cause
+unless_memory Cause request refused_by input.InputTooLong cause = refused_by input.InputTooLong cause
+unless_memory Cause request refused_by input.NoMemory cause = tt
+
 -- a line was refused, or the call ran out of memory
 pub progress_refused : (manifest : Manifest) (before now next : Option Reading) (records : List Advisory) (number : ℕ) (text : List ℕ) (error : InputError)
     → Progress manifest before now records number → Reads now next (Ok (Text text)) → MatchBool (is_input_memory error) ⊤ (line_after number records text ≡ Err error)
@@ -44,20 +54,12 @@ progress_refused manifest None now next records number text error h k e = tt
 progress_refused manifest (Some whole) None next records number text error h k e = absurd h
 progress_refused manifest (Some whole) (Some rest) None records number text error h k e = absurd k
 progress_refused manifest (Some whole) (Some rest) (Some later) records number text error h k e =
-    by_error error e
+    unless_memory (λ e. line_after number records text ≡ Err e) (remaining_request manifest [] 2 whole) refused_by error e
   where
     refused_by : (e : InputError) → line_after number records text ≡ Err e → IsRefusedBy (remaining_request manifest [] 2 whole) e
     refused_by e refused =
         refused_of (remaining_request manifest [] 2 whole) (remaining_request manifest records number (line_then text later)) e (h ∙ ap (remaining_request manifest records number) k)
         (line_refused manifest records number text later e refused)
-
-    by_error : (e : InputError) → MatchBool (is_input_memory e) ⊤ (line_after number records text ≡ Err e) → IsRefusedBy (remaining_request manifest [] 2 whole) e
-    by_error input.NoManifest refused = refused_by input.NoManifest refused
-    by_error (input.Refused at_line refusal) refused = refused_by (input.Refused at_line refusal) refused
-    by_error input.ReadFault refused = tt
-    by_error input.LineTooLong refused = refused_by input.LineTooLong refused
-    by_error input.InputTooLong refused = refused_by input.InputTooLong refused
-    by_error input.NoMemory refused = tt
 
 -- the error of a line is handed on
 pub progress_handed : (manifest : Manifest) (before : Option Reading) (error : InputError) (result : Result ScanInput InputError)
@@ -108,18 +110,11 @@ pub begins_refused : (before next : Option Reading) (text : List ℕ) (error : I
     → MatchBool (is_input_memory error) ⊤ (refused_at 1 (manifest_or text) ≡ Err error) → Begins before next (Err error)
 begins_refused None next text error k e = tt
 begins_refused (Some whole) None text error k e = absurd k
-begins_refused (Some whole) (Some later) text error k e = by_error error e
+begins_refused (Some whole) (Some later) text error k e =
+    unless_memory (λ e. refused_at 1 (manifest_or text) ≡ Err e) (scan_request_of whole) refused_by error e
   where
     refused_by : (e : InputError) → refused_at 1 (manifest_or text) ≡ Err e → IsRefusedBy (scan_request_of whole) e
     refused_by e refused = refused_of (scan_request_of whole) (scan_request_of (line_then text later)) e (ap scan_request_of k) (bad_manifest (manifest_or text) e later refused)
-
-    by_error : (e : InputError) → MatchBool (is_input_memory e) ⊤ (refused_at 1 (manifest_or text) ≡ Err e) → IsRefusedBy (scan_request_of whole) e
-    by_error input.NoManifest refused = refused_by input.NoManifest refused
-    by_error (input.Refused at_line refusal) refused = refused_by (input.Refused at_line refusal) refused
-    by_error input.ReadFault refused = tt
-    by_error input.LineTooLong refused = refused_by input.LineTooLong refused
-    by_error input.InputTooLong refused = refused_by input.InputTooLong refused
-    by_error input.NoMemory refused = tt
 
 -- there is no line 1
 pub begins_end : (before next : Option Reading) → Reads before next (Ok End) → Begins before next (Err input.NoManifest)

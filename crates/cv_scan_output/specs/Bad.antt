@@ -1,16 +1,17 @@
 -- Why an image has no packages, as JSON (defined by this project). Indices of layers and entries count from 0, lines from 1.
+-- A printed name is the words of the variant's name in lower case with `_` between them.
 use Rattle.std.specs.Prelude.{ℕ, List, codes}
 use Rattle.std.specs.List.{join_with_byte}
 use Rattle.serde_json.specs.Data.{Data, no_members, member, number, object, string, unsigned}
 use Rattle.cv_base.specs.Digest.{digest_text}
 use Rattle.cv_base.specs.Path.{Path}
 use Rattle.cv_base.specs.declared.fault.What.{What}
+use Rattle.cv_base.specs.declared.fault.What.TheVariants.{NoColon, BadField, RepeatedField, LooseContinuation, NoPackage, NoVersion, BadStatus, BadValue, NoName, Repeated}
 use Rattle.cv_overlay.specs.declared.fault.ImageFault.{ImageFault}
 use Rattle.cv_overlay.specs.declared.fault.ImageFault.TheVariants.{NoLayer, BadTree, BadFile, TooLarge}
 use Rattle.cv_overlay.specs.declared.fault.TreeFault.{TreeFault}
 use Rattle.cv_overlay.specs.declared.fault.TreeFault.TheVariants.{Unsorted, NoParent, BadMark, TooMany}
 use Rattle.cv_scan_output.specs.Line.{line_text}
-use Rattle.cv_scan_output.specs.Names.{what_name}
 
 -- a layer that is absent
 abbrev pub no_layer_data : ℕ → Data
@@ -37,6 +38,19 @@ bad_tree_data layer (Unsorted entry) = entry_data layer entry (codes "unsorted")
 bad_tree_data layer (NoParent entry) = entry_data layer entry (codes "no_parent")
 bad_tree_data layer (BadMark entry) = entry_data layer entry (codes "bad_mark")
 bad_tree_data layer TooMany = too_many_data layer
+
+-- the printed name of what is wrong with a line of a package database
+abbrev pub what_name : What → List ℕ
+what_name NoColon = codes "no_colon"
+what_name BadField = codes "bad_field"
+what_name RepeatedField = codes "repeated_field"
+what_name LooseContinuation = codes "loose_continuation"
+what_name NoPackage = codes "no_package"
+what_name NoVersion = codes "no_version"
+what_name BadStatus = codes "bad_status"
+what_name BadValue = codes "bad_value"
+what_name NoName = codes "no_name"
+what_name Repeated = codes "repeated"
 
 -- a package file with a bad line; a path is its components with `/` between them
 abbrev pub bad_file_data : Path → ℕ → What → Data

@@ -4,10 +4,9 @@ ghost use Rattle.cv_scan_output.specs.Bad.{bad_data, bad_file_data, bad_image_da
 
 use crate::line::line_of;
 use crate::names::what_name;
-use crate::object::Object;
 use cv_base::{Digest, NoMemory, RelPath, What};
 use cv_overlay::{ImageFault, TreeFault};
-use serde_json::Value;
+use serde_json::{Value, json};
 use std::alloc::Global;
 
 /// The line of an image that has no packages, with the reason: `{"bad":{..},"image":"..","reply":"bad_image"}`.
@@ -22,13 +21,9 @@ pub fn bad_image_line(alloc: Global, image: &Digest, bad: &ImageFault) -> Result
 fn bad_image_value(alloc: Global, image: &Digest, bad: &ImageFault) -> Result<Value, NoMemory>
     ensures { IfOk result (λ value. view value ≡ bad_image_data image.now bad.now) }
 {
-    Ok(
-        Object::new(alloc)
-            .value(alloc, "bad", bad_value(alloc, bad)?)?
-            .text(alloc, "image", image.text(alloc)?.as_str())?
-            .text(alloc, "reply", "bad_image")?
-            .done(),
-    )
+    let image = image.text(alloc)?;
+    let bad = bad_value(alloc, bad)?;
+    Ok(json!(in alloc; {"bad": bad, "image": image.as_str(), "reply": "bad_image"})?)
 }
 
 /// The JSON of why an image has no packages: a cause, the layer or the path, and what is wrong there.
@@ -46,12 +41,7 @@ pub fn bad_value(alloc: Global, bad: &ImageFault) -> Result<Value, NoMemory>
 fn no_layer_value(alloc: Global, layer: u32) -> Result<Value, NoMemory>
     ensures { IfOk result (λ value. view value ≡ no_layer_data layer) }
 {
-    Ok(
-        Object::new(alloc)
-            .text(alloc, "cause", "no_layer")?
-            .value(alloc, "layer", Value::from(layer))?
-            .done(),
-    )
+    Ok(json!(in alloc; {"cause": "no_layer", "layer": layer})?)
 }
 
 fn bad_tree_value(alloc: Global, layer: u32, fault: TreeFault) -> Result<Value, NoMemory>
@@ -68,48 +58,24 @@ fn bad_tree_value(alloc: Global, layer: u32, fault: TreeFault) -> Result<Value, 
 fn entry_value(alloc: Global, layer: u32, entry: u32, what: &str) -> Result<Value, NoMemory>
     ensures { IfOk result (λ value. view value ≡ entry_data layer entry what.now) }
 {
-    Ok(
-        Object::new(alloc)
-            .text(alloc, "cause", "bad_tree")?
-            .value(alloc, "entry", Value::from(entry))?
-            .value(alloc, "layer", Value::from(layer))?
-            .text(alloc, "what", what)?
-            .done(),
-    )
+    Ok(json!(in alloc; {"cause": "bad_tree", "entry": entry, "layer": layer, "what": what})?)
 }
 
 fn too_many_value(alloc: Global, layer: u32) -> Result<Value, NoMemory>
     ensures { IfOk result (λ value. view value ≡ too_many_data layer) }
 {
-    Ok(
-        Object::new(alloc)
-            .text(alloc, "cause", "bad_tree")?
-            .value(alloc, "layer", Value::from(layer))?
-            .text(alloc, "what", "too_many")?
-            .done(),
-    )
+    Ok(json!(in alloc; {"cause": "bad_tree", "layer": layer, "what": "too_many"})?)
 }
 
 fn bad_file_value(alloc: Global, path: &RelPath, line: u64, what: What) -> Result<Value, NoMemory>
     ensures { IfOk result (λ value. view value ≡ bad_file_data path.now line what) }
 {
-    Ok(
-        Object::new(alloc)
-            .text(alloc, "cause", "bad_file")?
-            .value(alloc, "line", Value::from(line))?
-            .text(alloc, "path", path.text())?
-            .text(alloc, "what", what_name(what))?
-            .done(),
-    )
+    let what = what_name(what);
+    Ok(json!(in alloc; {"cause": "bad_file", "line": line, "path": path.text(), "what": what})?)
 }
 
 fn too_large_value(alloc: Global, path: &RelPath) -> Result<Value, NoMemory>
     ensures { IfOk result (λ value. view value ≡ too_large_data path.now) }
 {
-    Ok(
-        Object::new(alloc)
-            .text(alloc, "cause", "too_large")?
-            .text(alloc, "path", path.text())?
-            .done(),
-    )
+    Ok(json!(in alloc; {"cause": "too_large", "path": path.text()})?)
 }

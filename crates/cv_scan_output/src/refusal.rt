@@ -1,15 +1,13 @@
-ghost use Rattle.std.specs.Prelude.{◌≡◌, IfOk, string_bytes};
+ghost use Rattle.std.specs.Prelude.{◌≡◌, IfOk, codes, string_bytes};
 ghost use Rattle.serde_json.specs.View.{view};
 ghost use Rattle.cv_scan_output.specs.Scan.{line_data, refused_text};
-ghost use Rattle.cv_scan_output.specs.Refusal.{bad_advisory_data, bad_layer_data, bad_request_data, duplicate_data, named_data, no_manifest_text, refusal_data, refusal_text};
+ghost use Rattle.cv_scan_output.specs.Refusal.{bad_advisory_data, bad_request_data, duplicate_data, item_data, named_data, no_manifest_text, refusal_data, refusal_text};
 
 use crate::line::line_of;
-use crate::names::{record_name, request_name};
-use crate::object::Object;
 use cv_base::NoMemory;
 use cv_osv_record::RecordWhat;
 use cv_request::{RequestError, RequestWhat};
-use serde_json::Value;
+use serde_json::{Value, json};
 use std::alloc::Global;
 
 /// The line of an input line that is refused, with the reason: `{"line":2,"refused":"bad_json"}`. Lines are numbered from 1.
@@ -40,12 +38,7 @@ fn refused_line(alloc: Global, line: u64, word: &str) -> Result<String, NoMemory
 fn line_value(alloc: Global, line: u64, word: &str) -> Result<Value, NoMemory>
     ensures { IfOk result (λ value. view value ≡ line_data line word.now) }
 {
-    Ok(
-        Object::new(alloc)
-            .value(alloc, "line", Value::from(line))?
-            .text(alloc, "refused", word)?
-            .done(),
-    )
+    Ok(json!(in alloc; {"line": line, "refused": word})?)
 }
 
 /// The JSON of an input line that is refused.
@@ -66,35 +59,29 @@ fn bad_request_value(alloc: Global, line: u64, what: RequestWhat) -> Result<Valu
     ensures { IfOk result (λ value. view value ≡ bad_request_data line what) }
 {
     match what {
-        RequestWhat::BadLayer(index) => bad_layer_value(alloc, line, index),
-        _ => named_value(alloc, line, request_name(what)),
+        RequestWhat::NotObject => named_value(alloc, line, "not_object"),
+        RequestWhat::BadLane => named_value(alloc, line, "bad_lane"),
+        RequestWhat::BadDo => named_value(alloc, line, "bad_do"),
+        RequestWhat::BadImage => named_value(alloc, line, "bad_image"),
+        RequestWhat::BadManifest => named_value(alloc, line, "bad_manifest"),
+        RequestWhat::BadHash => named_value(alloc, line, "bad_hash"),
+        RequestWhat::BadLayers => named_value(alloc, line, "bad_layers"),
+        RequestWhat::NoLayers => named_value(alloc, line, "no_layers"),
+        RequestWhat::TooManyLayers => named_value(alloc, line, "too_many_layers"),
+        RequestWhat::BadLayer(index) => item_value(alloc, line, "bad_request", index, "bad_layer"),
+        RequestWhat::BadFeed => named_value(alloc, line, "bad_feed"),
+        RequestWhat::BadAdvisories => named_value(alloc, line, "bad_advisories"),
+        RequestWhat::BadNumber => named_value(alloc, line, "bad_number"),
+        RequestWhat::BadSize => named_value(alloc, line, "bad_size"),
+        RequestWhat::BadPage => named_value(alloc, line, "bad_page"),
     }
-}
-
-fn bad_layer_value(alloc: Global, line: u64, index: u32) -> Result<Value, NoMemory>
-    ensures { IfOk result (λ value. view value ≡ bad_layer_data line index) }
-{
-    Ok(
-        Object::new(alloc)
-            .value(alloc, "index", Value::from(index))?
-            .value(alloc, "line", Value::from(line))?
-            .text(alloc, "refused", "bad_request")?
-            .text(alloc, "what", "bad_layer")?
-            .done(),
-    )
 }
 
 /// A bad request that has a name alone.
 fn named_value(alloc: Global, line: u64, what: &str) -> Result<Value, NoMemory>
     ensures { IfOk result (λ value. view value ≡ named_data line what.now) }
 {
-    Ok(
-        Object::new(alloc)
-            .value(alloc, "line", Value::from(line))?
-            .text(alloc, "refused", "bad_request")?
-            .text(alloc, "what", what)?
-            .done(),
-    )
+    Ok(json!(in alloc; {"line": line, "refused": "bad_request", "what": what})?)
 }
 
 fn bad_advisory_value(
@@ -105,25 +92,44 @@ fn bad_advisory_value(
 ) -> Result<Value, NoMemory>
     ensures { IfOk result (λ value. view value ≡ bad_advisory_data line index what) }
 {
-    Ok(
-        Object::new(alloc)
-            .value(alloc, "index", Value::from(index))?
-            .value(alloc, "line", Value::from(line))?
-            .text(alloc, "refused", "bad_advisory")?
-            .text(alloc, "what", record_name(what))?
-            .done(),
-    )
+    match what {
+        RecordWhat::NotObject => record_value(alloc, line, index, "not_object"),
+        RecordWhat::NoId => record_value(alloc, line, index, "no_id"),
+        RecordWhat::NoModified => record_value(alloc, line, index, "no_modified"),
+        RecordWhat::BadWithdrawn => record_value(alloc, line, index, "bad_withdrawn"),
+        RecordWhat::BadAffected => record_value(alloc, line, index, "bad_affected"),
+        RecordWhat::BadEntry => record_value(alloc, line, index, "bad_entry"),
+        RecordWhat::BadPackage => record_value(alloc, line, index, "bad_package"),
+        RecordWhat::BadRange => record_value(alloc, line, index, "bad_range"),
+        RecordWhat::BadEvent => record_value(alloc, line, index, "bad_event"),
+        RecordWhat::BadVersions => record_value(alloc, line, index, "bad_versions"),
+    }
+}
+
+/// A bad record, by its printed name.
+fn record_value(alloc: Global, line: u64, index: u32, what: &str) -> Result<Value, NoMemory>
+    ensures { IfOk result (λ value. view value ≡ item_data line (codes "bad_advisory") index what.now) }
+{
+    item_value(alloc, line, "bad_advisory", index, what)
+}
+
+/// A line that is refused for an item of a list.
+fn item_value(
+    alloc: Global,
+    line: u64,
+    word: &str,
+    index: u32,
+    what: &str,
+) -> Result<Value, NoMemory>
+    ensures { IfOk result (λ value. view value ≡ item_data line word.now index what.now) }
+{
+    Ok(json!(in alloc; {"index": index, "line": line, "refused": word, "what": what})?)
 }
 
 fn duplicate_value(alloc: Global, line: u64, first: u32, second: u32) -> Result<Value, NoMemory>
     ensures { IfOk result (λ value. view value ≡ duplicate_data line first second) }
 {
     Ok(
-        Object::new(alloc)
-            .value(alloc, "first", Value::from(first))?
-            .value(alloc, "line", Value::from(line))?
-            .text(alloc, "refused", "duplicate_id")?
-            .value(alloc, "second", Value::from(second))?
-            .done(),
+        json!(in alloc; {"first": first, "line": line, "refused": "duplicate_id", "second": second})?,
     )
 }

@@ -4,9 +4,8 @@ ghost use Rattle.serde_json.specs.View.{view};
 
 use crate::finding::findings_value;
 use crate::line::line_of;
-use crate::object::Object;
 use cv_base::{Digest, Finding, NoMemory};
-use serde_json::Value;
+use serde_json::{Value, json};
 use std::alloc::Global;
 
 /// The line of a scan that found its image whole: `{"findings":[..],"image":"..","reply":"good"}`.
@@ -21,13 +20,9 @@ pub fn good_line(alloc: Global, image: &Digest, findings: &[Finding]) -> Result<
 fn good_value(alloc: Global, image: &Digest, findings: &[Finding]) -> Result<Value, NoMemory>
     ensures { IfOk result (λ value. view value ≡ good_data image.now findings.now) }
 {
-    Ok(
-        Object::new(alloc)
-            .value(alloc, "findings", findings_value(alloc, findings)?)?
-            .text(alloc, "image", image.text(alloc)?.as_str())?
-            .text(alloc, "reply", "good")?
-            .done(),
-    )
+    let findings = findings_value(alloc, findings)?;
+    let image = image.text(alloc)?;
+    Ok(json!(in alloc; {"findings": findings, "image": image.as_str(), "reply": "good"})?)
 }
 
 /// The line of a layer that could not be read: `{"layer":"..","refused":"desk_fault"}`.
@@ -42,10 +37,6 @@ pub fn desk_fault_line(alloc: Global, layer: &Digest) -> Result<String, NoMemory
 fn layer_value(alloc: Global, layer: &Digest) -> Result<Value, NoMemory>
     ensures { IfOk result (λ value. view value ≡ layer_data layer.now) }
 {
-    Ok(
-        Object::new(alloc)
-            .text(alloc, "layer", layer.text(alloc)?.as_str())?
-            .text(alloc, "refused", "desk_fault")?
-            .done(),
-    )
+    let layer = layer.text(alloc)?;
+    Ok(json!(in alloc; {"layer": layer.as_str(), "refused": "desk_fault"})?)
 }

@@ -4,7 +4,7 @@ ghost use Rattle.cv_base.specs.Answer.{Yields};
 ghost use Rattle.cv_stanza.specs.Blocks.{BlockRules};
 ghost use Rattle.cv_stanza.specs.code.Steps.{Agrees, BlockSteps, closed, line_fault};
 
-use crate::line_error::LineError;
+use crate::line_error::LineResult;
 use std::alloc::Global;
 
 /// A format of files that are blocks between empty lines. Blocks borrow from the file.
@@ -44,15 +44,10 @@ pub trait BlockFormat<'a> {
         ensures { state result ≡ (steps self.now).opening };
 
     /// Takes one more line, which is not empty.
-    fn take(&self, block: &mut Self::Block, line: &'a [u8]) -> Result<(), LineError>
+    fn take(&self, block: &mut Self::Block, line: &'a [u8]) -> LineResult
         ensures { Yields line_fault (λ _. state block.new) result ((steps self.now).step (state block.old) line.now) };
 
     /// Ends a block of one line or more: adds what it is read into.
-    fn close(
-        &self,
-        alloc: Global,
-        block: &Self::Block,
-        found: &mut Vec<Self::Item>,
-    ) -> Result<(), LineError>
+    fn close(&self, alloc: Global, block: &Self::Block, found: &mut Vec<Self::Item>) -> LineResult
         ensures { Yields line_fault (λ _. found.new.items) result (closed (steps self.now) (state block.now) found.old.items) };
 }

@@ -12,5 +12,5 @@ mod line_error;
 mod reader;
 
 pub use format::BlockFormat;
-pub use line_error::LineError;
+pub use line_error::{LineError, LineResult};
 pub use reader::read_blocks;

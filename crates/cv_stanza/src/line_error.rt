@@ -17,6 +17,9 @@ pub enum LineError {
     NoMemory,
 }
 
+/// Nothing, or why a line was refused.
+pub type LineResult = Result<(), LineError>;
+
 impl LineError {
     /// The error of a file with this line.
     pub fn at(self, line: u64) -> ReadBad

@@ -5,13 +5,12 @@ ghost use Rattle.cv_steps.specs.Core.{IsRegular, counted};
 use crate::machine::Machine;
 use cv_desk::Desk;
 use cv_notice::{NoNotification, Notices};
-use cv_records::Reply;
-use cv_seq::NoMemory;
+use cv_records::{Replied, Reply};
 use cv_tree::{Share, Shared};
 use std::alloc::Global;
 
 impl<D: Desk + Drop> Machine<D> {
-    pub(crate) fn ack(&self, alloc: Global, number: u64) -> Result<(Machine<D>, Reply), NoMemory>
+    pub(crate) fn ack(&self, alloc: Global, number: u64) -> Replied<Machine<D>>
         requires room { self.now.count < 2 ^ 63 }
         ensures { IfOk result (λ after. after ≡ counted self.now (ack self.now.state number)) }
     {
@@ -24,12 +23,7 @@ impl<D: Desk + Drop> Machine<D> {
     }
 
     /// The machine after an event that leaves these notifications, with its reply.
-    fn with_notices(
-        &self,
-        alloc: Global,
-        notices: Notices,
-        reply: Reply,
-    ) -> Result<(Machine<D>, Reply), NoMemory>
+    fn with_notices(&self, alloc: Global, notices: Notices, reply: Reply) -> Replied<Machine<D>>
         requires room { self.now.count < 2 ^ 63 }
         requires regular { IsRegular (record self.now { state = record self.now.state { notifications = notices } }) }
         ensures { IfOk result (λ after. after ≡ counted self.now (record self.now.state { notifications = notices }, reply)) }

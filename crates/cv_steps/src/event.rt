@@ -68,8 +68,9 @@ impl<D: Desk> Event<D> {
 }
 
 impl<D: Desk + Drop> Event<D> {
-    /// The machine after this event, with its reply.
-    pub(crate) fn after<L: Ledger>(
+    /// The machine after this event, with its reply. The machine before it stays as it is, also if memory runs out. What an update
+    /// does is stated if the type of the desks says of each layer what it has; the other events do not depend on that.
+    pub fn after<L: Ledger>(
         self,
         alloc: Global,
         machine: &Machine<D>,

@@ -3,19 +3,16 @@
 //!
 //! ```text
 //! let machine = Machine::<D>::new(alloc, Limits { images: MAX_IMAGES, feeds: MAX_FEEDS })?;
-//! let (machine, reply) = machine.next(alloc, Event::Register(manifest), &mut steps)?;
+//! let (machine, reply) = Event::Register(manifest).after(alloc, &machine, &mut steps)?;
 //! ```
 #![tactic(auto)]
 
 mod ack;
-mod claim;
-mod drop_image;
 mod event;
-mod index;
+mod images;
+mod layers;
 mod machine;
 mod parts;
-mod register;
-mod step;
 mod update;
 
 pub use event::Event;

@@ -7,8 +7,7 @@ use crate::machine::Machine;
 use cv_desk::Desk;
 use cv_inventory::Inventory;
 use cv_notice::Notices;
-use cv_records::Reply;
-use cv_seq::NoMemory;
+use cv_records::{Replied, Reply};
 use cv_tree::{Share, Shared};
 
 impl<D: Desk + Drop> Machine<D> {
@@ -31,7 +30,7 @@ impl<D: Desk + Drop> Machine<D> {
     }
 
     /// The machine after an event that changes nothing, with its reply.
-    pub(crate) fn unchanged(&self, reply: Reply) -> Result<(Machine<D>, Reply), NoMemory>
+    pub(crate) fn unchanged(&self, reply: Reply) -> Replied<Machine<D>>
         requires room { self.now.count < 2 ^ 63 }
         ensures { IfOk result (λ after. after ≡ counted self.now (self.now.state, reply)) }
     {
@@ -43,7 +42,7 @@ impl<D: Desk + Drop> Machine<D> {
         &self,
         inventory: Inventory<D>,
         reply: Reply,
-    ) -> Result<(Machine<D>, Reply), NoMemory>
+    ) -> Replied<Machine<D>>
         requires room { self.now.count < 2 ^ 63 }
         ensures { IfOk result (λ after. after ≡ counted self.now (holding self.now.state inventory, reply)) }
     {

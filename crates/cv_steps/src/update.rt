@@ -11,7 +11,7 @@ use cv_base::{Advisory, Row, Steps};
 use cv_desk::Desk;
 use cv_inventory::Inventory;
 use cv_notice::Notices;
-use cv_records::Reply;
+use cv_records::{Replied, Reply};
 use cv_seq::{NoMemory, Seq, Text};
 use cv_tree::{Share, Shared};
 use std::alloc::Global;
@@ -24,7 +24,7 @@ impl<D: Desk + Drop> Machine<D> {
         feed: Text,
         records: Seq<Advisory>,
         steps: &mut Steps<L>,
-    ) -> Result<(Machine<D>, Reply), NoMemory>
+    ) -> Replied<Machine<D>>
         requires room { self.now.count < 2 ^ 63 }
         ensures stepped { IsKnown D.tree → IfOk result (λ after. after ≡ counted self.now (update (trees_of D.tree) self.now.state feed records)) }
         ensures count { IfOk result (λ after. after.0.count ≡ self.now.count + 1) }
@@ -37,12 +37,7 @@ impl<D: Desk + Drop> Machine<D> {
     }
 
     /// The machine after an update that leaves this inventory and has these rows.
-    fn updated(
-        &self,
-        alloc: Global,
-        inventory: Inventory<D>,
-        rows: Seq<Row>,
-    ) -> Result<(Machine<D>, Reply), NoMemory>
+    fn updated(&self, alloc: Global, inventory: Inventory<D>, rows: Seq<Row>) -> Replied<Machine<D>>
         requires room { self.now.count < 2 ^ 63 }
         ensures { IfOk result (λ after. after ≡ counted self.now (updated (holding self.now.state inventory) inventory.feeds rows)) }
     {

@@ -110,42 +110,27 @@ filter_ascends p (e ∷ es) h = by_test (p e) (filter_ascends p es h.2) where
   by_test true rest = (h.0, all_kept (Precedes e) p es h.1, rest)
   by_test false rest = rest
 
+-- an entry that adds nothing may be kept or not
+skipped : {A : Type 0} (f : List Entry → A) (kept : Bool) (e : Entry) (es : List Entry) → f (e ∷ es) ≡ f es → f (cond kept (e ∷ es) es) ≡ f es
+skipped f true e es skips = skips
+skipped f false e es skips = refl
+
+-- an entry that adds an item adds it if it is kept
+given : {A : Type 0} (f : List Entry → List A) (kept : Bool) (e : Entry) (item : A) (es : List Entry) (items : List A) → f (e ∷ es) ≡ item ∷ f es → f es ≡ items
+    → f (cond kept (e ∷ es) es) ≡ cond kept (item ∷ items) items
+given f true e item es items gives rest = gives ∙ ap (λ items. item ∷ items) rest
+given f false e item es items gives rest = rest
+
 -- the events of some entries are those events
 pub events_filter : (p : Entry → Bool) (es : List Entry) → events_of (filter p es) ≡ filter (λ event. p (entry.Event event)) (events_of es)
 events_filter p [] = refl
-events_filter p (entry.Refused line error ∷ es) = by_test (p (entry.Refused line error)) (events_filter p es) where
-  by_test : (b : Bool) → events_of (filter p es) ≡ filter (λ event. p (entry.Event event)) (events_of es)
-      → events_of (cond b (entry.Refused line error ∷ filter p es) (filter p es)) ≡ filter (λ event. p (entry.Event event)) (events_of es)
-  by_test true rest = rest
-  by_test false rest = rest
-events_filter p (entry.Event event ∷ es) = by_test (p (entry.Event event)) (events_filter p es) where
-  by_test : (b : Bool) → events_of (filter p es) ≡ filter (λ event. p (entry.Event event)) (events_of es)
-      → events_of (cond b (entry.Event event ∷ filter p es) (filter p es))
-      ≡ cond b (event ∷ filter (λ event. p (entry.Event event)) (events_of es)) (filter (λ event. p (entry.Event event)) (events_of es))
-  by_test true rest = ap (λ events. event ∷ events) rest
-  by_test false rest = rest
-events_filter p (entry.Read read ∷ es) = by_test (p (entry.Read read)) (events_filter p es) where
-  by_test : (b : Bool) → events_of (filter p es) ≡ filter (λ event. p (entry.Event event)) (events_of es)
-      → events_of (cond b (entry.Read read ∷ filter p es) (filter p es)) ≡ filter (λ event. p (entry.Event event)) (events_of es)
-  by_test true rest = rest
-  by_test false rest = rest
+events_filter p (entry.Refused line error ∷ es) = skipped events_of (p (entry.Refused line error)) (entry.Refused line error) (filter p es) refl ∙ events_filter p es
+events_filter p (entry.Read read ∷ es) = skipped events_of (p (entry.Read read)) (entry.Read read) (filter p es) refl ∙ events_filter p es
+events_filter p (entry.Event event ∷ es) = given events_of (p (entry.Event event)) (entry.Event event) event (filter p es) _ refl (events_filter p es)
 
 -- the reads of some entries are those reads
 pub reads_filter : (p : Entry → Bool) (es : List Entry) → reads_of (filter p es) ≡ filter (λ read. p (entry.Read read)) (reads_of es)
 reads_filter p [] = refl
-reads_filter p (entry.Refused line error ∷ es) = by_test (p (entry.Refused line error)) (reads_filter p es) where
-  by_test : (b : Bool) → reads_of (filter p es) ≡ filter (λ read. p (entry.Read read)) (reads_of es)
-      → reads_of (cond b (entry.Refused line error ∷ filter p es) (filter p es)) ≡ filter (λ read. p (entry.Read read)) (reads_of es)
-  by_test true rest = rest
-  by_test false rest = rest
-reads_filter p (entry.Event event ∷ es) = by_test (p (entry.Event event)) (reads_filter p es) where
-  by_test : (b : Bool) → reads_of (filter p es) ≡ filter (λ read. p (entry.Read read)) (reads_of es)
-      → reads_of (cond b (entry.Event event ∷ filter p es) (filter p es)) ≡ filter (λ read. p (entry.Read read)) (reads_of es)
-  by_test true rest = rest
-  by_test false rest = rest
-reads_filter p (entry.Read read ∷ es) = by_test (p (entry.Read read)) (reads_filter p es) where
-  by_test : (b : Bool) → reads_of (filter p es) ≡ filter (λ read. p (entry.Read read)) (reads_of es)
-      → reads_of (cond b (entry.Read read ∷ filter p es) (filter p es))
-      ≡ cond b (read ∷ filter (λ read. p (entry.Read read)) (reads_of es)) (filter (λ read. p (entry.Read read)) (reads_of es))
-  by_test true rest = ap (λ reads. read ∷ reads) rest
-  by_test false rest = rest
+reads_filter p (entry.Refused line error ∷ es) = skipped reads_of (p (entry.Refused line error)) (entry.Refused line error) (filter p es) refl ∙ reads_filter p es
+reads_filter p (entry.Event event ∷ es) = skipped reads_of (p (entry.Event event)) (entry.Event event) (filter p es) refl ∙ reads_filter p es
+reads_filter p (entry.Read read ∷ es) = given reads_of (p (entry.Read read)) (entry.Read read) read (filter p es) _ refl (reads_filter p es)

@@ -204,12 +204,8 @@ request_depth : (line : ℕ) (what : RequestWhat) → depth (bad_request_data li
 request_depth line what = each_request (λ (d : Data). depth d ≡ 1) line (λ index. refl) (λ name. refl) what
 
 refusal_depth : (line : ℕ) (e : RequestError) → depth (refusal_data line e) ≡ 1
-refusal_depth line error.BadJson = refl
 refusal_depth line (error.BadRequest what) = request_depth line what
-refusal_depth line (error.BadAdvisory index what) = refl
-refusal_depth line (error.DuplicateId first second) = refl
-refusal_depth line error.TooManyAdvisories = refl
-refusal_depth line error.NoMemory = refl
+refusal_depth line _ = refl
 
 pub entry_plain : (entry : Entry) → IsPlain 6 (entry_data entry)
 entry_plain (Refused line e) = (refusal_has_none line e, omega (arith, refusal_depth line e))

@@ -187,12 +187,8 @@ request_is : (line : ℕ) (what : RequestWhat) → tag_of (bad_request_data line
 request_is line what = each_request (λ (d : Data). tag_of d ≡ Some (RefusedLine line false)) line (λ index. refl) (λ name. refl) what
 
 refusal_is : (line : ℕ) (e : RequestError) → tag_of (refusal_data line e) ≡ Some (RefusedLine line (is_no_memory_error e))
-refusal_is line error.BadJson = refl
 refusal_is line (error.BadRequest what) = request_is line what
-refusal_is line (error.BadAdvisory index what) = refl
-refusal_is line (error.DuplicateId first second) = refl
-refusal_is line error.TooManyAdvisories = refl
-refusal_is line error.NoMemory = refl
+refusal_is line _ = refl
 
 pub tag_of_entry : (entry : Entry) → tag_of (entry_data entry) ≡ Some (entry_tag entry)
 tag_of_entry (Refused line e) = refusal_is line e

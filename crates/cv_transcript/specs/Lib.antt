@@ -1,7 +1,6 @@
 pub use Rattle.cv_scan_output.specs.Bad
 pub use Rattle.cv_scan_output.specs.Finding
 pub use Rattle.cv_scan_output.specs.Line
-pub use Rattle.cv_scan_output.specs.Names
 pub use Rattle.cv_scan_output.specs.Refusal
 pub use Rattle.cv_scan_output.specs.Scan
 pub mod Entry

@@ -1,5 +1,5 @@
--- The texts of the paths of a generated layer are paths.
-use Rattle.std.specs.Prelude.{◌≡◌, ℕ, zero, suc, ◌+◌, ◌<◌, ◌==◌, ◌≢◌, Bool, true, false, ◌&&◌, nat_lt, cond, is_ok, List, [], ◌∷◌, ◌++◌, length, Ok, Err, refl}
+-- Laws of generated layers: the texts of their paths are paths, and what is shown for the tree of each role holds of each layer.
+use Rattle.std.specs.Prelude.{◌≡◌, ℕ, zero, suc, ◌+◌, ◌<◌, ◌==◌, ◌≢◌, Bool, true, false, ◌&&◌, nat_lt, cond, is_ok, List, [], ◌∷◌, ◌++◌, length, drop, slice_index, Option, Some, None, Ok, Err, refl}
 use Rattle.std.specs.List.{list_all}
 use Rattle.std.proofs.lemmas.Bool.{eqb-false}
 use Rattle.std.proofs.lemmas.Map.Views.{exact_unsigned_eq}
@@ -10,7 +10,7 @@ use Rattle.cv_base.specs.Path.{Path, components, is_component, path_of}
 use Rattle.cv_path.specs.declared.path.PathError.TheVariants.{BadComponent, TooLong}
 use Rattle.cv_path.specs.declared.limits.TheConstants.{MAX_PATH_LEN}
 use Rattle.cv_desk.specs.Stored.{Stored}
-use Rattle.cv_drill_desk.specs.Generated.{directory, file, manifest, manifest_text, npm_package, package_text}
+use Rattle.cv_drill_desk.specs.Generated.{directory, file, generated, manifest, manifest_text, npm_package, number_of, opaque_tree, package_text, package_tree, paragraphs, role_tree, status_file, system_tree, thirty}
 
 -- Tests of all numbers below a bound.
 
@@ -74,3 +74,25 @@ package_more before name version = append_assoc before (directory (package_text 
 
 pub digit_text : (n : ℕ) → n < 10 → encode_utf8 (48 + n) ≡ (48 + n) ∷ []
 digit_text n l = encode_ascii (48 + n) (omega (arith, l))
+
+-- A property of the tree of each role, and of no tree, is one of what is generated.
+
+module _ (P : Option (List Stored) → Type 0) (system : (s : ℕ) → P (Some (system_tree s))) (status : (s : ℕ) → P (Some (status_file (paragraphs s thirty))))
+    (npm : (s : ℕ) → P (Some (package_tree s))) (opaque : P (Some opaque_tree)) (none : P None) where
+  by_role : (is_system is_status is_npm is_opaque : Bool) (s : ℕ)
+      → P (cond is_system (Some (system_tree s)) (cond is_status (Some (status_file (paragraphs s thirty))) (cond is_npm (Some (package_tree s)) (cond is_opaque (Some opaque_tree) None))))
+  by_role true is_status is_npm is_opaque s = system s
+  by_role false true is_npm is_opaque s = status s
+  by_role false false true is_opaque s = npm s
+  by_role false false false true s = opaque
+  by_role false false false false s = none
+
+  by_zeros : (zeros : Bool) (found : Option (List Stored)) → P found → P (cond zeros found None)
+  by_zeros true found h = h
+  by_zeros false found h = none
+
+  pub of_roles : (digest : List ℕ) → P (generated digest)
+  of_roles digest =
+      let role : ℕ = slice_index digest 0 in
+      let s : ℕ = number_of (slice_index digest 1) (slice_index digest 2) (slice_index digest 3) (slice_index digest 4) in
+      by_zeros (list_all (λ byte. byte == 0) (drop 5 digest)) (role_tree role s) (by_role (role == 0) (role == 1) (role == 2) (role == 3) s)

@@ -4,6 +4,7 @@ use Rattle.cv_seq.specs.declared.memory.NoMemory.{NoMemory}
 use Rattle.cv_records.specs.declared.read.Answer.{Answer}
 use Rattle.cv_records.specs.declared.read.Answer.TheVariants as answer
 use Rattle.cv_records.specs.declared.read.ReadEntry.{ReadEntry}
+use Rattle.cv_machine.specs.Answer.{Heads, Page, Read, Report}
 use Rattle.cv_request.specs.declared.request.Act.{Act}
 use Rattle.cv_request.specs.declared.request.Act.TheVariants as act
 use Rattle.cv_legal.specs.declared.taken.Requested.{Requested}
@@ -21,6 +22,12 @@ abbrev pub requested_by : Look → Act
 requested_by (look.Report image) = act.Report image
 requested_by (look.Page number size page) = act.Page number size page
 requested_by look.List = act.List
+
+-- the read as the machine names it
+abbrev pub read_by : Look → Read
+read_by (look.Report image) = Report image
+read_by (look.Page number size page) = Page number size page
+read_by look.List = Heads
 
 -- an answer, or that memory ran out
 abbrev pub answer_of : Result Answer NoMemory → Answer

@@ -8,18 +8,16 @@ fn sent<T: Send + Sync>(value: T) -> T {
 #[test]
 fn name_and_version_are_read(rt: HostRuntime) -> Result<(), Fail> {
     let alloc = rt.alloc();
-    for (text, name, version) in [
+    for (text, [name, version]) in [
         // Members in any order, unknown ones, and members of members, which do not count.
         (
             " {\n  \"private\": true,\n  \"version\": \"0.1\",\n  \"dependencies\": {\"name\": \"z\"},\n  \"name\": \"@s/y\"\n}\n",
-            "@s/y",
-            "0.1",
+            ["@s/y", "0.1"],
         ),
         // Escapes, and of a key that stands twice the last one counts.
         (
             "{\"name\":1,\"version\":\"not a version\",\"name\":\"\\u0078\"}",
-            "x",
-            "not a version",
+            ["x", "not a version"],
         ),
     ] {
         let want = sent(NpmPackage {

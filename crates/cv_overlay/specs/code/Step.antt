@@ -1,12 +1,11 @@
 -- The first fault of a tree, found by one look at the entry before each. It is shown in `proofs/` that this is the
 -- fault of `Fault.antt`, which looks at all entries before.
-use Rattle.std.specs.Prelude.{ℕ, ◌+◌, Bool, true, ◌&&◌, ◌||◌, not, if◌then◌else◌, List, [], ◌∷◌, Option, Some, None}
+use Rattle.std.specs.Prelude.{ℕ, ◌+◌, Bool, true, ◌&&◌, ◌||◌, not, List, [], ◌∷◌, Option, Some, None}
 use Rattle.std.specs.Option.{option_or}
 use Rattle.cv_base.specs.Path.{is_above, same_path, parent_of}
-use Rattle.cv_overlay.specs.Fault.{comes_before, needs_parent}
-use Rattle.cv_overlay.specs.Mark.{Outline, is_bad}
+use Rattle.cv_overlay.specs.Fault.{comes_before, fault_by, needs_parent}
+use Rattle.cv_overlay.specs.Mark.{Outline}
 use Rattle.cv_overlay.specs.declared.fault.TreeFault.{TreeFault}
-use Rattle.cv_overlay.specs.declared.fault.TreeFault.TheVariants.{Unsorted, NoParent, BadMark}
 
 -- an entry stands after the one before it
 abbrev pub follows : Option Outline → Outline → Bool
@@ -21,10 +20,7 @@ stands_by_parent (Some b) e =
 
 -- the fault of the entry at an index, with the entry before it
 abbrev pub fault_after : ℕ → Option Outline → Outline → Option TreeFault
-fault_after i before e =
-    if not (follows before e) then Some (Unsorted i)
-    else (if not (stands_by_parent before e) then Some (NoParent i)
-    else (if is_bad e.path e.is_dir then Some (BadMark i) else None))
+fault_after i before e = fault_by (follows before e) (stands_by_parent before e) i e
 
 -- the first fault of entries of which the first has this index, with the entry before them
 abbrev pub fault_from : ℕ → Option Outline → List Outline → Option TreeFault

@@ -1,5 +1,5 @@
 -- The owners of a fill's deques (defined by this project).
-use Rattle.std.specs.Prelude.{◌≡◌, ℕ, ◌+◌, ◌<◌, List, [], ◌∷◌}
+use Rattle.std.specs.Prelude.{◌≡◌, ℕ, ◌<◌, List, [], ◌∷◌, map}
 use Rattle.std.specs.Global.{Global}
 use Rattle.crossbeam_deque.specs.declared.handles.Worker.{Worker}
 use Rattle.crossbeam_deque.specs.Handles.{worker_deque, worker_flavor, worker_view}
@@ -9,6 +9,7 @@ use Rattle.cv_pool.specs.declared.account.EachOnce.{EachOnce}
 use Rattle.cv_pool.specs.declared.seat.Seat.{Seat}
 use Rattle.cv_pool.specs.Jobs.{weigh}
 use Rattle.cv_pool.specs.code.Tasks.{jobs, marks}
+use Rattle.cv_pool.specs.code.Accounts.{total}
 
 -- a deque with its account
 abbrev pub Owner : Type 0
@@ -38,13 +39,11 @@ HasEnded o = 0 < (owner_account o).ended
 
 -- what the jobs in the accounts of the owners weigh
 abbrev pub owners_weigh : (ℕ → ℕ) → List Owner → ℕ
-owners_weigh h [] = 0
-owners_weigh h (o ∷ os) = weigh h (owner_account o).taken + owners_weigh h os
+owners_weigh h os = total (λ v. weigh h v.taken) (map owner_account os)
 
 -- what the jobs weigh that were dealt to the deques
 abbrev pub owners_dealt : (ℕ → ℕ) → List Owner → ℕ
-owners_dealt h [] = 0
-owners_dealt h (o ∷ os) = weigh h (jobs (owner_account o).pushed) + owners_dealt h os
+owners_dealt h os = total (λ v. weigh h (jobs v.pushed)) (map owner_account os)
 
 -- a step was made at each deque, with an owner and the seat there, in order
 abbrev pub EachSeat : (Owner → Seat → Owner → Type 0) → List Owner → List Seat → List Owner → Type 0

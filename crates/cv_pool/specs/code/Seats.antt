@@ -9,7 +9,7 @@ use Rattle.cv_pool.specs.declared.account.Account.{Account}
 use Rattle.cv_pool.specs.declared.seat.Seat.{Seat}
 use Rattle.cv_pool.specs.Jobs.{weigh, option_weigh}
 use Rattle.cv_pool.specs.code.Tasks.{jobs, marks}
-use Rattle.cv_pool.specs.code.Accounts.{IsWithin}
+use Rattle.cv_pool.specs.code.Accounts.{IsWithin, total}
 
 -- the deque of a seat, and its account
 abbrev pub seat_deque : Seat → (ℕ × ℕ) × Global
@@ -33,13 +33,11 @@ pub record IsSeated (s : Seat) : Type 0 where
 
 -- what the jobs taken at the seats weigh
 abbrev pub seats_weigh : (ℕ → ℕ) → List Seat → ℕ
-seats_weigh h [] = 0
-seats_weigh h (s ∷ ss) = weigh h (seat_account s).taken + seats_weigh h ss
+seats_weigh h ss = total (λ v. weigh h v.taken) (map seat_account ss)
 
 -- what the jobs weigh that were dealt to the deques of the seats
 abbrev pub seats_dealt : (ℕ → ℕ) → List Seat → ℕ
-seats_dealt h [] = 0
-seats_dealt h (s ∷ ss) = weigh h (jobs (seat_account s).pushed) + seats_dealt h ss
+seats_dealt h ss = total (λ v. weigh h (jobs v.pushed)) (map seat_account ss)
 
 -- some deque may have a job, as far as the hand knows
 abbrev pub any_more : List Seat → Bool

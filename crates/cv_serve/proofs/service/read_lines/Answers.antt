@@ -68,22 +68,22 @@ loop-text-preserved g c =
       write_later = omega (arith, before.write_later, c.take_line.ensures.cause.later);
     }
 
-pub returns-in_err-text-clause-limit : goal.returns-in_err-text-clause-limit
-returns-in_err-text-clause-limit g c =
-    taken_from c.args.reader.now.taken c.loop-text.reader c.next.new.self _ _ _ c.next.result c.loop-text.invariant.taken c.next.ensures.step
-    (c.next.ensures.max_input ∙ c.loop-text.invariant.limits.1)
-
 pub returns-in_err-text-clause-taken : goal.returns-in_err-text-clause-taken
 returns-in_err-text-clause-taken g c =
     taken_stop c.args.reader.now.taken c.loop-text.reader c.next.new.self _ _ _ c.in_err-text.field-0.0 c.from_residual.result c.loop-text.invariant.taken c.in_err-text.ensures.step
     (c.next.ensures.max_input ∙ c.loop-text.invariant.limits.1) c.from_residual.ensures.1
 
-pub returns-in_err-take_line-clause-limit : goal.returns-in_err-take_line-clause-limit
-returns-in_err-take_line-clause-limit g c =
-    taken_from c.args.reader.now.taken c.loop-text.reader c.next.new.self _ _ _ c.next.result c.loop-text.invariant.taken c.next.ensures.step
-    (c.next.ensures.max_input ∙ c.loop-text.invariant.limits.1)
-
 pub returns-in_err-text-clause-front : goal.returns-in_err-text-clause-front
 returns-in_err-text-clause-front g c =
     stop_given c.loop-text.reader c.next.new.self _ _ _ (c.next.ensures.max_line ∙ c.loop-text.invariant.limits.0) c.in_err-text.field-0.0 c.from_residual.result c.loop-text.invariant.given
     c.in_err-text.ensures.step (c.next.ensures.max_input ∙ c.loop-text.invariant.limits.1) c.from_residual.ensures.1
+
+pub returns-in_err-text-clause-limit : goal.returns-in_err-text-clause-limit
+returns-in_err-text-clause-limit g c =
+    taken_from c.args.reader.now.taken c.loop-text.reader c.next.new.self _ _ _ c.next.result c.loop-text.invariant.taken c.next.ensures.step
+    (c.next.ensures.max_input ∙ c.loop-text.invariant.limits.1)
+
+pub returns-in_err-take_line-clause-limit : goal.returns-in_err-take_line-clause-limit
+returns-in_err-take_line-clause-limit g c =
+    taken_from c.args.reader.now.taken c.loop-text.reader c.next.new.self _ _ _ c.next.result c.loop-text.invariant.taken c.next.ensures.step
+    (c.next.ensures.max_input ∙ c.loop-text.invariant.limits.1)
