@@ -78,6 +78,13 @@ example() {
 # makes the folder of bench/data/ for what the script NAME generates, and prints where it is
 data_folder() { mkdir -p "$top/bench/data/$1" && echo "$top/bench/data/$1"; }
 
+# makes $work, a folder for what a script writes that is gone when it ends, and enters it
+enter_work_folder() {
+    work=$(mktemp -d)
+    trap 'rm -rf "$work"' EXIT
+    cd "$work" || return
+}
+
 # the 64 digits that stand for a word, as the name of a layer or an image
 digest() { printf %s "$1" | sha256sum | cut -c1-64; }
 
@@ -101,6 +108,14 @@ record() {
 entry() {
     printf '{"package":{"ecosystem":"%s","name":"%s"},"ranges":[{"type":"%s","events":[{"introduced":"0"}%s]}]}' \
         "$1" "$2" "$([ "$1" = npm ] && echo SEMVER || echo ECOSYSTEM)" "${3:+,{\"fixed\":\"$3\"\}}"
+}
+
+# prints $1 OSV records with commas between them, whose ids are in no order; $2 are further members of each
+osv_records() {
+    awk -v n="$1" -v more="${2:-}" 'BEGIN {
+        for (i = 0; i < n; i++)
+            printf "%s{\"id\":\"DSA-%d-1\",\"modified\":\"2024-01-01T00:00:00Z\",%s\"affected\":[{\"package\":{\"ecosystem\":\"Debian:12\",\"name\":\"package-%d\"},\"ranges\":[{\"type\":\"ECOSYSTEM\",\"events\":[{\"introduced\":\"0\"},{\"fixed\":\"1.%d-1\"}]}],\"versions\":[\"1.0-1\"]}]}", i ? "," : "", i * 7919 % 1000003, more, i % 5000, i
+    }'
 }
 
 # runs a command from the file $1 into the file $2, and leaves in $seconds the processor time that it took, which other work on the

@@ -27,14 +27,11 @@ requests() {
         }'
 }
 
-# update N: an update of N records, whose ids are in no order
+# update N: an update of N records
 update() {
-    awk -v n="$1" 'BEGIN {
-        printf "{\"do\":\"update\",\"feed\":\"debian\",\"advisories\":["
-        for (i = 0; i < n; i++)
-            printf "%s{\"id\":\"DSA-%d-1\",\"modified\":\"2024-01-01T00:00:00Z\",\"summary\":\"a summary of the flaw, which is not read by the service\",\"affected\":[{\"package\":{\"ecosystem\":\"Debian:12\",\"name\":\"package-%d\"},\"ranges\":[{\"type\":\"ECOSYSTEM\",\"events\":[{\"introduced\":\"0\"},{\"fixed\":\"1.%d-1\"}]}],\"versions\":[\"1.0-1\"]}]}", i ? "," : "", i * 7919 % 1000003, i % 5000, i
-        print "]}"
-    }'
+    printf '{"do":"update","feed":"debian","advisories":['
+    osv_records "$1" '"summary":"a summary of the flaw, which is not read by the service",'
+    echo ']}'
 }
 
 # timed NAME FILE WORK [ARGUMENT]

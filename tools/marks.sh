@@ -6,9 +6,7 @@ set -euo pipefail
 # shellcheck source=bench/common.sh
 . "$(dirname "$0")/../bench/common.sh"
 program=$(build cvwatch)
-work=$(mktemp -d)
-trap 'rm -rf "$work"' EXIT
-cd "$work"
+enter_work_folder
 failed=0
 
 # the folder of a layer

@@ -7,9 +7,7 @@ set -euo pipefail
 # shellcheck source=bench/common.sh
 . "$(dirname "$0")/../bench/common.sh"
 program=$(build cvwatch)
-work=$(mktemp -d)
-trap 'rm -rf "$work"' EXIT
-cd "$work"
+enter_work_folder
 failed=0
 
 # 64 times the digit $1
@@ -22,6 +20,9 @@ whole() { sed -e "s/<a>/sha256:$(digits a)/g" -e "s/<1>/sha256:$(digits 1)/g" -e
 update() {
     printf '{"do":"update","feed":"deb","advisories":[{"id":"X-1","modified":"2024-01-%sT00:00:00Z",%s"affected":[{"package":{"ecosystem":"Debian:12","name":"openssl"},"ranges":[{"type":"ECOSYSTEM","events":[{"introduced":"0"},{"fixed":"%s"}]}]}]}]}\n' "$2" "${3:-}" "$1"
 }
+
+# the line of such an update after $1 events: its generation, its line, and how many rows its notification has
+updated() { printf '{"at":%s,"event":"update","feed":"deb","generation":%s,"lane":0,"line":%s,"reply":"updated","rows":%s}\n' "$@"; }
 
 # compares the file answer and the status $2 with standard input and $3; $1 says what is shown
 expect() {
@@ -81,9 +82,9 @@ $(update 3.0.12-1 01)
 expect 'a notification for each update that changes findings' "$(cat status)" 0 <<EOT
 $registered
 $indexed
-{"at":4,"event":"update","feed":"deb","generation":1,"lane":0,"line":4,"reply":"updated","rows":1}
-{"at":5,"event":"update","feed":"deb","generation":2,"lane":0,"line":6,"reply":"updated","rows":0}
-{"at":6,"event":"update","feed":"deb","generation":3,"lane":0,"line":8,"reply":"updated","rows":1}
+$(updated 4 1 4 1)
+$(updated 5 2 6 0)
+$(updated 6 3 8 1)
 {"at":6,"lane":0,"line":10,"notifications":[{"number":1,"rows":1},{"number":3,"rows":1}],"read":"list","reply":"list"}
 {"at":6,"lane":0,"line":11,"number":3,"page":1,"pages":1,"read":"page","reply":"page","rows":[{"finding":{"advisory":"X-1","arch":"amd64","ecosystem":"Debian:12","feed":"deb","fixed":"3.0.12-1","kind":"deb","name":"libssl3","path":"var/lib/dpkg/status","source":"openssl","source_version":"3.0.9-1","version":"3.0.9-1+b1"},"image":"<1>","reason":"changed"}],"size":10}
 EOT

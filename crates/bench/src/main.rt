@@ -35,10 +35,7 @@ const WORKS: [&str; 11] = [
 ];
 
 fn main(rt: HostRuntime) -> io::Result<()> {
-    let mut arguments = Vec::new(rt.alloc());
-    for argument in env::args(&rt)? {
-        arguments.push(argument)?;
-    }
+    let arguments: Vec<String> = env::args(&rt)?.collect(rt.alloc())?;
     match arguments.as_slice() {
         [_, work, rest @ ..] => report(&rt, work.as_str(), rest),
         _ => report_all(&rt),

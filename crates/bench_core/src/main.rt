@@ -17,29 +17,28 @@ use std::{env, io};
 use timed_core::Cost;
 
 fn main(rt: HostRuntime) -> io::Result<()> {
-    let mut arguments = Vec::new(rt.alloc());
-    for argument in env::args(&rt)? {
-        arguments.push(argument)?;
-    }
+    let arguments: Vec<String> = env::args(&rt)?.collect(rt.alloc())?;
     let plan = Plan {
         images: number(&arguments, 1, 8),
         times: number(&arguments, 2, 2),
         updates: number(&arguments, 3, 1),
     };
     match costs_of(&rt, plan) {
-        Ok(costs) => print_costs(&rt, &costs, arguments.len() > 1),
+        Ok(costs) => {
+            for cost in &costs {
+                print_cost(&rt, cost, arguments.len() > 1)?;
+            }
+            Ok(())
+        }
         Err(NoMemory) => println!(rt; "core: out of memory"),
     }
 }
 
-/// A line for each kind of work: how often it was done, how many rows came of it, and if it is timed the nanoseconds for one.
-fn print_costs(rt: &HostRuntime, costs: &[Cost], timed: bool) -> io::Result<()> {
-    for work in costs {
-        print!(rt; "core {} {} {}", work.name, work.count, work.rows)?;
-        if timed {
-            print!(rt; " {}", work.each())?;
-        }
-        println!(rt; "")?;
+/// The line of a kind of work: how often it was done, how many rows came of it, and if it is timed the nanoseconds for one.
+fn print_cost(rt: &HostRuntime, cost: &Cost, timed: bool) -> io::Result<()> {
+    print!(rt; "core {} {} {}", cost.name, cost.count, cost.rows)?;
+    if timed {
+        print!(rt; " {}", cost.each())?;
     }
-    Ok(())
+    println!(rt; "")
 }

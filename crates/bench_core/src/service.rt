@@ -1,4 +1,5 @@
 ghost use Rattle.std.specs.Prelude.{◌≡◌, ◌<◌};
+ghost use Rattle.cv_core.specs.Core.{IsSound, act_of};
 
 use cv_base::{NoMemory, Steps};
 use cv_core::{Event, MAX_IMAGES};
@@ -42,24 +43,14 @@ fn run<L: Ledger>(rt: &HostRuntime, blank: Blank, plan: Plan) -> Result<Vec<Cost
     requires parts { blank.parts ≡ L.parts }
     requires has_parts { 0 < L.parts }
 {
-    let mut steps = Steps::<L>::open(blank);
-    let mut core = TimedCore::new(rt.alloc())?;
-    follow(rt, &mut core, plan, &mut steps)?;
+    let mut session = Session {
+        rt,
+        core: TimedCore::new(rt.alloc())?,
+        steps: Steps::<L>::open(blank),
+    };
+    session.follow(plan)?;
+    let Session { core, .. } = session;
     Ok(core.into_costs())
-}
-
-/// Does what a plan says. The image that comes and goes has the number after the others.
-fn follow<L: Ledger>(
-    rt: &HostRuntime,
-    core: &mut TimedCore,
-    plan: Plan,
-    steps: &mut Steps<L>,
-) -> Result<(), NoMemory> {
-    let images = images_of(plan);
-    notify(rt, core, plan.times, steps)?;
-    fill(rt, core, 1..images, steps)?;
-    come_and_go(rt, core, images, plan.times, steps)?;
-    update_all(rt, core, plan.updates, steps)
 }
 
 fn images_of(plan: Plan) -> u32 {
@@ -78,102 +69,102 @@ fn records(count: u64, every: u64) -> FeedRecords {
     }
 }
 
-/// Registers and indexes the first image, makes so many notifications about it, and then updates the whole feed.
-fn notify<L: Ledger>(
-    rt: &HostRuntime,
-    core: &mut TimedCore,
-    times: u64,
-    steps: &mut Steps<L>,
-) -> Result<(), NoMemory> {
-    fill(rt, core, 0..1, steps)?;
-    for _ in 0..times {
-        core.update(rt, "update-small", records(1, 1), steps)?;
+/// A core, and the steps that it takes.
+#[derive(Drop)]
+struct Session<'a, L: Ledger> {
+    rt: &'a HostRuntime,
+    core: TimedCore,
+    steps: Steps<L>,
+}
+
+impl<L: Ledger> Session<'_, L> {
+    /// Does what a plan says. The image that comes and goes has the number after the others.
+    fn follow(&mut self, plan: Plan) -> Result<(), NoMemory> {
+        let images = images_of(plan);
+        self.notify(plan.times)?;
+        self.fill(1..images)?;
+        self.come_and_go(images, plan.times)?;
+        self.update_all(plan.updates)
     }
-    core.update(rt, "update-first", records(RECORDS, 1), steps)
-}
 
-/// Registers the images of these numbers, and indexes all layers.
-fn fill<L: Ledger>(
-    rt: &HostRuntime,
-    core: &mut TimedCore,
-    images: Range<u32>,
-    steps: &mut Steps<L>,
-) -> Result<(), NoMemory> {
-    for image in images {
-        let manifest = manifest(rt.alloc(), image)?;
-        core.apply(rt, "first-register", Event::Register(manifest), steps)?;
-    }
-    for layer in core.queued()?.into_vec() {
-        core.apply(rt, "first-claim", Event::Claim(layer, WORKER), steps)?;
-        let facts = core.facts(rt, "index_layer", layer)?;
-        core.apply(rt, "first-indexed", Event::Indexed(facts, WORKER), steps)?;
-    }
-    Ok(())
-}
-
-/// The image of a number comes and goes so many times: with a new layer, and with layers that are indexed. Each time a notification
-/// is acknowledged.
-fn come_and_go<L: Ledger>(
-    rt: &HostRuntime,
-    core: &mut TimedCore,
-    image: u32,
-    times: u64,
-    steps: &mut Steps<L>,
-) -> Result<(), NoMemory> {
-    let facts = image_facts(rt.alloc(), last_layer(image))?;
-    for _ in 0..times {
-        come_new(rt, core, image, &facts, steps)?;
-        come_indexed(rt, core, image, steps)?;
-        core.acknowledge(rt, "ack", steps)?;
-    }
-    Ok(())
-}
-
-/// An image with a new layer comes; the layer is claimed, given back, claimed again and indexed; and the image goes.
-fn come_new<L: Ledger>(
-    rt: &HostRuntime,
-    core: &mut TimedCore,
-    image: u32,
-    facts: &LayerFacts<SampleDesk>,
-    steps: &mut Steps<L>,
-) -> Result<(), NoMemory> {
-    let layer = facts.digest();
-    let manifest = manifest_over(rt.alloc(), image, 0, image)?;
-    core.apply(rt, "register", Event::Register(manifest), steps)?;
-    core.apply(rt, "claim", Event::Claim(layer, WORKER), steps)?;
-    core.apply(rt, "fault", Event::Fault(layer, WORKER), steps)?;
-    core.apply(rt, "claim", Event::Claim(layer, WORKER), steps)?;
-    let event = Event::Indexed(facts.share()?, WORKER);
-    core.apply(rt, "indexed", event, steps)?;
-    core.apply(rt, "drop", Event::DropImage(hash(image)), steps)
-}
-
-/// An image whose layers are indexed comes and goes.
-fn come_indexed<L: Ledger>(
-    rt: &HostRuntime,
-    core: &mut TimedCore,
-    image: u32,
-    steps: &mut Steps<L>,
-) -> Result<(), NoMemory> {
-    let manifest = manifest_over(rt.alloc(), image, 0, 0)?;
-    core.apply(rt, "register-indexed", Event::Register(manifest), steps)?;
-    core.apply(rt, "drop-indexed", Event::DropImage(hash(image)), steps)
-}
-
-/// Updates the feed so many times in each way. Each time a notification is acknowledged.
-fn update_all<L: Ledger>(
-    rt: &HostRuntime,
-    core: &mut TimedCore,
-    times: u64,
-    steps: &mut Steps<L>,
-) -> Result<(), NoMemory> {
-    for (name, every) in UPDATES {
-        core.update(rt, "update-first", records(RECORDS, every), steps)?;
-        core.acknowledge(rt, "ack-rows", steps)?;
+    /// Registers and indexes the first image, makes so many notifications about it, and then updates the whole feed.
+    fn notify(&mut self, times: u64) -> Result<(), NoMemory> {
+        self.fill(0..1)?;
         for _ in 0..times {
-            core.update(rt, name, records(RECORDS, every), steps)?;
-            core.acknowledge(rt, "ack-rows", steps)?;
+            self.update("update-small", records(1, 1))?;
         }
+        self.update("update-first", records(RECORDS, 1))
     }
-    Ok(())
+
+    /// Registers the images of these numbers, and indexes all layers.
+    fn fill(&mut self, images: Range<u32>) -> Result<(), NoMemory> {
+        for image in images {
+            let manifest = manifest(self.rt.alloc(), image)?;
+            self.apply("first-register", Event::Register(manifest))?;
+        }
+        for layer in self.core.queued()?.into_vec() {
+            self.apply("first-claim", Event::Claim(layer, WORKER))?;
+            let facts = self.core.facts(self.rt, "index_layer", layer)?;
+            self.apply("first-indexed", Event::Indexed(facts, WORKER))?;
+        }
+        Ok(())
+    }
+
+    /// The image of a number comes and goes so many times: with a new layer, and with layers that are indexed. Each time a
+    /// notification is acknowledged.
+    fn come_and_go(&mut self, image: u32, times: u64) -> Result<(), NoMemory> {
+        let facts = image_facts(self.rt.alloc(), last_layer(image))?;
+        for _ in 0..times {
+            self.come_new(image, &facts)?;
+            self.come_indexed(image)?;
+            self.acknowledge("ack")?;
+        }
+        Ok(())
+    }
+
+    /// An image with a new layer comes; the layer is claimed, given back, claimed again and indexed; and the image goes.
+    fn come_new(&mut self, image: u32, facts: &LayerFacts<SampleDesk>) -> Result<(), NoMemory> {
+        let layer = facts.digest();
+        let manifest = manifest_over(self.rt.alloc(), image, 0, image)?;
+        self.apply("register", Event::Register(manifest))?;
+        self.apply("claim", Event::Claim(layer, WORKER))?;
+        self.apply("fault", Event::Fault(layer, WORKER))?;
+        self.apply("claim", Event::Claim(layer, WORKER))?;
+        self.apply("indexed", Event::Indexed(facts.share()?, WORKER))?;
+        self.apply("drop", Event::DropImage(hash(image)))
+    }
+
+    /// An image whose layers are indexed comes and goes.
+    fn come_indexed(&mut self, image: u32) -> Result<(), NoMemory> {
+        let manifest = manifest_over(self.rt.alloc(), image, 0, 0)?;
+        self.apply("register-indexed", Event::Register(manifest))?;
+        self.apply("drop-indexed", Event::DropImage(hash(image)))
+    }
+
+    /// Updates the feed so many times in each way. Each time a notification is acknowledged.
+    fn update_all(&mut self, times: u64) -> Result<(), NoMemory> {
+        for (name, every) in UPDATES {
+            self.update("update-first", records(RECORDS, every))?;
+            self.acknowledge("ack-rows")?;
+            for _ in 0..times {
+                self.update(name, records(RECORDS, every))?;
+                self.acknowledge("ack-rows")?;
+            }
+        }
+        Ok(())
+    }
+
+    fn apply(&mut self, name: &'static str, event: Event<SampleDesk>) -> Result<(), NoMemory>
+        requires sound { IsSound (act_of event) }
+    {
+        self.core.apply(self.rt, name, event, &mut self.steps)
+    }
+
+    fn update(&mut self, name: &'static str, records: FeedRecords) -> Result<(), NoMemory> {
+        self.core.update(self.rt, name, records, &mut self.steps)
+    }
+
+    fn acknowledge(&mut self, name: &'static str) -> Result<(), NoMemory> {
+        self.core.acknowledge(self.rt, name, &mut self.steps)
+    }
 }

@@ -62,7 +62,13 @@ fn measured<L: Identity + Send + Sync, W: Threads + Wait + Clock + CpuClock + Sy
     let (hub, seats) = Hub::<SampleDesk, L>::start(alloc, blank, core, SEATS)?;
     let mut lanes = lanes_of(alloc, images, seats)?;
     if let Some(first) = lanes.first_mut() {
-        fill(rt, alloc, &hub, &mut first.seat, images)?;
+        let mut client = Client {
+            rt,
+            alloc,
+            hub: &hub,
+            seat: &mut first.seat,
+        };
+        client.fill(images)?;
     }
     measure_all(rt, alloc, &hub, lanes.as_mut_slice(), images, times)
 }
@@ -110,66 +116,54 @@ fn lanes_of<L: Identity>(
     Ok(lanes)
 }
 
-/// Registers and indexes images, and registers one more for each seat.
-fn fill<L: Identity, W: Wait>(
-    rt: &W,
+/// Submits events of a worker to the hub, at a seat.
+#[derive(Drop)]
+struct Client<'a, L: Identity, W: Wait> {
+    rt: &'a W,
     alloc: Global,
-    hub: &Hub<SampleDesk, L>,
-    seat: &mut Seat<SampleDesk, L>,
-    images: u32,
-) -> Result<(), NoMemory> {
-    for image in 0..images {
-        for layer in register(rt, alloc, hub, seat, image)? {
-            index(rt, alloc, hub, seat, layer)?;
+    hub: &'a Hub<SampleDesk, L>,
+    seat: &'a mut Seat<SampleDesk, L>,
+}
+
+impl<L: Identity, W: Wait> Client<'_, L, W> {
+    /// Registers and indexes images, and registers one more for each seat.
+    fn fill(&mut self, images: u32) -> Result<(), NoMemory> {
+        for image in 0..images {
+            for layer in self.register(image)? {
+                self.index(layer)?;
+            }
         }
+        for image in 0..SEATS {
+            self.register(images.saturating_add(image))?;
+        }
+        Ok(())
     }
-    for image in 0..SEATS {
-        register(rt, alloc, hub, seat, images.saturating_add(image))?;
+
+    /// Registers an image, and gives its layers.
+    fn register(&mut self, image: u32) -> Result<Vec<Digest>, NoMemory> {
+        let manifest = manifest(self.alloc, image)?;
+        let layers = manifest.layers.as_slice().to_vec(self.alloc)?;
+        self.submit(Event::Register(manifest))?;
+        Ok(layers)
     }
-    Ok(())
-}
 
-/// Registers an image, and gives its layers.
-fn register<L: Identity, W: Wait>(
-    rt: &W,
-    alloc: Global,
-    hub: &Hub<SampleDesk, L>,
-    seat: &mut Seat<SampleDesk, L>,
-    image: u32,
-) -> Result<Vec<Digest>, NoMemory> {
-    let manifest = manifest(alloc, image)?;
-    let layers = manifest.layers.as_slice().to_vec(alloc)?;
-    submit(rt, alloc, hub, seat, Event::Register(manifest))?;
-    Ok(layers)
-}
-
-/// Indexes a layer that is not indexed yet.
-fn index<L: Identity, W: Wait>(
-    rt: &W,
-    alloc: Global,
-    hub: &Hub<SampleDesk, L>,
-    seat: &mut Seat<SampleDesk, L>,
-    layer: Digest,
-) -> Result<(), NoMemory> {
-    let reply = submit(rt, alloc, hub, seat, Event::Claim(layer, WORKER))?;
-    if reply == Reply::Claimed {
-        let facts = image_facts(alloc, layer)?;
-        submit(rt, alloc, hub, seat, Event::Indexed(facts, WORKER))?;
+    /// Indexes a layer that is not indexed yet.
+    fn index(&mut self, layer: Digest) -> Result<(), NoMemory> {
+        let reply = self.submit(Event::Claim(layer, WORKER))?;
+        if reply == Reply::Claimed {
+            let facts = image_facts(self.alloc, layer)?;
+            self.submit(Event::Indexed(facts, WORKER))?;
+        }
+        Ok(())
     }
-    Ok(())
-}
 
-fn submit<L: Identity, W: Wait>(
-    rt: &W,
-    alloc: Global,
-    hub: &Hub<SampleDesk, L>,
-    seat: &mut Seat<SampleDesk, L>,
-    event: Event<SampleDesk>,
-) -> Result<Reply, NoMemory>
-    requires sound { IsSound (act_of event) }
-{
-    let receipt = hub.submit(rt, alloc, seat, By::Worker(WORKER), event)?;
-    Ok(receipt.reply)
+    fn submit(&mut self, event: Event<SampleDesk>) -> Result<Reply, NoMemory>
+        requires sound { IsSound (act_of event) }
+    {
+        let by = By::Worker(WORKER);
+        let receipt = self.hub.submit(self.rt, self.alloc, self.seat, by, event)?;
+        Ok(receipt.reply)
+    }
 }
 
 /// How fast so many threads do a task.

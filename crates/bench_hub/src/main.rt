@@ -19,10 +19,7 @@ use sample_data::number;
 use std::{env, io};
 
 fn main(rt: HostRuntime) -> io::Result<()> {
-    let mut arguments = Vec::new(rt.alloc());
-    for argument in env::args(&rt)? {
-        arguments.push(argument)?;
-    }
+    let arguments: Vec<String> = env::args(&rt)?.collect(rt.alloc())?;
     let images = number(&arguments, 1, 10);
     let times = number(&arguments, 2, 100);
     match speeds_of(&rt, rt.alloc(), images, times) {

@@ -20,10 +20,7 @@ use std::{env, io};
 const WORKS: [&str; 3] = ["requests", "json", "lines"];
 
 fn main(rt: HostRuntime) -> io::Result<()> {
-    let mut arguments = Vec::new(rt.alloc());
-    for argument in env::args(&rt)? {
-        arguments.push(argument)?;
-    }
+    let arguments: Vec<String> = env::args(&rt)?.collect(rt.alloc())?;
     if let Some(work) = arguments.get(1) {
         return report(&rt, work.as_str(), number(&arguments, 2, 5));
     }

@@ -111,10 +111,8 @@ fn records_under_a_key_come_by_feed_and_id(rt: HostRuntime) -> Result<(), Fail> 
         let _touched = replaced(alloc, &mut feeds, feed, &rows)?;
     }
     let copy = feeds.copy()?;
-    assert_eq!(rt;
-        listed(alloc, &copy, "curl")?.as_str(),
-        "a X-10,a X-9,b X-2,"
-    );
+    let listed = listed(alloc, &copy, "curl")?;
+    assert_eq!(rt; listed.as_str(), "a X-10,a X-9,b X-2,");
     Ok(())
 }
 

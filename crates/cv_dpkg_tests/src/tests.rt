@@ -4,13 +4,11 @@ use cv_seq::{Seq, Text};
 use std::alloc::Global;
 use std::test::Fail;
 
-fn sent<T: Send + Sync>(value: T) -> T {
-    value
-}
-
 /// The package of this name, version, source, version of the source, and architecture.
-fn package(alloc: Global, texts: [&str; 5]) -> Result<DebPackage, Fail> {
-    let [name, version, source, source_version, arch] = texts;
+fn package(
+    alloc: Global,
+    [name, version, source, source_version, arch]: [&str; 5],
+) -> Result<DebPackage, Fail> {
     Ok(sent(DebPackage {
         name: Text::of(alloc, name)?,
         version: Text::of(alloc, version)?,
@@ -20,37 +18,38 @@ fn package(alloc: Global, texts: [&str; 5]) -> Result<DebPackage, Fail> {
     }))
 }
 
+fn sent<T: Send + Sync>(value: T) -> T {
+    value
+}
+
 #[test]
 fn packages_are_read_as_the_rules_say(rt: HostRuntime) -> Result<(), Fail> {
     let alloc = rt.alloc();
-    for (text, want, what) in [
+    for (text, want) in [
+        // An ordinary paragraph, and one that is half installed.
         (
             "Package: libc6\nStatus: install ok installed\nArchitecture: amd64\nSource: glibc\nVersion: 2.36-9\nDescription: C library\n Text.\n .\n\nPackage: half\nStatus: install reinstreq half-installed\n\n",
             ["libc6", "2.36-9", "glibc", "2.36-9", "amd64"],
-            "an ordinary paragraph, and one that is half installed",
         ),
+        // Names in any case, CRs and blanks at both ends, and no LF at the end.
         (
             "\n \t\r\nPACKAGE:a\r\nversion:\t 1 \t\r\nSource: b(2)\r\nstatus:  install\tok  installed",
             ["a", "1", "b", "2", ""],
-            "names in any case, CRs and blanks at both ends, and no LF at the end",
         ),
+        // Continuation lines of used fields, and the values of unused ones.
         (
             "Package: a\n x\nVersion: 1\n 2\nSource: b  (2)\n\t(3)\nStatus: a b unpacked\n x y z\nX: \x7f(\n",
             ["a", "1", "b", "2", ""],
-            "continuation lines of used fields, and the values of unused ones",
         ),
+        // Configuration that remains, and an empty Source.
         (
             "Package: d\nStatus: deinstall ok config-files\nVersion: 9\n\nPackage: a\nVersion: 1\nStatus: hold ok triggers-awaited\nSource:",
             ["a", "1", "a", "1", ""],
-            "configuration that remains, and an empty Source",
         ),
     ] {
         let want = Seq::of(vec![in alloc; package(alloc, want)?]?);
-        assert_eq!(rt;
-            read_status(alloc, text.as_bytes(), StatusRule::Needed),
-            Ok(want),
-            "{what}"
-        );
+        let packages = read_status(alloc, text.as_bytes(), StatusRule::Needed);
+        assert_eq!(rt; packages, Ok(want), "{text}");
     }
     Ok(())
 }
@@ -67,24 +66,21 @@ fn a_paragraph_may_lack_its_status_if_it_is_optional(rt: HostRuntime) -> Result<
 #[test]
 fn the_fault_of_the_least_faulty_line_is_named(rt: HostRuntime) -> Result<(), Fail> {
     let alloc = rt.alloc();
-    for (text, line, what) in [
-        (" x\nx\n", 1, What::LooseContinuation),
-        ("A: x\n-A\n", 2, What::NoColon),
-        ("a b: x\nx\n", 1, What::BadField),
-        ("A: x\na: y\nx\n", 2, What::RepeatedField),
-        ("Status: install ok Installed\nx\n", 1, What::BadStatus),
-        ("Version: 1\nArchitecture: a b", 2, What::BadValue),
-        ("Source: a (1) b\n", 1, What::BadValue),
-        ("Version: 1\n x\n\nx\n", 2, What::NoPackage),
-        ("Package: a\nVersion: 1\n\nx\n", 2, What::BadStatus),
-        ("Package: a\nStatus: a b unpacked\n\nx", 2, What::NoVersion),
+    for (line, what, text) in [
+        (1, What::LooseContinuation, " x\nx\n"),
+        (2, What::NoColon, "A: x\n-A\n"),
+        (1, What::BadField, "a b: x\nx\n"),
+        (2, What::RepeatedField, "A: x\na: y\nx\n"),
+        (1, What::BadStatus, "Status: install ok Installed\nx\n"),
+        (2, What::BadValue, "Version: 1\nArchitecture: a b"),
+        (1, What::BadValue, "Source: a (1) b\n"),
+        (2, What::NoPackage, "Version: 1\n x\n\nx\n"),
+        (2, What::BadStatus, "Package: a\nVersion: 1\n\nx\n"),
+        (2, What::NoVersion, "Package: a\nStatus: a b unpacked\n\nx"),
     ] {
-        let bad = Err(ReadBad::Bad(FileBad { line, what }));
-        assert_eq!(rt;
-            read_status(alloc, text.as_bytes(), StatusRule::Needed),
-            bad,
-            "{text}"
-        );
+        let packages = read_status(alloc, text.as_bytes(), StatusRule::Needed);
+        let bad = FileBad { line, what };
+        assert_eq!(rt; packages, Err(ReadBad::Bad(bad)), "{text}");
     }
     Ok(())
 }

@@ -46,20 +46,17 @@ fn an_image_has_1_to_128_layers(rt: HostRuntime) -> Result<(), Fail> {
 
 #[test]
 fn the_first_fault_of_a_manifest_is_the_answer(rt: HostRuntime) -> Result<(), Fail> {
-    for (text, want) in [
-        ("[]", RequestWhat::BadManifest),
-        ("{\"hash\":null,\"layers\":null}", RequestWhat::BadHash),
+    for (want, text) in [
+        (RequestWhat::BadManifest, "[]"),
+        (RequestWhat::BadHash, r#"{"hash":null,"layers":null}"#),
+        (RequestWhat::BadHash, r#"{"hash":"sha256:aa","layers":[]}"#),
         (
-            "{\"hash\":\"sha256:aa\",\"layers\":[]}",
-            RequestWhat::BadHash,
-        ),
-        (
-            "{\"hash\":\"sha256:aaaaaaaaaaaaaaaaaaaaaaaaaaaaaaaaaaaaaaaaaaaaaaaaaaaaaaaaaaaaaaaa\"}",
             RequestWhat::BadLayers,
+            r#"{"hash":"sha256:aaaaaaaaaaaaaaaaaaaaaaaaaaaaaaaaaaaaaaaaaaaaaaaaaaaaaaaaaaaaaaaa"}"#,
         ),
         (
-            "{\"hash\":\"sha256:aaaaaaaaaaaaaaaaaaaaaaaaaaaaaaaaaaaaaaaaaaaaaaaaaaaaaaaaaaaaaaaa\",\"layers\":[{\"hash\":\"sha256:aaaaaaaaaaaaaaaaaaaaaaaaaaaaaaaaaaaaaaaaaaaaaaaaaaaaaaaaaaaaaaaa\"},{},7]}",
             RequestWhat::BadLayer(1),
+            r#"{"hash":"sha256:aaaaaaaaaaaaaaaaaaaaaaaaaaaaaaaaaaaaaaaaaaaaaaaaaaaaaaaaaaaaaaaa","layers":[{"hash":"sha256:aaaaaaaaaaaaaaaaaaaaaaaaaaaaaaaaaaaaaaaaaaaaaaaaaaaaaaaaaaaaaaaa"},{},7]}"#,
         ),
     ] {
         assert_eq!(rt;

@@ -1,34 +1,31 @@
-use cv_base::{Content, Kind, Node, RelPath, Seq, Tree, TreeEntry};
+use cv_base::{Content, Node, RelPath, Seq, Tree, TreeEntry};
 use cv_overlay::{OverlayError, Root, TreeFault};
 use std::alloc::Global;
 use std::test::Fail;
 
-/// The entries of a layer.
-type Rows = &'static [(&'static str, Kind)];
-
-fn node(kind: Kind) -> Node {
-    match kind {
-        Kind::Dir => Node::Dir,
-        Kind::File => Node::File(Content::Unread),
-        Kind::Other => Node::Other,
-    }
+/// The entry of a path, which has `/` after a directory and `?` after what is neither a directory nor a file.
+fn entry(alloc: Global, row: &str) -> Result<TreeEntry, Fail> {
+    let (text, node) = match (row.strip_suffix('/'), row.strip_suffix('?')) {
+        (Some(text), _) => (text, Node::Dir),
+        (None, Some(text)) => (text, Node::Other),
+        (None, None) => (row, Node::File(Content::Unread)),
+    };
+    let path = RelPath::read(alloc, text)?;
+    Ok(TreeEntry { path, node })
 }
 
-fn tree(alloc: Global, rows: Rows) -> Result<Tree, Fail> {
+/// A tree from one line: its paths.
+fn tree(alloc: Global, rows: &str) -> Result<Tree, Fail> {
     let mut entries = Vec::new(alloc);
-    for (text, kind) in rows {
-        let path = RelPath::read(alloc, text)?;
-        entries.push(TreeEntry {
-            path,
-            node: node(*kind),
-        })?;
+    for row in rows.split_whitespace() {
+        entries.push(entry(alloc, row)?)?;
     }
     Ok(Tree {
         entries: Seq::of(entries),
     })
 }
 
-/// A root as one line: its paths, with `/` after a directory and `?` after what is no file either.
+/// A root as one line: its paths, written as those of a tree.
 fn line(alloc: Global, root: &Root) -> Result<String, Fail> {
     let mut all = String::new(alloc);
     for entry in root.entries() {
@@ -43,53 +40,28 @@ fn line(alloc: Global, root: &Root) -> Result<String, Fail> {
     Ok(all)
 }
 
-const EMPTY: Rows = &[];
+const EMPTY: &str = "";
 
-const BASE: Rows = &[
-    ("etc", Kind::Dir),
-    ("etc/os-release", Kind::Other),
-    ("var", Kind::Dir),
-    ("var/lib", Kind::Dir),
-    ("var/lib/status", Kind::File),
-];
+const BASE: &str = "etc/ etc/os-release? var/ var/lib/ var/lib/status";
 
-const HIDDEN: Rows = &[
-    ("var", Kind::Dir),
-    ("var/lib", Kind::Dir),
-    ("var/lib/.wh.status", Kind::File),
-];
+const HIDDEN: &str = "var/ var/lib/ var/lib/.wh.status";
 
-const REPLACED: Rows = &[
-    ("var", Kind::Dir),
-    ("var/lib", Kind::Dir),
-    ("var/lib/.wh.status", Kind::File),
-    ("var/lib/status", Kind::Other),
-];
+const REPLACED: &str = "var/ var/lib/ var/lib/.wh.status var/lib/status?";
 
-const MODULES: Rows = &[
-    ("app", Kind::Dir),
-    ("app/node_modules", Kind::Dir),
-    ("app/node_modules/x", Kind::Dir),
-    ("app/node_modules/x/package.json", Kind::File),
-    ("srv", Kind::Dir),
-    ("srv/package.json", Kind::File),
-];
+const MODULES: &str =
+    "app/ app/node_modules/ app/node_modules/x/ app/node_modules/x/package.json srv/ srv/package.json";
 
-const OPAQUE: Rows = &[
-    ("app", Kind::Dir),
-    ("app/node_modules", Kind::Dir),
-    ("app/node_modules/.wh..wh..opq", Kind::File),
-];
+const OPAQUE: &str = "app/ app/node_modules/ app/node_modules/.wh..wh..opq";
 
-const ONE_FILE: Rows = &[("app", Kind::File)];
+const ONE_FILE: &str = "app";
 
-const BAD: Rows = &[("etc", Kind::File), ("etc/x", Kind::File)];
+const BAD: &str = "etc etc/x";
 
 /// Lays layers on an empty root, and returns what came of the last one.
 fn lay_all(
     alloc: Global,
     root: &mut Root,
-    layers: &[Rows],
+    layers: &[&str],
 ) -> Result<Result<(), OverlayError>, Fail> {
     let mut last = Ok(());
     for layer in layers {
@@ -103,7 +75,7 @@ fn layers_are_laid_one_on_the_other(rt: HostRuntime) -> Result<(), Fail> {
     let alloc = rt.alloc();
     let good = "etc/ etc/os-release? var/ var/lib/ var/lib/status ";
     let bad = Err(OverlayError::BadTree(TreeFault::NoParent(1)));
-    let cases: [(&str, [Rows; 3], Result<(), OverlayError>, &str); 7] = [
+    let cases: [(&str, [&str; 3], Result<(), OverlayError>, &str); 7] = [
         ("one layer", [EMPTY, EMPTY, BASE], Ok(()), good),
         (
             "a whiteout hides a lower file",

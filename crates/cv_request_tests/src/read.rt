@@ -3,113 +3,106 @@ use cv_request::{Act, Request, RequestError, RequestFault, read_request};
 use std::alloc::Global;
 use std::test::Fail;
 
-/// Lines that are no requests, each with its first fault: some have further faults. The last ones are no JSON, or updates whose
-/// records are refused.
-const REFUSED: &[(&str, &str)] = &[
-    ("7", "BadRequest(NotObject)"),
-    (r#"[{"do":"list"}]"#, "BadRequest(NotObject)"),
-    (r#"{"lane":8,"do":"list"}"#, "BadRequest(BadLane)"),
-    (r#"{"lane":256,"do":"list"}"#, "BadRequest(BadLane)"),
-    (r#"{"lane":-1,"do":"list"}"#, "BadRequest(BadLane)"),
-    (r#"{"lane":1.0,"do":"list"}"#, "BadRequest(BadLane)"),
-    (r#"{"lane":"1","do":"list"}"#, "BadRequest(BadLane)"),
-    (r#"{"lane":null,"do":"list"}"#, "BadRequest(BadLane)"),
-    (r#"{"lane":8,"do":7}"#, "BadRequest(BadLane)"),
-    ("{}", "BadRequest(BadDo)"),
-    (r#"{"do":null}"#, "BadRequest(BadDo)"),
-    (r#"{"do":"List"}"#, "BadRequest(BadDo)"),
-    (r#"{"do":"","image":7}"#, "BadRequest(BadDo)"),
-    (r#"{"do":"list","do":"lists"}"#, "BadRequest(BadDo)"),
-    (r#"{"do":"register"}"#, "BadRequest(BadManifest)"),
+/// The faults of lines that are no requests, each with lines of which it is the first fault: some have further faults. The last
+/// faults are those of lines that are no JSON, and of updates whose records are refused.
+const REFUSED: &[(&str, &[&str])] = &[
+    ("BadRequest(NotObject)", &["7", r#"[{"do":"list"}]"#]),
     (
-        r#"{"do":"register","manifest":null}"#,
+        "BadRequest(BadLane)",
+        &[
+            r#"{"lane":8,"do":"list"}"#,
+            r#"{"lane":256,"do":"list"}"#,
+            r#"{"lane":-1,"do":"list"}"#,
+            r#"{"lane":1.0,"do":"list"}"#,
+            r#"{"lane":"1","do":"list"}"#,
+            r#"{"lane":null,"do":"list"}"#,
+            r#"{"lane":8,"do":7}"#,
+        ],
+    ),
+    (
+        "BadRequest(BadDo)",
+        &[
+            "{}",
+            r#"{"do":null}"#,
+            r#"{"do":"List"}"#,
+            r#"{"do":"","image":7}"#,
+            r#"{"do":"list","do":"lists"}"#,
+        ],
+    ),
+    (
         "BadRequest(BadManifest)",
+        &[
+            r#"{"do":"register"}"#,
+            r#"{"do":"register","manifest":null}"#,
+        ],
     ),
     (
-        r#"{"do":"register","manifest":{"layers":7}}"#,
         "BadRequest(BadHash)",
+        &[r#"{"do":"register","manifest":{"layers":7}}"#],
     ),
-    (r#"{"do":"drop"}"#, "BadRequest(BadImage)"),
     (
-        r#"{"do":"drop","image":"sha256:11"}"#,
         "BadRequest(BadImage)",
+        &[
+            r#"{"do":"drop"}"#,
+            r#"{"do":"drop","image":"sha256:11"}"#,
+            r#"{"do":"report","image":null}"#,
+        ],
     ),
-    (r#"{"do":"report","image":null}"#, "BadRequest(BadImage)"),
-    (r#"{"do":"update","advisories":7}"#, "BadRequest(BadFeed)"),
     (
-        r#"{"do":"update","feed":"","advisories":[]}"#,
         "BadRequest(BadFeed)",
+        &[
+            r#"{"do":"update","advisories":7}"#,
+            r#"{"do":"update","feed":"","advisories":[]}"#,
+            r#"{"do":"update","feed":"a/b","advisories":[]}"#,
+            r#"{"do":"update","feed":"Debian","advisories":[]}"#,
+            r#"{"do":"update","feed":"aaaaaaaaaaaaaaaaaaaaaaaaaaaaaaaaaaaaaaaaaaaaaaaaaaaaaaaaaaaaaaaaa","advisories":[]}"#,
+        ],
     ),
     (
-        r#"{"do":"update","feed":"a/b","advisories":[]}"#,
-        "BadRequest(BadFeed)",
-    ),
-    (
-        r#"{"do":"update","feed":"Debian","advisories":[]}"#,
-        "BadRequest(BadFeed)",
-    ),
-    (
-        r#"{"do":"update","feed":"aaaaaaaaaaaaaaaaaaaaaaaaaaaaaaaaaaaaaaaaaaaaaaaaaaaaaaaaaaaaaaaaa","advisories":[]}"#,
-        "BadRequest(BadFeed)",
-    ),
-    (r#"{"do":"update","feed":"a"}"#, "BadRequest(BadAdvisories)"),
-    (
-        r#"{"do":"update","feed":"a","advisories":null}"#,
         "BadRequest(BadAdvisories)",
+        &[
+            r#"{"do":"update","feed":"a"}"#,
+            r#"{"do":"update","feed":"a","advisories":null}"#,
+        ],
     ),
     (
-        r#"{"do":"page","size":0,"page":0}"#,
         "BadRequest(BadNumber)",
+        &[
+            r#"{"do":"page","size":0,"page":0}"#,
+            r#"{"do":"page","number":-0,"size":1,"page":1}"#,
+            r#"{"do":"ack"}"#,
+            r#"{"do":"ack","number":1e3}"#,
+            r#"{"do":"ack","number":1.0}"#,
+            r#"{"do":"ack","number":18446744073709551616}"#,
+        ],
     ),
     (
-        r#"{"do":"page","number":-0,"size":1,"page":1}"#,
-        "BadRequest(BadNumber)",
-    ),
-    (
-        r#"{"do":"page","number":1,"page":0}"#,
         "BadRequest(BadSize)",
+        &[
+            r#"{"do":"page","number":1,"page":0}"#,
+            r#"{"do":"page","number":1,"size":0,"page":1}"#,
+            r#"{"do":"page","number":1,"size":1001,"page":1}"#,
+            r#"{"do":"page","number":1,"size":4294967297,"page":1}"#,
+        ],
     ),
     (
-        r#"{"do":"page","number":1,"size":0,"page":1}"#,
-        "BadRequest(BadSize)",
-    ),
-    (
-        r#"{"do":"page","number":1,"size":1001,"page":1}"#,
-        "BadRequest(BadSize)",
-    ),
-    (
-        r#"{"do":"page","number":1,"size":4294967297,"page":1}"#,
-        "BadRequest(BadSize)",
-    ),
-    (
-        r#"{"do":"page","number":1,"size":1}"#,
         "BadRequest(BadPage)",
+        &[
+            r#"{"do":"page","number":1,"size":1}"#,
+            r#"{"do":"page","number":1,"size":1,"page":0}"#,
+            r#"{"do":"page","number":1,"size":1,"page":18446744073709551616}"#,
+        ],
     ),
+    ("BadJson", &["", " ", r#"{"do":"list"} {"#]),
     (
-        r#"{"do":"page","number":1,"size":1,"page":0}"#,
-        "BadRequest(BadPage)",
-    ),
-    (
-        r#"{"do":"page","number":1,"size":1,"page":18446744073709551616}"#,
-        "BadRequest(BadPage)",
-    ),
-    (r#"{"do":"ack"}"#, "BadRequest(BadNumber)"),
-    (r#"{"do":"ack","number":1e3}"#, "BadRequest(BadNumber)"),
-    (r#"{"do":"ack","number":1.0}"#, "BadRequest(BadNumber)"),
-    (
-        r#"{"do":"ack","number":18446744073709551616}"#,
-        "BadRequest(BadNumber)",
-    ),
-    ("", "BadJson"),
-    (" ", "BadJson"),
-    (r#"{"do":"list"} {"#, "BadJson"),
-    (
-        r#"{"do":"update","feed":"a","advisories":[{"id":"A","modified":"m"},{}]}"#,
         "BadAdvisory { index: 1, what: NoId }",
+        &[r#"{"do":"update","feed":"a","advisories":[{"id":"A","modified":"m"},{}]}"#],
     ),
     (
-        r#"{"do":"update","feed":"a","advisories":[{"id":"A","modified":"m"},{"id":"A","modified":"m"}]}"#,
         "DuplicateId { first: 0, second: 1 }",
+        &[
+            r#"{"do":"update","feed":"a","advisories":[{"id":"A","modified":"m"},{"id":"A","modified":"m"}]}"#,
+        ],
     ),
 ];
 
@@ -191,12 +184,11 @@ fn fault(alloc: Global, error: RequestError) -> Result<String, Fail> {
 
 #[test]
 fn the_first_fault_of_a_line_is_the_answer(rt: HostRuntime) -> Result<(), Fail> {
-    for (line, want) in REFUSED {
-        assert_eq!(rt;
-            answer(rt.alloc(), line.as_bytes())?.as_str(),
-            *want,
-            "{line}"
-        );
+    for (want, lines) in REFUSED {
+        for line in *lines {
+            let answer = answer(rt.alloc(), line.as_bytes())?;
+            assert_eq!(rt; answer.as_str(), *want, "{line}");
+        }
     }
     Ok(())
 }

@@ -1,8 +1,8 @@
 use crate::compare::{Compared, compare};
-use crate::contents::{DEBIAN, FIXED, MODULE_X, MODULE_Y, OPENSSL, ZLIB};
+use crate::contents::{FIXED, MODULE_X, MODULE_Y, OPENSSL, ZLIB};
 use cv_base::{Advisory, Digest, Kind, NoMemory};
 use cv_desk::{TableEntry, entry};
-use sample_data::{SampleDesk, SampleLayer};
+use sample_data::{SampleDesk, SampleLayer, debian_rows, dpkg_rows, module_rows};
 use std::alloc::Global;
 
 /// The known images: each letter or digit is a layer, the base first.
@@ -53,48 +53,21 @@ fn layer(letter: u8) -> &'static [TableEntry] {
     }
 }
 
-/// A Debian system with a package.
-macro_rules! debian {
-    ($status:expr) => {
-        [
-            entry!("etc"),
-            entry!("etc/os-release", Other, b""),
-            entry!("usr"),
-            entry!("usr/lib"),
-            entry!("usr/lib/os-release", DEBIAN),
-            entry!("var"),
-            entry!("var/lib"),
-            entry!("var/lib/dpkg"),
-            entry!("var/lib/dpkg/status", $status),
-        ]
-    };
-}
+static DEBIAN_OPENSSL: [TableEntry; 9] = debian_rows!(OPENSSL);
 
-static DEBIAN_OPENSSL: [TableEntry; 9] = debian!(OPENSSL);
-
-static DEBIAN_FIXED: [TableEntry; 9] = debian!(FIXED);
+static DEBIAN_FIXED: [TableEntry; 9] = debian_rows!(FIXED);
 
 /// Hides the packages of the layers below.
-static WITHOUT_STATUS: [TableEntry; 4] = [
-    entry!("var"),
-    entry!("var/lib"),
-    entry!("var/lib/dpkg"),
-    entry!("var/lib/dpkg/.wh.status", b""),
-];
+static WITHOUT_STATUS: [TableEntry; 4] = dpkg_rows![entry!("var/lib/dpkg/.wh.status", b"")];
 
 /// Puts another package in their place.
-static OTHER_STATUS: [TableEntry; 5] = [
-    entry!("var"),
-    entry!("var/lib"),
-    entry!("var/lib/dpkg"),
+static OTHER_STATUS: [TableEntry; 5] = dpkg_rows![
     entry!("var/lib/dpkg/.wh.status", b""),
     entry!("var/lib/dpkg/status", ZLIB),
 ];
 
 /// Two npm packages.
-static MODULES: [TableEntry; 8] = [
-    entry!("app"),
-    entry!("app/node_modules"),
+static MODULES: [TableEntry; 8] = module_rows![
     entry!("app/node_modules/x"),
     entry!("app/node_modules/x/package.json", MODULE_X),
     entry!("srv"),
@@ -104,22 +77,13 @@ static MODULES: [TableEntry; 8] = [
 ];
 
 /// Hides all that the layers below have in one folder.
-static OPAQUE: [TableEntry; 3] = [
-    entry!("app"),
-    entry!("app/node_modules"),
-    entry!("app/node_modules/.wh..wh..opq", b""),
-];
+static OPAQUE: [TableEntry; 3] = module_rows![entry!("app/node_modules/.wh..wh..opq", b"")];
 
 /// Puts a file in the place of a folder.
 static FILE_FOR_FOLDER: [TableEntry; 1] = [entry!("app", b"")];
 
 /// Puts a folder in the place of a file.
-static FOLDER_FOR_FILE: [TableEntry; 4] = [
-    entry!("var"),
-    entry!("var/lib"),
-    entry!("var/lib/dpkg"),
-    entry!("var/lib/dpkg/status"),
-];
+static FOLDER_FOR_FILE: [TableEntry; 4] = dpkg_rows![entry!("var/lib/dpkg/status")];
 
 /// Hides all that the layers below have.
 static ALL_OPAQUE: [TableEntry; 1] = [entry!(".wh..wh..opq", b"")];

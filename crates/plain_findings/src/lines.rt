@@ -53,9 +53,14 @@ impl Lines {
 
     /// A word, and a number after it.
     pub fn number(&mut self, word: &str, number: u64) {
-        match format!(in self.alloc; "{word}{number}") {
-            Ok(text) => self.word(text.as_str()),
-            Err(_) => self.failed = true,
+        self.part(format!(in self.alloc; "{word}{number}").ok());
+    }
+
+    /// A part of the text, if there was memory for it.
+    fn part(&mut self, part: Option<String>) {
+        match part {
+            Some(part) => self.word(part.as_str()),
+            None => self.failed = true,
         }
     }
 
@@ -112,13 +117,11 @@ impl Lines {
 
     /// The reply to an update.
     pub fn updated(&mut self, generation: u64, rows: u64) {
-        self.number("updated to ", generation);
-        self.number(" with rows: ", rows);
+        self.part(format!(in self.alloc; "updated to {generation} with rows: {rows}").ok());
     }
 
     /// A notification, with how many rows it has.
     pub fn head(&mut self, number: u64, rows: u64) {
-        self.number(" ", number);
-        self.number("/", rows);
+        self.part(format!(in self.alloc; " {number}/{rows}").ok());
     }
 }

@@ -1,15 +1,12 @@
 use cv_base::{Digest, Kind, NoMemory};
 use cv_desk::{TableEntry, entry};
-use sample_data::SampleLayer;
+use sample_data::{SampleLayer, dpkg_rows, module_rows};
 use std::alloc::Global;
 
 /// A Debian system with two packages.
-static DEBIAN: [TableEntry; 6] = [
+static DEBIAN: [TableEntry; 6] = dpkg_rows![
     entry!("etc"),
-    entry!("etc/os-release", b"ID=debian\nVERSION_ID=12\n"),
-    entry!("var"),
-    entry!("var/lib"),
-    entry!("var/lib/dpkg"),
+    entry!("etc/os-release", b"ID=debian\nVERSION_ID=12\n");
     entry!(
         "var/lib/dpkg/status",
         b"Package: curl\nStatus: install ok installed\nArchitecture: amd64\nVersion: 7.88\n\nPackage: zlib1g\nStatus: install ok installed\nArchitecture: amd64\nSource: zlib\nVersion: 1:1.2\n"
@@ -17,20 +14,13 @@ static DEBIAN: [TableEntry; 6] = [
 ];
 
 /// The packages of the system in other versions.
-static UPGRADE: [TableEntry; 4] = [
-    entry!("var"),
-    entry!("var/lib"),
-    entry!("var/lib/dpkg"),
-    entry!(
-        "var/lib/dpkg/status",
-        b"Package: curl\nStatus: install ok installed\nArchitecture: amd64\nVersion: 8.5\n\nPackage: zlib1g\nStatus: install ok installed\nArchitecture: amd64\nSource: zlib\nVersion: 1:1.3\n"
-    ),
-];
+static UPGRADE: [TableEntry; 4] = dpkg_rows![entry!(
+    "var/lib/dpkg/status",
+    b"Package: curl\nStatus: install ok installed\nArchitecture: amd64\nVersion: 8.5\n\nPackage: zlib1g\nStatus: install ok installed\nArchitecture: amd64\nSource: zlib\nVersion: 1:1.3\n"
+)];
 
 /// Two npm packages.
-static MODULES: [TableEntry; 6] = [
-    entry!("app"),
-    entry!("app/node_modules"),
+static MODULES: [TableEntry; 6] = module_rows![
     entry!("app/node_modules/x"),
     entry!(
         "app/node_modules/x/package.json",
@@ -54,15 +44,10 @@ static WHITEOUTS: [TableEntry; 6] = [
 ];
 
 /// A status file whose line 3 has no colon.
-static BAD_STATUS: [TableEntry; 4] = [
-    entry!("var"),
-    entry!("var/lib"),
-    entry!("var/lib/dpkg"),
-    entry!(
-        "var/lib/dpkg/status",
-        b"Package: curl\nStatus: install ok installed\nnocolon\n"
-    ),
-];
+static BAD_STATUS: [TableEntry; 4] = dpkg_rows![entry!(
+    "var/lib/dpkg/status",
+    b"Package: curl\nStatus: install ok installed\nnocolon\n"
+)];
 
 /// A file whose folder is no entry.
 static BAD_TREE: [TableEntry; 2] = [entry!("etc"), entry!("var/lib/dpkg", b"")];

@@ -1,6 +1,6 @@
-use crate::arguments::numbered;
 use crate::flaw::{Flaw, advisory};
 use crate::layers::NAMES;
+use crate::lines::numbered;
 use cv_base::{Advisory, NoMemory, RangeKind, Seq};
 use std::alloc::Global;
 

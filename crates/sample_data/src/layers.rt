@@ -1,6 +1,7 @@
 ghost use Rattle.std.specs.Prelude.{◌≡◌, IfOk};
 
 use crate::desk::{SampleDesk, SampleEntry, SampleLayer};
+use crate::dpkg_rows;
 use crate::facts::facts_of;
 use crate::images::{LAYERS, number_of};
 use cv_base::{Digest, Kind, NoMemory};
@@ -18,13 +19,10 @@ const PACKAGES: u64 = 100;
 const STEP: u64 = 37;
 
 /// What all layers have.
-static SYSTEM: [TableEntry; 6] = [
+static SYSTEM: [TableEntry; 6] = dpkg_rows![
     entry!("usr"),
     entry!("usr/lib"),
-    entry!("usr/lib/os-release", b"ID=debian\nVERSION_ID=\"12\"\n"),
-    entry!("var"),
-    entry!("var/lib"),
-    entry!("var/lib/dpkg"),
+    entry!("usr/lib/os-release", b"ID=debian\nVERSION_ID=\"12\"\n");
 ];
 
 /// The facts of the layer of an image: an os-release, and a dpkg status file of a hundred packages.

@@ -18,8 +18,9 @@ mod images;
 mod installed;
 mod layers;
 mod lines;
+mod rows;
 
-pub use arguments::{number, numbered};
+pub use arguments::number;
 pub use clock::{nanoseconds, processor_time};
 pub use desk::{SampleDesk, SampleEntry, SampleLayer};
 pub use facts::{facts_of, facts_of_rows};
@@ -28,4 +29,4 @@ pub use flaw::{Flaw, advisory};
 pub use images::{hash, last_layer, manifest, manifest_over};
 pub use installed::{Installed, debian_package, package};
 pub use layers::image_facts;
-pub use lines::{finding_lines, finding_text, package_lines};
+pub use lines::{finding_lines, finding_text, numbered, package_lines};

@@ -1,12 +1,11 @@
-use cv_base::{Finding, NoMemory, Package};
+use cv_base::{Finding, NoMemory, Package, Text};
 use std::alloc::Global;
 
 /// Packages with all that they say of themselves, a line each.
 pub fn package_lines(alloc: Global, packages: &[Package]) -> Result<String, NoMemory> {
     let mut lines = String::new(alloc);
     for package in packages {
-        lines.push_str(package_text(alloc, package)?.as_str())?;
-        lines.push_str("\n")?;
+        add_line(&mut lines, package_text(alloc, package)?.as_str())?;
     }
     Ok(lines)
 }
@@ -15,10 +14,15 @@ pub fn package_lines(alloc: Global, packages: &[Package]) -> Result<String, NoMe
 pub fn finding_lines(alloc: Global, findings: &[Finding]) -> Result<String, NoMemory> {
     let mut lines = String::new(alloc);
     for finding in findings {
-        lines.push_str(finding_text(alloc, finding)?.as_str())?;
-        lines.push_str("\n")?;
+        add_line(&mut lines, finding_text(alloc, finding)?.as_str())?;
     }
     Ok(lines)
+}
+
+fn add_line(lines: &mut String, line: &str) -> Result<(), NoMemory> {
+    lines.push_str(line)?;
+    lines.push_str("\n")?;
+    Ok(())
 }
 
 /// The package of a finding, its feed and its record, and the version that is fixed.
@@ -49,4 +53,10 @@ fn package_text(alloc: Global, package: &Package) -> Result<String, NoMemory> {
         package.ecosystem.as_str()
     )?;
     Ok(text)
+}
+
+/// A word and a number.
+pub fn numbered(alloc: Global, word: &str, number: u64) -> Result<Text, NoMemory> {
+    let text = format!(in alloc; "{word}{number}")?;
+    Text::of(alloc, text.as_str())
 }

@@ -3,52 +3,28 @@ ghost use Rattle.sample_runs.specs.Layers.{rows_by, rows_of};
 
 use cv_base::{Digest, Kind};
 use cv_desk::{Table, TableEntry, entry};
-
-/// A Debian system, which has a link in place of one os-release, with this status file.
-macro_rules! debian {
-    ($status:literal) => {
-        [
-            entry!("etc"),
-            entry!("etc/os-release", Other, b""),
-            entry!("usr"),
-            entry!("usr/lib"),
-            entry!("usr/lib/os-release", b"ID=debian\nVERSION_ID=\"12\"\n"),
-            entry!("var"),
-            entry!("var/lib"),
-            entry!("var/lib/dpkg"),
-            entry!("var/lib/dpkg/status", $status),
-        ]
-    };
-}
+use sample_data::{debian_rows, dpkg_rows, module_rows};
 
 /// A Debian system with a package below its fixed version.
-static OLD: [TableEntry; 9] = debian!(
+static OLD: [TableEntry; 9] = debian_rows!(
     b"Package: libssl3\nStatus: install ok installed\nArchitecture: amd64\nSource: openssl (3.0.9-1)\nVersion: 3.0.9-1+b1\n"
 );
 
 /// The same system with the fixed version.
-static FIXED: [TableEntry; 9] = debian!(
+static FIXED: [TableEntry; 9] = debian_rows!(
     b"Package: libssl3\nStatus: install ok installed\nArchitecture: amd64\nSource: openssl (3.0.11-1)\nVersion: 3.0.11-1\n"
 );
 
 /// The same system with a version of one digit.
-static SHORT: [TableEntry; 9] = debian!(
+static SHORT: [TableEntry; 9] = debian_rows!(
     b"Package: libssl3\nStatus: install ok installed\nArchitecture: amd64\nSource: openssl (9)\nVersion: 9\n"
 );
 
 /// Takes the packages of the layers below away.
-static WITHOUT: [TableEntry; 4] = [
-    entry!("var"),
-    entry!("var/lib"),
-    entry!("var/lib/dpkg"),
-    entry!("var/lib/dpkg/.wh.status", b""),
-];
+static WITHOUT: [TableEntry; 4] = dpkg_rows![entry!("var/lib/dpkg/.wh.status", b"")];
 
 /// Puts another package in their place.
-static OTHER: [TableEntry; 5] = [
-    entry!("var"),
-    entry!("var/lib"),
-    entry!("var/lib/dpkg"),
+static OTHER: [TableEntry; 5] = dpkg_rows![
     entry!("var/lib/dpkg/.wh.status", b""),
     entry!(
         "var/lib/dpkg/status",
@@ -57,9 +33,7 @@ static OTHER: [TableEntry; 5] = [
 ];
 
 /// Two npm packages.
-static MODULES: [TableEntry; 8] = [
-    entry!("app"),
-    entry!("app/node_modules"),
+static MODULES: [TableEntry; 8] = module_rows![
     entry!("app/node_modules/x"),
     entry!(
         "app/node_modules/x/package.json",
@@ -75,25 +49,16 @@ static MODULES: [TableEntry; 8] = [
 ];
 
 /// Takes all that the layers below have in one folder away.
-static OPAQUE: [TableEntry; 3] = [
-    entry!("app"),
-    entry!("app/node_modules"),
-    entry!("app/node_modules/.wh..wh..opq", b""),
-];
+static OPAQUE: [TableEntry; 3] = module_rows![entry!("app/node_modules/.wh..wh..opq", b"")];
 
 /// Puts a file in the place of a folder.
 static FILE: [TableEntry; 1] = [entry!("app", b"")];
 
 /// A status file whose line 3 has no colon.
-static BROKEN: [TableEntry; 4] = [
-    entry!("var"),
-    entry!("var/lib"),
-    entry!("var/lib/dpkg"),
-    entry!(
-        "var/lib/dpkg/status",
-        b"Package: a\nStatus: install ok installed\nnocolon\n"
-    ),
-];
+static BROKEN: [TableEntry; 4] = dpkg_rows![entry!(
+    "var/lib/dpkg/status",
+    b"Package: a\nStatus: install ok installed\nnocolon\n"
+)];
 
 /// An Alpine system.
 static ALPINE: [TableEntry; 6] = [
@@ -112,12 +77,7 @@ static ALPINE: [TableEntry; 6] = [
 static MARKED: [TableEntry; 1] = [entry!(".wh.", b"")];
 
 /// A folder in the place of the status file.
-static FOLDER: [TableEntry; 4] = [
-    entry!("var"),
-    entry!("var/lib"),
-    entry!("var/lib/dpkg"),
-    entry!("var/lib/dpkg/status"),
-];
+static FOLDER: [TableEntry; 4] = dpkg_rows![entry!("var/lib/dpkg/status")];
 
 /// Takes all that the layers below have away.
 static EMPTIED: [TableEntry; 1] = [entry!(".wh..wh..opq", b"")];

@@ -1,48 +1,52 @@
 use sample_runs::Status;
 
-/// Comparisons of versions: the arguments, how the command ends, and what it prints.
-pub static ORDERS: [(&[&str], Status, &str); 13] = [
-    (&["order", "deb", "1.0~rc1", "1.0"], Status::Done, "<\n"),
-    (&["order", "deb", "1.0", "1.0-0"], Status::Done, "=\n"),
-    (&["order", "deb", "1.0-1", "1.0-1+b1"], Status::Done, "<\n"),
-    (&["order", "deb", "1:0", "9"], Status::Done, ">\n"),
+/// Comparisons of versions: how the command ends, what it prints, and the arguments of commands that do so.
+pub static ORDERS: [(Status, &str, &[&[&str]]); 5] = [
     (
-        &[
-            "order",
-            "deb",
-            "100000000000000000000000000001",
-            "100000000000000000000000000000",
-        ],
-        Status::Done,
-        ">\n",
-    ),
-    (&["order", "apk", "1.2_rc1", "1.2"], Status::Done, "<\n"),
-    (&["order", "apk", "1.2_p1", "1.2a"], Status::Done, "<\n"),
-    (&["order", "apk", "1.2.0", "1.2.0-r1"], Status::Done, "<\n"),
-    (
-        &["order", "semver", "1.0.0-rc.1", "1.0.0"],
         Status::Done,
         "<\n",
+        &[
+            &["order", "deb", "1.0~rc1", "1.0"],
+            &["order", "deb", "1.0-1", "1.0-1+b1"],
+            &["order", "apk", "1.2_rc1", "1.2"],
+            &["order", "apk", "1.2_p1", "1.2a"],
+            &["order", "apk", "1.2.0", "1.2.0-r1"],
+            &["order", "semver", "1.0.0-rc.1", "1.0.0"],
+        ],
     ),
     (
-        &["order", "deb", "a:1", "a:1"],
-        Status::Refused,
-        "not a version: first\n",
-    ),
-    (
-        &["order", "apk", "1.2", "1.2~ab"],
-        Status::Refused,
-        "not a version: second\n",
-    ),
-    (
-        &["order", "semver", "1.0.0", "1.0"],
-        Status::Refused,
-        "not a version: second\n",
-    ),
-    (
-        &["order", "semver", "--", "1.0.0", "1.0.0"],
         Status::Done,
         "=\n",
+        &[
+            &["order", "deb", "1.0", "1.0-0"],
+            &["order", "semver", "--", "1.0.0", "1.0.0"],
+        ],
+    ),
+    (
+        Status::Done,
+        ">\n",
+        &[
+            &["order", "deb", "1:0", "9"],
+            &[
+                "order",
+                "deb",
+                "100000000000000000000000000001",
+                "100000000000000000000000000000",
+            ],
+        ],
+    ),
+    (
+        Status::Refused,
+        "not a version: first\n",
+        &[&["order", "deb", "a:1", "a:1"]],
+    ),
+    (
+        Status::Refused,
+        "not a version: second\n",
+        &[
+            &["order", "apk", "1.2", "1.2~ab"],
+            &["order", "semver", "1.0.0", "1.0"],
+        ],
     ),
 ];
 

@@ -6,9 +6,7 @@ use Rattle.cv_core_tests.proofs.tests.plan_is_shared.Goals as goal
 use Rattle.cv_core_tests.proofs.tests.plan_is_shared.Lts as lts
 
 pub is_shared-requires-send-T : goal.is_shared-requires-send-T
-is_shared-requires-send-T g c κs within =
-    param_send 0 (lts.arg-0-0 g.row.D g.D.laws g.D.Desk g.D.Desk-dict κs) (arg_send _ yes _ (planned_send (param 0 g.row.D) g.D.Desk c.type_bounds.send-D c.type_bounds.sync-D))
+is_shared-requires-send-T g c κs within = param_send 0 (lts.arg-0-0 g.row.D g.D.laws g.D.Desk g.D.Desk-dict κs) (arg_send _ yes _ (planned_send (param 0 g.row.D) g.D.Desk c.type_bounds.send-D c.type_bounds.sync-D))
 
 pub is_shared-requires-sync-T : goal.is_shared-requires-sync-T
-is_shared-requires-sync-T g c κs within =
-    param_sync 0 (lts.arg-0-0 g.row.D g.D.laws g.D.Desk g.D.Desk-dict κs) (arg_sync _ yes _ (planned_sync (param 0 g.row.D) g.D.Desk c.type_bounds.send-D c.type_bounds.sync-D))
+is_shared-requires-sync-T g c κs within = param_sync 0 (lts.arg-0-0 g.row.D g.D.laws g.D.Desk g.D.Desk-dict κs) (arg_sync _ yes _ (planned_sync (param 0 g.row.D) g.D.Desk c.type_bounds.send-D c.type_bounds.sync-D))

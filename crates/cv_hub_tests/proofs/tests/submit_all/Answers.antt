@@ -16,8 +16,6 @@ use Rattle.cv_hub_tests.proofs.tests.submit_all.Goals as goal
 -- each step is named: a search that sees the inside of a hub gives up
 pub for_each_mut-requires-sync-F : goal.for_each_mut-requires-sync-F
 for_each_mut-requires-sync-F g c κs within =
-    let D = desk.the_row in
-    let d = desk_impl.ghosts in
     let L = param 0 g.row.L in
-    let H = hub.the_row D L d g.L.Identity g.L.Ledger in
-    param_sync _ _ (arg_sync _ no _ (captured_sync _ (ShrRef _ _ (param 1 g.row.R) ∷ ShrRef _ _ global.the_row ∷ ShrRef _ _ H ∷ []) (shr_sync _ _ _ c.type_bounds.sync-R, (shr_sync _ _ _ global_crossing.the_sync, (shr_sync _ _ H (hub_sync D L d g.L.Identity g.L.Ledger desk_crossing.the_send desk_crossing.the_sync c.type_bounds.send-L c.type_bounds.sync-L), tt)))))
+    let H = hub.the_row desk.the_row L desk_impl.ghosts g.L.Identity g.L.Ledger in
+    param_sync _ _ (arg_sync _ no _ (captured_sync _ (ShrRef _ _ (param 1 g.row.R) ∷ ShrRef _ _ global.the_row ∷ ShrRef _ _ H ∷ []) (shr_sync _ _ _ c.type_bounds.sync-R, (shr_sync _ _ _ global_crossing.the_sync, (shr_sync _ _ H (hub_sync desk.the_row L desk_impl.ghosts g.L.Identity g.L.Ledger desk_crossing.the_send desk_crossing.the_sync c.type_bounds.send-L c.type_bounds.sync-L), tt)))))
