@@ -21,7 +21,7 @@ update() {
     printf '{"do":"update","feed":"deb","advisories":[{"id":"X-1","modified":"2024-01-%sT00:00:00Z",%s"affected":[{"package":{"ecosystem":"Debian:12","name":"openssl"},"ranges":[{"type":"ECOSYSTEM","events":[{"introduced":"0"},{"fixed":"%s"}]}]}]}]}\n' "$2" "${3:-}" "$1"
 }
 
-# the line of such an update after $1 events: its generation, its line, and how many rows its notification has
+# the line of such an update, which is event $1: its generation, its line, and how many rows its notification has
 updated() { printf '{"at":%s,"event":"update","feed":"deb","generation":%s,"lane":0,"line":%s,"reply":"updated","rows":%s}\n' "$@"; }
 
 # compares the file answer and the status $2 with standard input and $3; $1 says what is shown

@@ -28,8 +28,14 @@ fn packages_are_read_as_the_rules_say(rt: HostRuntime) -> Result<(), Fail> {
     for (text, want) in [
         // An ordinary paragraph, and one that is half installed.
         (
-            "Package: libc6\nStatus: install ok installed\nArchitecture: amd64\nSource: glibc\nVersion: 2.36-9\nDescription: C library\n Text.\n .\n\nPackage: half\nStatus: install reinstreq half-installed\n\n",
-            ["libc6", "2.36-9", "glibc", "2.36-9", "amd64"],
+            "Package: libc6\nStatus: install ok installed\nPriority: optional\nSection: libs\nInstalled-Size: 12986\nMaintainer: A B <a@example.org>\nArchitecture: amd64\nMulti-Arch: same\nSource: glibc\nVersion: 2.36-9+deb12u4\nDepends: libgcc-s1\nConffiles:\n /etc/x.conf 00ff\nDescription: C library\n Text.\n .\n More.\n\nPackage: half\nStatus: install reinstreq half-installed\n\n",
+            [
+                "libc6",
+                "2.36-9+deb12u4",
+                "glibc",
+                "2.36-9+deb12u4",
+                "amd64",
+            ],
         ),
         // Names in any case, CRs and blanks at both ends, and no LF at the end.
         (
@@ -64,6 +70,15 @@ fn a_paragraph_may_lack_its_status_if_it_is_optional(rt: HostRuntime) -> Result<
 }
 
 #[test]
+fn a_package_that_is_not_installed_needs_no_version(rt: HostRuntime) -> Result<(), Fail> {
+    let alloc = rt.alloc();
+    let text = b"Package: old\nStatus: unknown ok not-installed\n";
+    let packages = read_status(alloc, text, StatusRule::Needed);
+    assert_eq!(rt; packages, Ok(Seq::of(Vec::new(alloc))));
+    Ok(())
+}
+
+#[test]
 fn the_fault_of_the_least_faulty_line_is_named(rt: HostRuntime) -> Result<(), Fail> {
     let alloc = rt.alloc();
     for (line, what, text) in [
@@ -75,7 +90,13 @@ fn the_fault_of_the_least_faulty_line_is_named(rt: HostRuntime) -> Result<(), Fa
         (2, What::BadValue, "Version: 1\nArchitecture: a b"),
         (1, What::BadValue, "Source: a (1) b\n"),
         (2, What::NoPackage, "Version: 1\n x\n\nx\n"),
+        (2, What::BadStatus, "Package: base\nVersion: 1\n"),
         (2, What::BadStatus, "Package: a\nVersion: 1\n\nx\n"),
+        (
+            2,
+            What::NoVersion,
+            "Package: old\nStatus: install ok installed\n",
+        ),
         (2, What::NoVersion, "Package: a\nStatus: a b unpacked\n\nx"),
     ] {
         let packages = read_status(alloc, text.as_bytes(), StatusRule::Needed);

@@ -70,7 +70,7 @@ pub static GOOD: [(&str, &str, &str); 15] = [
 ];
 
 /// Images and inputs that are refused: the layers, the records, and the line that says why.
-pub static REFUSED: [(&str, &str, &str); 7] = [
+pub static REFUSED: [(&str, &str, &str); 10] = [
     // a malformed file
     (
         "f",
@@ -79,7 +79,15 @@ pub static REFUSED: [(&str, &str, &str); 7] = [
             r#"{"bad":{"cause":"bad_file","line":3,"path":"var/lib/dpkg/status","what":"no_colon"},"image":"<1>","reply":"bad_image"}"#
         ),
     ),
-    // a tree that is not good comes before it
+    // a tree that is not good
+    (
+        "5",
+        "",
+        refused!(
+            r#"{"bad":{"cause":"bad_tree","entry":0,"layer":0,"what":"bad_mark"},"image":"<1>","reply":"bad_image"}"#
+        ),
+    ),
+    // which comes before a malformed file
     (
         "f5",
         "<X-1>",
@@ -104,7 +112,19 @@ pub static REFUSED: [(&str, &str, &str); 7] = [
         "<X-1>",
         refused!(r#"{"line":1,"refused":"bad_request","what":"no_layers"}"#),
     ),
+    // a record that does not say when it was modified
+    (
+        "a",
+        r#"{"id":"A","modified":1}"#,
+        refused!(r#"{"index":0,"line":2,"refused":"bad_advisory","what":"no_modified"}"#),
+    ),
     // a record twice
+    (
+        "a",
+        "<X-1>\n<X-1>",
+        refused!(r#"{"first":0,"line":3,"refused":"duplicate_id","second":1}"#),
+    ),
+    // and with empty lines, which count as lines
     (
         "a",
         "\n<X-1>\n\n<X-1>",

@@ -9,7 +9,9 @@ pub static ORDERS: [(Status, &str, &[&[&str]]); 5] = [
             &["order", "deb", "1.0~rc1", "1.0"],
             &["order", "deb", "1.0-1", "1.0-1+b1"],
             &["order", "apk", "1.2_rc1", "1.2"],
+            &["order", "apk", "1.2", "1.2_p1"],
             &["order", "apk", "1.2_p1", "1.2a"],
+            &["order", "apk", "1.2a", "1.2.0"],
             &["order", "apk", "1.2.0", "1.2.0-r1"],
             &["order", "semver", "1.0.0-rc.1", "1.0.0"],
         ],
@@ -38,7 +40,10 @@ pub static ORDERS: [(Status, &str, &[&[&str]]); 5] = [
     (
         Status::Refused,
         "not a version: first\n",
-        &[&["order", "deb", "a:1", "a:1"]],
+        &[
+            &["order", "deb", "a:1", "1"],
+            &["order", "deb", "a:1", "a:1"],
+        ],
     ),
     (
         Status::Refused,
