@@ -48,53 +48,58 @@ fn each_refusal_has_its_line(rt: HostRuntime) -> Result<(), Fail> {
     Ok(())
 }
 
-#[test]
-fn each_bad_request_has_its_name(rt: HostRuntime) -> Result<(), Fail> {
-    let alloc = rt.alloc();
-    for (what, name) in [
-        (RequestWhat::NotObject, "not_object"),
-        (RequestWhat::BadLane, "bad_lane"),
-        (RequestWhat::BadDo, "bad_do"),
-        (RequestWhat::BadImage, "bad_image"),
-        (RequestWhat::BadManifest, "bad_manifest"),
-        (RequestWhat::BadHash, "bad_hash"),
-        (RequestWhat::BadLayers, "bad_layers"),
-        (RequestWhat::NoLayers, "no_layers"),
-        (RequestWhat::TooManyLayers, "too_many_layers"),
-        (RequestWhat::BadFeed, "bad_feed"),
-        (RequestWhat::BadAdvisories, "bad_advisories"),
-        (RequestWhat::BadNumber, "bad_number"),
-        (RequestWhat::BadSize, "bad_size"),
-        (RequestWhat::BadPage, "bad_page"),
-    ] {
-        let line = refusal_line(alloc, 2, &RequestError::BadRequest(what))?;
-        let want = format!(in alloc;
-            "{{\"line\":2,\"refused\":\"bad_request\",\"what\":\"{name}\"}}\n"
-        )?;
-        assert_eq!(rt; line.as_str(), want.as_str());
-    }
-    Ok(())
+/// How the lines of a bad request and of a bad record begin, if they stand on line 2 and the record is number 1.
+const REQUEST: &str = "{\"line\":2,\"refused\":\"bad_request\",";
+
+const RECORD: &str = "{\"index\":1,\"line\":2,\"refused\":\"bad_advisory\",";
+
+fn request(what: RequestWhat) -> RequestError {
+    RequestError::BadRequest(what)
+}
+
+fn record(what: RecordWhat) -> RequestError {
+    RequestError::BadAdvisory { index: 1, what }
 }
 
 #[test]
-fn each_bad_advisory_has_its_name(rt: HostRuntime) -> Result<(), Fail> {
+fn each_bad_request_and_each_bad_record_has_its_name(rt: HostRuntime) -> Result<(), Fail> {
     let alloc = rt.alloc();
-    for (what, name) in [
-        (RecordWhat::NotObject, "not_object"),
-        (RecordWhat::NoId, "no_id"),
-        (RecordWhat::NoModified, "no_modified"),
-        (RecordWhat::BadWithdrawn, "bad_withdrawn"),
-        (RecordWhat::BadAffected, "bad_affected"),
-        (RecordWhat::BadEntry, "bad_entry"),
-        (RecordWhat::BadPackage, "bad_package"),
-        (RecordWhat::BadRange, "bad_range"),
-        (RecordWhat::BadEvent, "bad_event"),
-        (RecordWhat::BadVersions, "bad_versions"),
+    for (error, start, name) in [
+        (request(RequestWhat::NotObject), REQUEST, "not_object"),
+        (request(RequestWhat::BadLane), REQUEST, "bad_lane"),
+        (request(RequestWhat::BadDo), REQUEST, "bad_do"),
+        (request(RequestWhat::BadImage), REQUEST, "bad_image"),
+        (request(RequestWhat::BadManifest), REQUEST, "bad_manifest"),
+        (request(RequestWhat::BadHash), REQUEST, "bad_hash"),
+        (request(RequestWhat::BadLayers), REQUEST, "bad_layers"),
+        (request(RequestWhat::NoLayers), REQUEST, "no_layers"),
+        (
+            request(RequestWhat::TooManyLayers),
+            REQUEST,
+            "too_many_layers",
+        ),
+        (request(RequestWhat::BadFeed), REQUEST, "bad_feed"),
+        (
+            request(RequestWhat::BadAdvisories),
+            REQUEST,
+            "bad_advisories",
+        ),
+        (request(RequestWhat::BadNumber), REQUEST, "bad_number"),
+        (request(RequestWhat::BadSize), REQUEST, "bad_size"),
+        (request(RequestWhat::BadPage), REQUEST, "bad_page"),
+        (record(RecordWhat::NotObject), RECORD, "not_object"),
+        (record(RecordWhat::NoId), RECORD, "no_id"),
+        (record(RecordWhat::NoModified), RECORD, "no_modified"),
+        (record(RecordWhat::BadWithdrawn), RECORD, "bad_withdrawn"),
+        (record(RecordWhat::BadAffected), RECORD, "bad_affected"),
+        (record(RecordWhat::BadEntry), RECORD, "bad_entry"),
+        (record(RecordWhat::BadPackage), RECORD, "bad_package"),
+        (record(RecordWhat::BadRange), RECORD, "bad_range"),
+        (record(RecordWhat::BadEvent), RECORD, "bad_event"),
+        (record(RecordWhat::BadVersions), RECORD, "bad_versions"),
     ] {
-        let line = refusal_line(alloc, 2, &RequestError::BadAdvisory { index: 1, what })?;
-        let want = format!(in alloc;
-            "{{\"index\":1,\"line\":2,\"refused\":\"bad_advisory\",\"what\":\"{name}\"}}\n"
-        )?;
+        let line = refusal_line(alloc, 2, &error)?;
+        let want = format!(in alloc; "{start}\"what\":\"{name}\"}}\n")?;
         assert_eq!(rt; line.as_str(), want.as_str());
     }
     Ok(())
