@@ -21,7 +21,7 @@ prove() {
     count=$(crates_below "$1" | wc -l)
     lanes=$(lanes)
     log=$(mktemp)
-    echo "proving $1 and the crates below it, $count in all, $lanes side by side; the first time the 69 crates of cvwatch take some 50 minutes on four processors" >&2
+    echo "proving $1 and the crates below it, $count in all, $lanes side by side; the first time the 70 crates of cvwatch take some 50 minutes on four processors" >&2
     (cd "$top/crates/$1" && "$top/tools/rt" all check --jobs "$lanes" 2>&1) | tee "$log" | progress "$count" >&2 || {
         cat "$log" >&2
         rm "$log"

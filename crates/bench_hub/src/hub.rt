@@ -1,8 +1,6 @@
 ghost use Rattle.std.specs.Prelude.{◌≡◌};
 ghost use Rattle.cv_core.specs.Core.{IsSound, act_of, opened};
 
-use crate::lanes::{Lane, Task, Work, run_lanes};
-use crate::speed::{Speed, Watch};
 use cv_base::{Digest, NoMemory};
 use cv_core::{Core, Event, Limits, MAX_FEEDS, MAX_IMAGES, Reply};
 use cv_hub::{Blank, Hub, Identity, Seat};
@@ -13,6 +11,7 @@ use std::marker::Brand;
 use std::sync::Wait;
 use std::thread::Threads;
 use std::time::{Clock, CpuClock};
+use timed_hub::{Lane, Speed, Task, Watch, Work, run_lanes};
 
 /// How many seats the hub has.
 const SEATS: u32 = 8;

@@ -9,14 +9,12 @@
 #![tactic(auto)]
 
 mod hub;
-mod lanes;
-mod speed;
 
 use crate::hub::speeds_of;
-use crate::speed::Speed;
 use cv_base::NoMemory;
 use sample_data::number;
 use std::{env, io};
+use timed_hub::Speed;
 
 fn main(rt: HostRuntime) -> io::Result<()> {
     let arguments: Vec<String> = env::args(&rt)?.collect(rt.alloc())?;

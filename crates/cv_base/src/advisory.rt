@@ -15,7 +15,7 @@ pub enum Turn {
 
 /// The order of a range's versions, after the OSV schema: the ecosystem's own, or that of semantic
 /// versions. Every other type is `Other`, and nothing is within such a range.
-#[derive(Clone, Copy, Debug, PartialEq, Eq, PartialOrd, Ord)]
+#[derive(Clone, Copy, Debug, PartialEq, Eq)]
 pub enum RangeKind {
     Ecosystem,
     Semver,

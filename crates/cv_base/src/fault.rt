@@ -5,7 +5,7 @@ use cv_seq::NoMemory;
 use thiserror::Error;
 
 /// What is wrong with a line of a package database: dpkg's status (deb-control(5), dpkg(1)) or apk's installed database.
-#[derive(Clone, Copy, Debug, PartialEq, Eq, PartialOrd, Ord)]
+#[derive(Clone, Copy, Debug, PartialEq, Eq)]
 pub enum What {
     /// No colon follows the name of a field.
     NoColon,
@@ -31,7 +31,7 @@ pub enum What {
 }
 
 /// The first bad line of a package database. Lines are numbered from 1.
-#[derive(Clone, Copy, Debug, PartialEq, Eq, PartialOrd, Ord)]
+#[derive(Clone, Copy, Debug, PartialEq, Eq)]
 pub struct FileBad {
     pub line: u64,
     pub what: What,

@@ -12,7 +12,7 @@ pub struct Finding {
 }
 
 /// Why a notification has a row.
-#[derive(Clone, Copy, Debug, PartialEq, Eq, PartialOrd, Ord)]
+#[derive(Clone, Copy, Debug, PartialEq, Eq)]
 pub enum Reason {
     Added,
     Removed,

@@ -3,7 +3,7 @@
 /// The most layers of an image.
 pub const MAX_LAYERS: usize = 128;
 
-/// The most records of a file of advisories.
+/// The most records of a file of advisories, or of an update.
 pub const MAX_ADVISORIES: usize = 200_000;
 
 /// The most entries of a layer.

@@ -1,19 +1,17 @@
-ghost use Rattle.std.specs.Prelude.{◌≡◌, ◌<◌, true};
-ghost use Rattle.cv_hub.specs.Seats.{AreNumbered};
+ghost use Rattle.std.specs.Prelude.{◌≡◌};
 ghost use Rattle.sample_events.specs.Core.{opened};
 
-use cv_hub::{Blank, Hub, Identity, Seat, View};
+use cv_hub::{Blank, Hub, Identity, Seat};
 use cv_seq::NoMemory;
 use sample_events::{
-    By, Core, EventEntry, IMAGES, Reply, SampleDesk, add_line, event, hash, new_core, replayed,
+    By, Core, EventEntry, Reply, SampleDesk, event, lanes_with_entries, learned, new_core,
+    replayed, shown_to_first, taken,
 };
 use std::alloc::Global;
 use std::marker::Brand;
 use std::process::Abort;
 use std::sync::{Wait, ledger};
 use std::thread::{self, Threads};
-
-mod seats;
 
 /// How many seats submit events, each in a thread of its own.
 const LANES: usize = 8;
@@ -51,7 +49,10 @@ fn seats_in_threads_submit_one_list_of_events(rt: HostRuntime) -> Result<(), NoM
 fn compare<R: Abort>(rt: &R, all: &Together, again: &Option<String>) {
     assert_eq!(rt; all.entries.len() as u64, LANES as u64 * LINES);
     assert_eq!(rt; all.seen, LANES as u64 * LINES);
-    assert_eq!(rt; lanes_with_entries(&all.receipts, &all.entries), LANES);
+    assert_eq!(rt;
+        lanes_with_entries(&all.receipts, LINES, &all.entries),
+        LANES
+    );
     assert!(rt; again.is_some(), "the entries do not replay");
     assert!(rt; is_text(again, all.shown.as_str()));
 }
@@ -104,7 +105,7 @@ fn taken_together<L: Identity, W: Wait>(
 {
     let seen = learned(rt, &hub, seats.as_mut_slice());
     let entries = taken(rt, &mut hub, seats.as_mut_slice(), LANES)?;
-    let shown = shown(rt, alloc, &hub, seats.as_mut_slice())?;
+    let shown = shown_to_first(rt, alloc, &hub, seats.as_mut_slice())?;
     hub.end(seats);
     Ok(Together {
         receipts,
@@ -175,109 +176,4 @@ fn taken_apart<L: Identity>(
         all.push(receipts)?;
     }
     Ok((seats, all))
-}
-
-/// The first seat learns a note of all events. How many events it has seen then.
-fn learned<L: Identity, W: Wait>(
-    rt: &W,
-    hub: &Hub<SampleDesk, L>,
-    seats: &mut [Seat<SampleDesk, L>],
-) -> u64 {
-    let Some(seat) = seats.first_mut() else {
-        return 0;
-    };
-    seat.learn(hub.note(rt));
-    seat.seen().len()
-}
-
-/// The entries that all seats take; there are `count` seats.
-fn taken<L: Identity, W: Wait>(
-    rt: &W,
-    hub: &mut Hub<SampleDesk, L>,
-    seats: &mut [Seat<SampleDesk, L>],
-    count: usize,
-) -> Result<Vec<EventEntry>, NoMemory>
-    requires parts { L.parts ≡ count }
-    requires has_seats { 0 < count }
-{
-    if seats.len() != count || !are_numbered(0, seats) {
-        return Err(NoMemory);
-    }
-    Ok(hub.take_events(rt, seats))
-}
-
-/// Whether seats have these numbers in turn.
-fn are_numbered<L: Identity>(index: u64, seats: &[Seat<SampleDesk, L>]) -> bool
-    ensures { result ≡ true → AreNumbered index seats.now }
-{
-    match seats.split_first() {
-        None => true,
-        Some((first, rest)) => {
-            first.index() == index && index < u64::MAX && are_numbered(index + 1, rest)
-        }
-    }
-}
-
-/// What a hub whose events were all taken shows the first seat.
-fn shown<L: Identity, W: Wait>(
-    rt: &W,
-    alloc: Global,
-    hub: &Hub<SampleDesk, L>,
-    seats: &mut [Seat<SampleDesk, L>],
-) -> Result<String, NoMemory> {
-    let mut out = String::new(alloc);
-    if let Some(seat) = seats.first_mut() {
-        add_shown(rt, alloc, &mut out, hub, seat)?;
-    }
-    Ok(out)
-}
-
-/// Adds the queued layers, the reports and the notifications, a line each.
-fn add_shown<L: Identity, W: Wait>(
-    rt: &W,
-    alloc: Global,
-    out: &mut String,
-    hub: &Hub<SampleDesk, L>,
-    seat: &mut Seat<SampleDesk, L>,
-) -> Result<(), NoMemory> {
-    add_line(alloc, out, &hub.queued(rt, alloc)?)?;
-    add_view(alloc, out, &hub.view(rt, seat))
-}
-
-fn add_view<L: Identity>(
-    alloc: Global,
-    out: &mut String,
-    view: &View<'_, SampleDesk, L>,
-) -> Result<(), NoMemory> {
-    for image in 0..IMAGES {
-        add_line(alloc, out, &view.report(&hash(image)))?;
-    }
-    add_line(alloc, out, &view.list(alloc)?)
-}
-
-/// How many lanes have the entries of their receipts, up to the first that has not.
-fn lanes_with_entries(receipts: &[Vec<(u64, Reply)>], entries: &[EventEntry]) -> usize {
-    for (lane, receipts) in receipts.iter().enumerate() {
-        if !are_entries((lane % LANES) as u8, receipts, entries) {
-            return lane;
-        }
-    }
-    receipts.len()
-}
-
-/// Whether a lane has a receipt for each of its lines, whose numbers ascend, and the entry of each number is that line with that reply.
-fn are_entries(lane: u8, receipts: &[(u64, Reply)], entries: &[EventEntry]) -> bool {
-    let mut last = 0;
-    let mut line = 0;
-    for (number, reply) in receipts {
-        line = u64::wrapping_add(line, 1);
-        let Some(entry) = entries.get(number.wrapping_sub(1) as usize) else {
-            return false;
-        };
-        if *number <= last || entry.by != (By::Lane { lane, line }) || entry.reply != *reply {
-            return false;
-        }
-        last = *number;
-    }
-    line == LINES
 }

@@ -43,7 +43,7 @@ pub trait VersionRule {
         ensures { result ≡ version_cmp_of kind a.now b.now };
 }
 
-/// Versions as dpkg compares them.
+/// Versions in Debian's order.
 pub struct DebRule;
 
 impl VersionRule for DebRule {
@@ -60,7 +60,7 @@ impl VersionRule for DebRule {
     }
 }
 
-/// Versions as apk compares them.
+/// Versions in the order of this project's profile of apk.
 pub struct ApkRule;
 
 impl VersionRule for ApkRule {

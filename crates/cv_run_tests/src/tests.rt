@@ -3,26 +3,11 @@ mod scans;
 mod services;
 mod versions;
 
-use sample_runs::{CALM, NoMemory, Outside, Status, USAGE, is_ended, run_once, scan_input};
+use sample_runs::{CALM, NoMemory, Status, USAGE, runs_to, scan_input};
 use std::alloc::Global;
 use std::process::Abort;
 use std::sync::Wait;
 use std::thread::Threads;
-
-/// Runs the program, and compares how it ends and what it prints.
-fn try_run<R: Abort + Threads + Wait + Sync>(
-    rt: &R,
-    alloc: Global,
-    arguments: &[&str],
-    input: &str,
-    outside: &Outside,
-    (status, output): (Status, &str),
-) -> Result<(), NoMemory> {
-    let ended = run_once(rt, alloc, arguments, input, outside)?;
-    let is_same = is_ended(alloc, &ended, status, output)?;
-    assert!(rt; is_same, "{arguments:?} {input}");
-    Ok(())
-}
 
 /// Scans an image of these layers, and compares how the scan ends and what it prints.
 fn try_scan<R: Abort + Threads + Wait + Sync>(
@@ -33,7 +18,21 @@ fn try_scan<R: Abort + Threads + Wait + Sync>(
     want: (Status, &str),
 ) -> Result<(), NoMemory> {
     let input = scan_input(alloc, layers, records)?;
-    try_run(rt, alloc, &["scan"], input.as_str(), &CALM, want)
+    let is_same = runs_to(rt, alloc, &["scan"], input.as_str(), &CALM, want)?;
+    assert!(rt; is_same, "{layers} {records}");
+    Ok(())
+}
+
+/// Runs a command that reads no input, and compares how it ends and what it prints.
+fn try_command<R: Abort + Threads + Wait + Sync>(
+    rt: &R,
+    alloc: Global,
+    arguments: &[&str],
+    want: (Status, &str),
+) -> Result<(), NoMemory> {
+    let is_same = runs_to(rt, alloc, arguments, "", &CALM, want)?;
+    assert!(rt; is_same, "{arguments:?}");
+    Ok(())
 }
 
 #[test]
@@ -56,7 +55,7 @@ fn a_scan_prints_why_there_are_none(rt: HostRuntime) -> Result<(), NoMemory> {
 fn versions_compare(rt: HostRuntime) -> Result<(), NoMemory> {
     for (status, output, commands) in &versions::ORDERS {
         for arguments in *commands {
-            try_run(&rt, rt.alloc(), arguments, "", &CALM, (*status, *output))?;
+            try_command(&rt, rt.alloc(), arguments, (*status, *output))?;
         }
     }
     Ok(())
@@ -65,14 +64,7 @@ fn versions_compare(rt: HostRuntime) -> Result<(), NoMemory> {
 #[test]
 fn arguments_that_are_not_a_command(rt: HostRuntime) -> Result<(), NoMemory> {
     for arguments in &versions::USAGES {
-        try_run(
-            &rt,
-            rt.alloc(),
-            arguments,
-            "",
-            &CALM,
-            (Status::Usage, USAGE),
-        )?;
+        try_command(&rt, rt.alloc(), arguments, (Status::Usage, USAGE))?;
     }
     Ok(())
 }
@@ -80,14 +72,9 @@ fn arguments_that_are_not_a_command(rt: HostRuntime) -> Result<(), NoMemory> {
 #[test]
 fn a_service_prints_its_transcript(rt: HostRuntime) -> Result<(), NoMemory> {
     for (arguments, input, output) in &services::CASES {
-        try_run(
-            &rt,
-            rt.alloc(),
-            arguments,
-            input,
-            &CALM,
-            (Status::Done, *output),
-        )?;
+        let want = (Status::Done, *output);
+        let is_same = runs_to(&rt, rt.alloc(), arguments, input, &CALM, want)?;
+        assert!(rt; is_same, "{arguments:?} {input}");
     }
     Ok(())
 }
@@ -96,7 +83,7 @@ fn a_service_prints_its_transcript(rt: HostRuntime) -> Result<(), NoMemory> {
 fn what_fails_is_blamed(rt: HostRuntime) -> Result<(), NoMemory> {
     for case in &failures::CASES {
         let want = (case.status, case.output);
-        try_run(
+        let is_same = runs_to(
             &rt,
             rt.alloc(),
             case.arguments,
@@ -104,6 +91,7 @@ fn what_fails_is_blamed(rt: HostRuntime) -> Result<(), NoMemory> {
             &case.outside,
             want,
         )?;
+        assert!(rt; is_same, "{:?} {}", case.arguments, case.input);
     }
     Ok(())
 }

@@ -10,12 +10,7 @@ use Rattle.cv_overlay.specs.declared.fault.ImageFault.{ImageFault}
 use Rattle.cv_overlay.specs.declared.fault.ImageFault.TheVariants.{NoLayer, BadTree, BadFile, TooLarge}
 use Rattle.cv_overlay.specs.declared.fault.TreeFault.{TreeFault}
 use Rattle.cv_overlay.specs.declared.fault.TreeFault.TheVariants.{Unsorted, NoParent, BadMark, TooMany}
-use Rattle.cv_request.specs.declared.error.RequestError.{RequestError}
-use Rattle.cv_request.specs.declared.error.RequestError.TheVariants.{BadJson, BadRequest, BadAdvisory, DuplicateId, TooManyAdvisories, NoMemory}
-use Rattle.cv_request.specs.declared.error.RequestWhat.{RequestWhat}
 use Rattle.cv_scan_output.specs.Bad.{bad_data, bad_image_data, bad_tree_data}
-use Rattle.cv_scan_output.specs.Refusal.{bad_request_data, refusal_data}
-use Rattle.cv_scan_output.proofs.Requests.{each_request}
 
 fixed_has_none : (fixed : Option (List ℕ)) → has_float (fixed_data fixed) ≡ false
 fixed_has_none None = refl
@@ -42,14 +37,3 @@ bad_has_none (TooLarge path) = refl
 
 pub bad_image_has_none : (image : List ℕ) (bad : ImageFault) → has_float (bad_image_data image bad) ≡ false
 bad_image_has_none image bad = rw (bad_has_none bad) refl
-
-request_has_none : (line : ℕ) (what : RequestWhat) → has_float (bad_request_data line what) ≡ false
-request_has_none line what = each_request (λ (d : Data). has_float d ≡ false) line (λ index. refl) (λ name. refl) what
-
-pub refusal_has_none : (line : ℕ) (error : RequestError) → has_float (refusal_data line error) ≡ false
-refusal_has_none line BadJson = refl
-refusal_has_none line (BadRequest what) = request_has_none line what
-refusal_has_none line (BadAdvisory index what) = refl
-refusal_has_none line (DuplicateId first second) = refl
-refusal_has_none line TooManyAdvisories = refl
-refusal_has_none line NoMemory = refl

@@ -1,7 +1,7 @@
 use cv_base::NoMemory;
 use cv_osv_record::RecordWhat;
+use cv_refusal::{no_manifest_line, refusal_line};
 use cv_request::{RequestError, RequestWhat};
-use cv_scan_output::{no_manifest_line, refusal_line};
 use std::test::Fail;
 
 #[test]

@@ -37,10 +37,10 @@ use Rattle.cv_transcript.specs.Event.{put_by, put_details, put_subject}
 use Rattle.cv_scan_output.specs.Finding.{finding_data, fixed_data, items_of}
 use Rattle.cv_transcript.specs.Members.{digest_data, put_number, put_text}
 use Rattle.cv_transcript.specs.Read.{answer_members, head_data, list_members, page_members, reply_members, report_members}
-use Rattle.cv_scan_output.specs.Refusal.{bad_request_data, refusal_data}
+use Rattle.cv_refusal.specs.Refusal.{bad_request_data, refusal_data}
 use Rattle.cv_transcript.specs.Rows.{row_data, rows_data}
-use Rattle.cv_scan_output.proofs.Floats.{refusal_has_none}
-use Rattle.cv_scan_output.proofs.Requests.{each_request}
+use Rattle.cv_refusal.proofs.Floats.{refusal_has_none}
+use Rattle.cv_refusal.proofs.Requests.{each_request}
 
 -- no number has a point, and at most n deep
 abbrev pub IsPlain : ℕ → Data → Type 0

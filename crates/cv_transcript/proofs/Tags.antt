@@ -29,9 +29,9 @@ use Rattle.cv_transcript.specs.Entry.{entry_data, entry_json}
 use Rattle.cv_transcript.specs.Event.{act_name, event_data, put_by, put_details, put_reply, put_subject}
 use Rattle.cv_transcript.specs.Members.{put_number, put_text}
 use Rattle.cv_transcript.specs.Read.{answer_members}
-use Rattle.cv_scan_output.specs.Refusal.{bad_request_data, refusal_data}
+use Rattle.cv_refusal.specs.Refusal.{bad_request_data, refusal_data}
 use Rattle.cv_transcript.specs.Tag.{Tag, RefusedLine, LaneEvent, WorkerEvent, LaneRead, entry_tag, event_tag, is_no_memory_answer, is_no_memory_error, layer_of, tag_of, tag_of_json}
-use Rattle.cv_scan_output.proofs.Requests.{each_request}
+use Rattle.cv_refusal.proofs.Requests.{each_request}
 use Rattle.cv_transcript.proofs.Plain.{entry_plain}
 
 -- ---- looking up a member

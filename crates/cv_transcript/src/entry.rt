@@ -7,8 +7,9 @@ use crate::event::event_value;
 use crate::read::read_value;
 use cv_base::NoMemory;
 use cv_records::{EventEntry, ReadEntry};
+use cv_refusal::refusal_value;
 use cv_request::RequestError;
-use cv_scan_output::{ended, json_of, refusal_value};
+use cv_scan_output::{ended, json_of};
 use serde_json::Value;
 use std::alloc::Global;
 

@@ -1,5 +1,6 @@
 ghost use Rattle.std.specs.Prelude.{◌<◌, ◌≤◌, ◌^◌, length, All};
 
+use crate::compare::is_ended;
 use crate::layers::Layers;
 use crate::texts::expand;
 use cv_base::{NoMemory, Seq};
@@ -42,6 +43,19 @@ pub fn run_once<R: Threads + Wait + Sync>(
     let desk = Faulty::new(TableDesk::<Layers>::new(), listed(alloc, outside.desk)?);
     let mut desks = vec![in alloc; desk]?;
     run_over(rt, alloc, arguments, input, outside, &mut desks)
+}
+
+/// Runs the program over one desk. Whether it ends so and prints this text, in which names in brackets stand for texts.
+pub fn runs_to<R: Threads + Wait + Sync>(
+    rt: &R,
+    alloc: Global,
+    arguments: &[&str],
+    input: &str,
+    outside: &Outside,
+    (status, text): (Status, &str),
+) -> Result<bool, NoMemory> {
+    let ended = run_once(rt, alloc, arguments, input, outside)?;
+    is_ended(alloc, &ended, status, text)
 }
 
 /// Runs the program over two desks, each of which waits at each listing until so many of them have begun. Returns how it ended, what

@@ -23,7 +23,7 @@ fn packages_are_read_as_the_rules_say(rt: HostRuntime) -> Result<(), Fail> {
     let alloc = rt.alloc();
     for (text, want, what) in [
         (
-            "C:Q1AA=\nP:musl\nV:1.2.4-r1\nA:x86_64\nT:the C library\no:musl\np:so:libc.so.1=1\nF:lib\nR:libc.so.1\na:0:0:755\nR:x\n\n",
+            "C:Q1AA=\nP:musl\nV:1.2.4-r1\nA:x86_64\nS:383459\nI:622592\nT:the C library\nU:https://musl.libc.org/\nL:MIT\no:musl\nm:A B <a@b.org>\nt:1699267459\np:so:libc.so.1=1\nF:lib\nR:libc.so.1\na:0:0:755\nZ:Q1AA=\nR:x\n\n",
             ["musl", "1.2.4-r1", "x86_64", "musl"],
             "an ordinary package, with letters that are not used, some of them twice",
         ),

@@ -9,7 +9,14 @@ use Rattle.cv_request.specs.declared.error.RequestError.TheVariants.{BadJson, Ba
 use Rattle.cv_request.specs.declared.error.RequestWhat.{RequestWhat}
 use Rattle.cv_request.specs.declared.error.RequestWhat.TheVariants.{NotObject, BadLane, BadDo, BadImage, BadManifest, BadHash, BadLayers, NoLayers, TooManyLayers, BadLayer, BadFeed, BadAdvisories, BadNumber, BadSize, BadPage}
 use Rattle.cv_scan_output.specs.Line.{line_text}
-use Rattle.cv_scan_output.specs.Scan.{line_data, refused_text}
+
+-- the JSON value of a refused line
+abbrev pub line_data : ℕ → List ℕ → Data
+line_data line word = object (member (codes "line") (number (unsigned line)) (member (codes "refused") (string word) no_members))
+
+-- the line of a refused line, with its number from 1 and a word for the cause
+unfoldable pub refused_text : ℕ → List ℕ → List ℕ
+refused_text line word = line_text (line_data line word)
 
 -- a line that is refused for an item of a list, with the index of the item and what is wrong with it
 abbrev pub item_data : ℕ → List ℕ → ℕ → List ℕ → Data

@@ -1,4 +1,4 @@
-use Rattle.cv_hub_tests.proofs.tests.seats.a_seat_has_seen_the_events_of_a_note_that_it_learned.Given as goal
+use Rattle.cv_hub_seat_tests.proofs.tests.a_seat_has_seen_the_events_of_a_note_that_it_learned.Given as goal
 
 -- the ledger, the list and the limits of the hub that is started
 abbrev pub ghosts-learn_and_view-L-Ledger : goal.ghosts-learn_and_view-L-Ledger

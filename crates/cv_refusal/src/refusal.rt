@@ -1,12 +1,11 @@
 ghost use Rattle.std.specs.Prelude.{◌≡◌, IfOk, codes, string_bytes};
 ghost use Rattle.serde_json.specs.View.{view};
-ghost use Rattle.cv_scan_output.specs.Scan.{line_data, refused_text};
-ghost use Rattle.cv_scan_output.specs.Refusal.{bad_advisory_data, bad_request_data, duplicate_data, item_data, named_data, no_manifest_text, refusal_data, refusal_text};
+ghost use Rattle.cv_refusal.specs.Refusal.{bad_advisory_data, bad_request_data, duplicate_data, item_data, line_data, named_data, no_manifest_text, refusal_data, refusal_text, refused_text};
 
-use crate::line::line_of;
 use cv_base::NoMemory;
 use cv_osv_record::RecordWhat;
 use cv_request::{RequestError, RequestWhat};
+use cv_scan_output::line_of;
 use serde_json::{Value, json};
 use std::alloc::Global;
 
@@ -27,7 +26,7 @@ pub fn no_manifest_line(alloc: Global) -> Result<String, NoMemory>
 }
 
 /// The line of a refusal by a word alone: `{"line":1,"refused":"no_manifest"}`. Lines are numbered from 1.
-#[tactic(auto, unfolding(crate::specs::Scan::refused_text))]
+#[tactic(auto, unfolding(crate::specs::Refusal::refused_text))]
 fn refused_line(alloc: Global, line: u64, word: &str) -> Result<String, NoMemory>
     ensures { IfOk result (λ text. string_bytes text ≡ refused_text line word.now) }
 {

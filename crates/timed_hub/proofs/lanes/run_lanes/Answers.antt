@@ -6,12 +6,12 @@ use denote.Param.Send.{param_sync, arg_sync, shr_sync}
 use Rattle.cv_hub.proofs.Captured.{captured_sync}
 use Rattle.cv_hub.proofs.Crossing.{hub_sync}
 use Rattle.cv_hub.specs.contracts.hub.Hub as hub
-use Rattle.bench_hub.proofs.lanes.Task.TheSendSync as task_crossing
-use Rattle.bench_hub.specs.contracts.lanes.Task as task
+use Rattle.timed_hub.proofs.lanes.Task.TheSendSync as task_crossing
+use Rattle.timed_hub.specs.contracts.lanes.Task as task
 use Rattle.sample_data.proofs.desk.SampleDesk.TheSendSync as desk_crossing
 use Rattle.sample_data.specs.contracts.desk.SampleDesk as desk
 use Rattle.sample_data.specs.contracts.desk.SampleDeskDesk.TheImpl as desk_impl
-use Rattle.bench_hub.proofs.lanes.run_lanes.Goals as goal
+use Rattle.timed_hub.proofs.lanes.run_lanes.Goals as goal
 
 -- each step is named: a search that sees the inside of a hub gives up
 pub for_each_mut-requires-sync-F : goal.for_each_mut-requires-sync-F

@@ -3,7 +3,7 @@ use Rattle.std.specs.Prelude.{ℕ, List, codes}
 use Rattle.serde_json.specs.Data.{Data}
 use Rattle.cv_request.specs.declared.error.RequestWhat.{RequestWhat}
 use Rattle.cv_request.specs.declared.error.RequestWhat.TheVariants as request_what
-use Rattle.cv_scan_output.specs.Refusal.{bad_layer_data, bad_request_data, named_data}
+use Rattle.cv_refusal.specs.Refusal.{bad_layer_data, bad_request_data, named_data}
 
 -- what holds of both ways to write one holds of each
 pub each_request : (P : Data → Type 0) (line : ℕ) → ((index : ℕ) → P (bad_layer_data line index)) → ((name : List ℕ) → P (named_data line name))

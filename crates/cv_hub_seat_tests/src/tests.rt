@@ -2,12 +2,11 @@ ghost use Rattle.std.specs.Prelude.{◌≡◌, ◌≤◌, length, IfOk};
 ghost use Rattle.cv_base.specs.declared.limits.TheConstants.{MAX_LAYERS};
 ghost use Rattle.sample_events.specs.Core.{opened};
 
-use super::taken;
 use cv_base::{Digest, Manifest, Seq};
 use cv_core::{Core, Event, Report, ReportRefusal};
 use cv_hub::{Blank, Hub, Identity, Seat};
 use cv_seq::NoMemory;
-use sample_events::{By, EventEntry, Reply, SampleDesk, hash, new_core};
+use sample_events::{By, EventEntry, Reply, SampleDesk, hash, new_core, taken};
 use std::alloc::Global;
 use std::marker::Brand;
 use std::sync::Wait;

@@ -1,5 +1,5 @@
 use Rattle.std.proofs.Common.{length}
-use Rattle.cv_hub_tests.proofs.tests.+are_numbered.Given as goal
+use Rattle.sample_events.proofs.seats.+are_numbered.Given as goal
 
 abbrev pub decreases-are_numbered : goal.decreases-are_numbered
 decreases-are_numbered g l = length l.seats.now

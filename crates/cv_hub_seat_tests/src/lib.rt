@@ -1,0 +1,5 @@
+//! Tests of `cv_hub` that look at what one seat sees.
+#![tactic(auto)]
+
+#[cfg(test)]
+mod tests;
