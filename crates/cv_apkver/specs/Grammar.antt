@@ -86,13 +86,13 @@ build_text (Some number) = HYPHEN ∷ BUILD_MARK ∷ number
 abbrev pub text_of : Written → List ℕ
 text_of w = release_text w.first w.more w.letter ++ (suffixes_text w.suffixes ++ build_text w.build)
 
--- the word is letters, one of the table, and the number, where it is there, is digits
+-- the word is letters, one of the table, and the number, if present, is digits
 pub record IsSuffixWritten (s : WrittenSuffix) : Type 0 where
   pub letters : IsTrue (list_all is_letter s.word)
   pub known : IsTrue (is_some (rank_of s.word))
   pub digits : IsTrue (list_all is_digit s.digits)
 
--- each part is what the grammar asks for
+-- each part is as the grammar requires
 pub record IsWellWritten (w : Written) : Type 0 where
   pub first : IsTrue (is_number w.first)
   pub more : IsTrue (list_all is_number w.more)

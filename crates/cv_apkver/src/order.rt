@@ -33,7 +33,7 @@ pub fn version_key_law()
 
 /// How two versions compare: by their numbers, at the first difference, where the list that ends first is less; then by
 /// their letters, none being least; then by their suffixes, place by place; then by their build numbers. An absent number
-/// is 0, and leading zeros do not count. Two texts that are no versions are compared as far as parts can be read of them.
+/// is 0, and leading zeros do not count. Two texts that are not valid versions are compared as far as their parts can be read.
 pub fn compare(a: &[u8], b: &[u8]) -> Ordering
     ensures { result ≡ version_cmp a.now b.now }
 {

@@ -8,7 +8,7 @@ use Rattle.clap.specs.Simple.{App, matches_of, new_app, on_top}
 use Rattle.clap.specs.ValueTests.{is_numeral}
 use Rattle.clap.specs.Walk.{Row, Text}
 
--- a command without arguments, of which all arguments are read and none asks for help
+-- a command without arguments, of which all arguments are read and none is for help
 abbrev pub app_named : Text → App
 app_named name = on_top (λ shape. record shape { no_binary_name = true; disable_help_flag = true }) (new_app name)
 

@@ -21,7 +21,7 @@ pub fn seed_of(alloc: Global, arguments: &[String]) -> Result<Option<u32>, NoMem
     }
 }
 
-/// The number of the argument. It is required, so that it is there.
+/// The number of the argument. It is required, so it is present.
 fn seed_in(matches: &ArgMatches) -> Option<u32>
     ensures { result ≡ seed_in (rows_of (found_of matches.now)) }
 {

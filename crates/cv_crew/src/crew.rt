@@ -13,7 +13,7 @@ pub trait Crew<H, S, K> {
     /// What was done.
     ghost did: { Self → ℕ → H → H → S → S → K → K → Type 0 };
 
-    /// Whether so little work is there that threads are not worth it.
+    /// Whether there is too little work for threads to be worth it.
     fn is_idle(&self) -> bool;
 
     /// Does the work of one number.

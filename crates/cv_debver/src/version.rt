@@ -22,7 +22,7 @@ pub(crate) struct Parts<'a> {
 }
 
 /// Compares two versions: the epochs as numbers of any length, then the upstream versions, then the revisions. Texts that are
-/// no versions are compared by the same rule. The time is linear in the texts.
+/// not valid versions are compared by the same rule. The time is linear in the texts.
 pub fn compare(a: &[u8], b: &[u8]) -> Ordering
     ensures { result ≡ version_cmp a.now b.now }
 {

@@ -16,7 +16,8 @@ use Rattle.cv_base.specs.declared.tree.Tree.{Tree}
 use Rattle.cv_base.specs.declared.tree.TreeEntry.{TreeEntry}
 use Rattle.cv_path.proofs.Same.{path_self}
 use Rattle.cv_desk.specs.declared.desk.DeskFault.{DeskFault}
-use Rattle.cv_desk.specs.Loaded.{answered, loaded, loaded_by, loaded_kind, node_of}
+use Rattle.cv_desk.specs.Loaded.{answered, loaded, node_of}
+use Rattle.cv_desk.specs.code.Loaded.{loaded_by, loaded_kind}
 use Rattle.cv_desk.specs.Stored.{Item, Dir, File, Other, Stored, IsDistinctIn, is_distinct, item_at, kind_of, listed}
 
 -- each of these entries is found at its path

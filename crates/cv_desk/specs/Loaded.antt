@@ -5,13 +5,10 @@ use Rattle.cv_base.specs.Place.{place_of}
 use Rattle.cv_base.specs.declared.limits.TheConstants.{PACKAGE_FILE_LIMIT}
 use Rattle.cv_base.specs.declared.tree.Content.{Content}
 use Rattle.cv_base.specs.declared.tree.Content.TheVariants.{Bytes, TooLarge, Unread}
-use Rattle.cv_base.specs.declared.tree.Kind.{Kind}
-use Rattle.cv_base.specs.declared.tree.Kind.TheVariants as kind
-use Rattle.cv_base.specs.declared.tree.ListEntry.{ListEntry}
 use Rattle.cv_base.specs.declared.tree.Node.{Node}
 use Rattle.cv_base.specs.declared.tree.Node.TheVariants as node
 use Rattle.cv_base.specs.declared.tree.TreeEntry.{TreeEntry}
-use Rattle.cv_desk.specs.Stored.{Item, Dir, File, Other, Stored, file_read, item_in}
+use Rattle.cv_desk.specs.Stored.{Item, Dir, File, Other, Stored, file_read}
 use Rattle.cv_desk.specs.declared.desk.FileRead.{FileRead}
 use Rattle.cv_desk.specs.declared.desk.FileRead.TheVariants as read
 
@@ -39,16 +36,6 @@ answered read.NotFile = node.Other
 -- a file as it is loaded, if this is at its path
 abbrev pub loaded_file : Path → Option Item → Node
 loaded_file path found = if is_none (place_of path) then node.File Unread else answered (file_read found PACKAGE_FILE_LIMIT)
-
--- a listed entry as it is loaded
-abbrev pub loaded_kind : Path → Kind → Option Item → Node
-loaded_kind path kind.Dir found = node.Dir
-loaded_kind path kind.File found = loaded_file path found
-loaded_kind path kind.Other found = node.Other
-
--- the same, from a layer's listing and its reads
-abbrev pub loaded_by : Option (List Stored) → ListEntry → TreeEntry
-loaded_by tree entry = record { path = entry.path; node = loaded_kind entry.path entry.kind (item_in tree entry.path) }
 
 -- a file at a place of package files was read, or is above the limit
 abbrev pub is_read_node : Path → Node → Bool

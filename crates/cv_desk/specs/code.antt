@@ -1,4 +1,5 @@
 pub mod Listed
+pub mod Loaded
 pub mod TableLaws
 pub mod TableRow
 pub mod TableSteps

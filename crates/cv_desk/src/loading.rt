@@ -5,7 +5,8 @@ ghost use Rattle.cv_base.specs.Place.{place_of};
 ghost use Rattle.cv_seq.specs.Cause.{CausedBy};
 ghost use Rattle.cv_desk.specs.Counts.{HasReads, count_after, is_file, is_other, package_files};
 ghost use Rattle.cv_desk.specs.Fault.{is_failed};
-ghost use Rattle.cv_desk.specs.Loaded.{answered, is_read, is_read_node, loaded, loaded_by, loaded_file};
+ghost use Rattle.cv_desk.specs.Loaded.{answered, is_read, is_read_node, loaded, loaded_file};
+ghost use Rattle.cv_desk.specs.code.Loaded.{loaded_by};
 ghost use Rattle.cv_desk.specs.Stored.{item_in};
 ghost use Rattle.cv_desk.specs.code.Listed.{FitsFound, FitsReads, IsAnswer, files_to_read, is_to_read};
 

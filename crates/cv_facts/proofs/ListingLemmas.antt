@@ -13,7 +13,8 @@ use Rattle.cv_base.specs.declared.tree.Content.TheVariants.{Bytes, TooLarge, Unr
 use Rattle.cv_base.specs.declared.tree.ListEntry.{ListEntry}
 use Rattle.cv_base.specs.declared.tree.Node.TheVariants as node
 use Rattle.cv_base.specs.declared.tree.TreeEntry.{TreeEntry}
-use Rattle.cv_desk.specs.Loaded.{loaded, loaded_by, whole, whole_node}
+use Rattle.cv_desk.specs.Loaded.{loaded, whole, whole_node}
+use Rattle.cv_desk.specs.code.Loaded.{loaded_by}
 use Rattle.cv_desk.specs.Stored.{Dir, File, IsDistinctIn, Item, Other, Stored, kind_of}
 use Rattle.cv_desk.specs.Stored.{listed as listed_entry}
 use Rattle.cv_desk.proofs.LoadedLayers.{loaded_whole}

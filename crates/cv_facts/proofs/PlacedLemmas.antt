@@ -10,7 +10,8 @@ use Rattle.cv_base.specs.declared.tree.Content.TheVariants as content
 use Rattle.cv_base.specs.declared.tree.Kind.{Kind}
 use Rattle.cv_base.specs.declared.tree.Kind.TheVariants as kind
 use Rattle.cv_base.specs.declared.tree.Node.TheVariants as node
-use Rattle.cv_desk.specs.Loaded.{answered, loaded_file, loaded_kind}
+use Rattle.cv_desk.specs.Loaded.{answered, loaded_file}
+use Rattle.cv_desk.specs.code.Loaded.{loaded_kind}
 use Rattle.cv_desk.specs.Stored.{Item, Stored, file_read, item_in}
 use Rattle.cv_desk.specs.declared.desk.FileRead.{FileRead}
 use Rattle.cv_desk.specs.declared.desk.FileRead.TheVariants.{Bytes, NotFile, TooLarge}

@@ -1,7 +1,7 @@
 -- How bytes are cut into lines, and how far a reader with limits comes (defined by this project). A line ends at an LF, and
 -- one CR before the LF is no part of its text. The bytes after the last LF are a line if there are any, and lose one CR at
 -- their end too. So a last piece that is only a CR is an empty line.
-use Rattle.std.specs.Prelude.{◌≡◌, ℕ, ◌-◌, ◌==◌, nat_lt, nat_le, Bool, false, if◌then◌else◌, List, [], ◌∷◌, ◌++◌, length, take, slice_index}
+use Rattle.std.specs.Prelude.{◌≡◌, ℕ, ◌-◌, ◌==◌, nat_lt, nat_le, Bool, false, if◌then◌else◌, List, [], ◌∷◌, length, take, slice_index}
 use Rattle.std.specs.Io.BufRead.{strip_last}
 use Rattle.std.specs.List.{All, slice_split}
 
@@ -65,10 +65,6 @@ stopped stop = record { lines = []; stop = stop }
 -- a line, and then the reading of the rest
 abbrev pub line_then : List ℕ → Reading → Reading
 line_then line rest = record { lines = line ∷ rest.lines; stop = rest.stop }
-
--- lines, and then the reading of the rest
-abbrev pub lines_then : List (List ℕ) → Reading → Reading
-lines_then lines rest = record { lines = lines ++ rest.lines; stop = rest.stop }
 
 -- the reading of the pieces of what may be taken; `is_cut` says that there is more than may be taken
 abbrev pub reading_from : ℕ → Bool → List (List ℕ) → Reading

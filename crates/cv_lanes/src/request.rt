@@ -25,7 +25,7 @@ pub struct Place {
     pub line: u64,
 }
 
-/// A read that a request asks for.
+/// The read of a request.
 pub enum Look {
     Report(Digest),
     Page { number: u64, size: u32, page: u64 },
@@ -56,7 +56,7 @@ pub fn carry_out<D: Desk + Drop, L: Identity, W: Wait>(
     }
 }
 
-/// The event that a request asks for, or the read.
+/// The event of a request, or its read.
 fn event_in<D: Desk>(act: Act) -> Result<Event<D>, Look>
     requires within { IsWithinLimits act }
     ensures event { IfOk result (λ event. (event_of act ≡ Some (act_of event)) × IsSound (act_of event)) }

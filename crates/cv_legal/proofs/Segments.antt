@@ -29,7 +29,7 @@ use Rattle.cv_machine.specs.Scans.{Trees}
 use Rattle.cv_machine.specs.Step.{step}
 use Rattle.cv_machine.specs.declared.act.WholeAct.{WholeAct}
 use Rattle.cv_machine.specs.declared.act.WholeAct.TheVariants as whole
-use Rattle.cv_legal.specs.Parts.{claim_in, claims_of, event_by, events_by, grants, is_grant}
+use Rattle.cv_legal.specs.Parts.{claim_in, claims_of, event_by, events_by, is_grant}
 use Rattle.cv_legal.specs.Replay.{Moment, Replays, event_of, moment_after, read_of, worker_event}
 use Rattle.cv_legal.specs.Taken.{refusal_at, refusals}
 use Rattle.cv_legal.specs.Turns.{ClaimsBelow, FitsWork, Works, work_after}
@@ -229,6 +229,10 @@ granted_both : (xs ys : List EventEntry)
 granted_both xs ys =
     ap (λ events. length events) (filter-append (λ (event : EventEntry). is_grant event.act event.reply) xs ys)
     ∙ length-append (filter (λ event. is_grant event.act event.reply) xs) (filter (λ event. is_grant event.act event.reply) ys)
+
+-- how many claims of a worker are granted, which is how many of its lines say `claimed`
+abbrev pub grants : ℕ → List Entry → ℕ
+grants worker entries = length (filter (λ event. is_grant event.act event.reply) (events_by worker (events_of entries)))
 
 pub grants_both : (worker : ℕ) (xs ys : List Entry) → grants worker (xs ++ ys) ≡ grants worker xs + grants worker ys
 grants_both worker xs ys =

@@ -57,7 +57,3 @@ times layer layers = length (filter (same layer) layers)
 abbrev pub is_grant : Act → Reply → Bool
 is_grant (name.Claim layer) reply.Claimed = true
 is_grant act answer = false
-
--- how many claims of a worker are granted, which is how many of its lines say `claimed`
-abbrev pub grants : ℕ → List Entry → ℕ
-grants worker entries = length (filter (λ event. is_grant event.act event.reply) (events_by worker (events_of entries)))

@@ -36,7 +36,7 @@ moment_after trees before act = record { count = before.count + 1; state = (step
 abbrev pub beginning : Moment
 beginning = record { count = 0; state = opening (record { images = MAX_IMAGES; feeds = MAX_FEEDS }) }
 
--- ---- what a request asks for
+-- ---- the event or the read of a request
 
 -- the event that a request submits, if it submits one
 abbrev pub event_of : RequestAct → Option WholeAct
@@ -48,7 +48,7 @@ event_of (request.Page number size page) = None
 event_of request.List = None
 event_of (request.Ack number) = Some (whole.Ack number)
 
--- the read that a request asks for, if it asks for one
+-- the read of a request, if it is one
 abbrev pub read_of : RequestAct → Option Read
 read_of (request.Register manifest) = None
 read_of (request.DropImage image) = None
@@ -58,7 +58,7 @@ read_of (request.Page number size page) = Some (reads.Page number size page)
 read_of request.List = Some reads.Heads
 read_of (request.Ack number) = None
 
--- what the request of a lane on a line asks for
+-- the action of the request of a lane on a line
 abbrev pub requested_at : List Requested → ℕ → ℕ → Option RequestAct
 requested_at requested lane line = option_map (λ r. r.request.act) (find (λ r. r.line == line && r.request.lane == lane) requested)
 

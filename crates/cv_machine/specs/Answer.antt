@@ -54,7 +54,7 @@ page_of notifications notification size number = page_at (notification_at notifi
 abbrev pub heads : Notifications → List NoticeHead
 heads notifications = map (λ (notification : ℕ × List Row). record { number = notification.0; rows = length notification.1 }) notifications
 
--- what a read asks for: the report of an image, a page (the notification, the size and the page), or all notifications
+-- the query of a read: the report of an image, a page (the notification, the size and the page), or all notifications
 pub data Read : Type 0 where
   Report : List ℕ → Read
   Page : ℕ → ℕ → ℕ → Read

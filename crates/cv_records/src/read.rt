@@ -35,7 +35,7 @@ pub enum PageOutcome {
     NoPage { pages: u64 },
 }
 
-/// What a read asks for, with its answer; or that memory ran out.
+/// The query of a read with its answer, or that memory ran out.
 #[derive(Debug, PartialEq, Eq, Drop)]
 pub enum Answer {
     Report {

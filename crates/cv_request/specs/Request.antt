@@ -58,7 +58,7 @@ page_of d = do
   page ← number_or 1 (2 ^ 64 - 1) BadPage (get (codes "page") d)
   Ok (act.Page number size page)
 
--- what the command of this name asks for
+-- the action of the command of this name
 unfoldable pub act_of : List ℕ → Data → Result Act RequestFault
 act_of name d =
     if same name (codes "register") then refusing (register_of d)

@@ -45,7 +45,7 @@ fn request_of(alloc: Global, value: &Value) -> Result<Request, RequestError>
     Ok(Request { lane, act })
 }
 
-/// What the command of this name asks for.
+/// The action of the command of this name.
 #[tactic(auto, unfolding(crate::specs::Request::act_of))]
 fn act_of(alloc: Global, name: &str, value: &Value) -> Result<Act, RequestError>
     ensures value { Yields fault_of (λ act. act) result (act_of name.now (view value.now)) }

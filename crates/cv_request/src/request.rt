@@ -1,6 +1,6 @@
 use cv_base::{Advisory, Digest, Manifest, Seq, Text};
 
-/// What a client asks for.
+/// An action that a client requests.
 #[derive(Debug, PartialEq, Eq, Drop)]
 pub enum Act {
     /// To register an image.

@@ -210,7 +210,7 @@ lane_seen tree limits before list whole all (requested ∷ asks) (Answered read 
 
 -- ---- the events of a lane
 
--- an event is what the request on its line asks for
+-- an event is that of the request on its line
 event_sourced : (tree : DeskTrees) (limits : Limits) (list : List Submission) (all : List Requested) (requested : Requested) (p : Placed) → IsFound all requested
     → Answers tree limits list requested (Submitted p) → IsSourced all p.event
 event_sourced tree limits list all requested p found h =

@@ -225,7 +225,7 @@ round_fits tree limits before later requested workers reads layers below lanes d
       subst (AllByRecursion (λ (p : Placed). FitsSeat (8 + worker) p.event.by)) part.own_is
       (all_weaker (IsByWorker worker) (λ (p : Placed). FitsSeat (8 + worker) p.event.by) part.own (λ p h. subst (FitsSeat (8 + worker)) (sym h.0) refl) part.by_worker)
 
--- each event is what a request asks for, or what its worker says
+-- each event is that of a request, or of its worker
 round_sourced : (tree : DeskTrees) (limits : Limits) (before later : List Submission) (requested : List Requested) (others : List Entry) (workers : ℕ) (reads : ℕ → List ReadEntry) (layers : ℕ → List (List ℕ))
     → RoundParts tree limits before later requested others workers reads layers → AllByRecursion (IsSourced requested) later
 round_sourced tree limits before later requested others workers reads layers round =

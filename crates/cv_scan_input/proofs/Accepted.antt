@@ -9,7 +9,8 @@ use Rattle.cv_base.specs.declared.advisory.Advisory.{Advisory}
 use Rattle.cv_base.specs.declared.manifest.Manifest.{Manifest}
 use Rattle.cv_io.specs.declared.line.Line.TheVariants.{Text}
 use Rattle.cv_io.specs.declared.line.LineError.TheVariants as line
-use Rattle.cv_io.specs.Lines.{Finished, HasNoLineEnd, LF, Reading, line_then, lines_then, stopped, text_of}
+use Rattle.cv_io.specs.Lines.{Finished, HasNoLineEnd, LF, Reading, line_then, stopped, text_of}
+use Rattle.cv_io.specs.code.Lines.{lines_then}
 use Rattle.cv_io.specs.Reader.{Reader, Step, progress_of, room_of, ungiven}
 use Rattle.cv_io.specs.Takes.{Takes}
 use Rattle.cv_request.specs.declared.error.RequestFault.{RequestFault}

@@ -11,7 +11,8 @@ use Rattle.cv_io.specs.declared.line.LineError.TheVariants as line
 use Rattle.cv_io.specs.Lines.{Reading, line_then}
 use Rattle.cv_io.specs.Reader.{Reads}
 use Rattle.cv_request.specs.declared.error.RequestFault.{RequestFault}
-use Rattle.cv_scan_input.specs.Answer.{IsRequest, IsRefusedBy, is_input_memory, stop_error}
+use Rattle.cv_scan_input.specs.Answer.{IsRequest, IsRefusedBy, stop_error}
+use Rattle.cv_scan_input.specs.code.Memory.{is_input_memory}
 use Rattle.cv_scan_input.specs.Request.{RefusedAt, Scan, ScanRequest, scan_request_of, request_after, manifest_or, record_lines}
 use Rattle.cv_scan_input.specs.code.Remaining.{Begins, remaining_request, line_after, refused_at}
 use Rattle.cv_scan_input.specs.declared.error.InputError.{InputError}

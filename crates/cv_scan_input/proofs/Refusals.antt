@@ -14,7 +14,7 @@ use Rattle.cv_osv.specs.declared.error.OsvError.TheVariants as osv
 use Rattle.cv_request.specs.Fault.{fault_of, listing}
 use Rattle.cv_request.specs.code.Records.{requested}
 use Rattle.cv_request.specs.declared.error.RequestFault.{RequestFault}
-use Rattle.cv_scan_input.specs.Answer.{is_input_memory}
+use Rattle.cv_scan_input.specs.code.Memory.{is_input_memory}
 use Rattle.cv_scan_input.specs.code.Remaining.{found_after, record_after, refusal_at, refused_at, text_after}
 
 -- the fault of a request is that of its line

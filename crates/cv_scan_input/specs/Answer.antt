@@ -14,15 +14,6 @@ stop_error line.LineTooLong = LineTooLong
 stop_error line.InputTooLong = InputTooLong
 stop_error line.NoMemory = NoMemory
 
--- the call ran out of memory
-abbrev pub is_input_memory : InputError → Bool
-is_input_memory NoManifest = false
-is_input_memory (Refused line fault) = false
-is_input_memory ReadFault = false
-is_input_memory LineTooLong = false
-is_input_memory InputTooLong = false
-is_input_memory NoMemory = true
-
 -- the answer blames the source
 abbrev pub is_input_fault : {X : Type 0} → Result X InputError → Bool
 is_input_fault (Ok x) = false

@@ -1,4 +1,5 @@
 -- Words that only retell private functions.
 pub mod Accepted
+pub mod Memory
 pub mod Remaining
 pub mod TakenParts

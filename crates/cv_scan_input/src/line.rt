@@ -1,7 +1,7 @@
 ghost use Rattle.std.specs.Prelude.{◌≡◌, ◌≤◌, length, IfOk};
 ghost use Rattle.cv_base.specs.Answer.{Gives, Yields};
 ghost use Rattle.cv_request.specs.Fault.{fault_of};
-ghost use Rattle.cv_scan_input.specs.Answer.{is_input_memory};
+ghost use Rattle.cv_scan_input.specs.code.Memory.{is_input_memory};
 ghost use Rattle.cv_scan_input.specs.Request.{manifest_or};
 ghost use Rattle.cv_scan_input.specs.code.Remaining.{found_after, line_after, refusal_at, refused_at, text_after};
 

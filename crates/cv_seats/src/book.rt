@@ -53,7 +53,7 @@ pub struct Deed<D: Desk> {
     pub reply: Snapshot<Reply>,
 }
 
-/// What the step asks for: the event with its reply.
+/// The event that the step records, with its reply.
 impl<D: Desk> Plain<Deed<D>, Submission, u64> for Add {
     ghost use Rattle.std.specs.Prelude.{None};
     ghost use Rattle.cv_seats.specs.code.Book.{submission_of};

@@ -1,7 +1,8 @@
 -- What was read of the input, line by line, and how much of it was taken.
 use Rattle.std.specs.Prelude.{◌≡◌, ℕ, ◌^◌, List, [], ◌∷◌, ◌++◌, Option, Some, None, IfSome, IsErrAnd, Result, Ok, Err, refl}
 use Rattle.std.proofs.Common.{ap, append_assoc, subst, sym, ◌∙◌}
-use Rattle.cv_io.specs.Lines.{Reading, Finished, lines_of, lines_then}
+use Rattle.cv_io.specs.Lines.{Reading, Finished, lines_of}
+use Rattle.cv_io.specs.code.Lines.{lines_then}
 use Rattle.cv_io.proofs.Readings.{reading_finished}
 use Rattle.cv_io.specs.Reader.{Reader, Reads, Step, new_reader, reading}
 use Rattle.cv_io.specs.declared.line.Line.TheVariants.{Text}

@@ -21,7 +21,7 @@ claim : (layer : List ℕ) → event_data (record { number = 2; by = by.Worker 0
     (member (codes "reply") (string (codes "claimed")) (member (codes "worker") (number (unsigned 0)) no_members)))))
 claim layer = refl
 
--- a read that ran out of memory has neither its word nor what it asks for
+-- a read that ran out of memory has neither its word nor its query
 no_memory : read_data (record { front = 4; lane = 1; line = 9; answer = answer.NoMemory })
     ≡ object (member (codes "at") (number (unsigned 4)) (member (codes "lane") (number (unsigned 1)) (member (codes "line") (number (unsigned 9)) (member (codes "reply") (string (codes "no_memory")) no_members))))
 no_memory = refl

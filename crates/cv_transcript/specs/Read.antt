@@ -1,5 +1,5 @@
 -- The line of a read with its answer (defined by this project). The front is the number of events before it, pages are
--- numbered from 1. A read that ran out of memory has neither its word nor what it asks for.
+-- numbered from 1. A read that ran out of memory has neither its word nor its query.
 use Rattle.std.specs.Prelude.{ℕ, List, map, codes}
 use Rattle.serde_json.specs.Data.{Data, Members, no_members, array, object, put}
 use Rattle.cv_records.specs.declared.read.Answer.{Answer}
@@ -54,7 +54,7 @@ abbrev pub list_members : List NoticeHead → Members
 list_members heads =
     put (codes "notifications") (heads_data heads) (put_text (codes "read") (codes "list") (reply_members (codes "list")))
 
--- what a read asks for, and the answer
+-- the query of a read, and the answer
 abbrev pub answer_members : Answer → Members
 answer_members (answer.Report image outcome) =
     put_digest (codes "image") image (put_text (codes "read") (codes "report") (report_members outcome))

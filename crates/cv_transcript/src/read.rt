@@ -22,7 +22,7 @@ pub fn read_value(alloc: Global, entry: &ReadEntry) -> Result<Value, NoMemory>
     )
 }
 
-/// What a read asks for, and the answer.
+/// The query of a read, and the answer.
 fn answer_object(alloc: Global, answer: &Answer) -> Result<Object, NoMemory>
     ensures { IfOk result (λ o. members_view o.map.entries ≡ answer_members answer.now) }
 {

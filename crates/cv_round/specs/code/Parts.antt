@@ -25,7 +25,7 @@ abbrev pub placed_from : ℕ → List Submission → List Placed
 placed_from number [] = []
 placed_from number (event ∷ events) = placed number event ∷ placed_from (number + 1) events
 
--- an event is what the request on its line asks for, or what its worker says
+-- an event is that of the request on its line, or of its worker
 abbrev pub IsSourced : List Requested → Submission → Type 0
 IsSourced requested event = submitted requested event.by (act_name event.act) ≡ Some event.act
 

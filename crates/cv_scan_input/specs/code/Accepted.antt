@@ -3,7 +3,8 @@ use Rattle.std.specs.Prelude.{◌≡◌, ℕ, ◌+◌, ◌<◌, false, List, [],
 use Rattle.std.specs.List.{AllByRecursion}
 use Rattle.cv_base.specs.declared.advisory.Advisory.{Advisory}
 use Rattle.cv_base.specs.declared.manifest.Manifest.{Manifest}
-use Rattle.cv_io.specs.Lines.{LF, Reading, Finished, lines_then, text_of}
+use Rattle.cv_io.specs.Lines.{LF, Reading, Finished, text_of}
+use Rattle.cv_io.specs.code.Lines.{lines_then}
 use Rattle.cv_io.specs.Reader.{Reader, room_of, ungiven}
 use Rattle.cv_scan_input.specs.Request.{manifest_or}
 use Rattle.cv_scan_input.specs.code.Remaining.{remaining_request}

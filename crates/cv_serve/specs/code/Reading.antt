@@ -3,7 +3,8 @@ use Rattle.std.specs.Prelude.{◌≡◌, ◌⊎◌, ⊤, ℕ, true, List, [], �
 use Rattle.std.specs.Io.KnownBytes.{Consumes}
 use Rattle.std.specs.List.{AllByRecursion}
 use Rattle.cv_base.specs.Lines.{numbered}
-use Rattle.cv_io.specs.Lines.{Reading, Stop, Finished, LongLine, LongInput, lines_then}
+use Rattle.cv_io.specs.Lines.{Reading, Stop, Finished, LongLine, LongInput}
+use Rattle.cv_io.specs.code.Lines.{lines_then}
 use Rattle.cv_io.specs.Reader.{Reader}
 use Rattle.cv_io.specs.declared.line.LineError.TheVariants as line
 use Rattle.cv_scan_input.specs.Unrefused.{IsPiece, ended_lines}

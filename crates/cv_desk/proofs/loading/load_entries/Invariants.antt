@@ -2,7 +2,8 @@ use Rattle.std.proofs.Common.{◌≡◌, ◌≤◌, true, map}
 use Rattle.std.specs.List.{count_by, list_all}
 use Rattle.std.specs.Prelude.{IfSome}
 use Rattle.cv_desk.specs.Counts.{count_after}
-use Rattle.cv_desk.specs.Loaded.{is_read, loaded_by}
+use Rattle.cv_desk.specs.Loaded.{is_read}
+use Rattle.cv_desk.specs.code.Loaded.{loaded_by}
 use Rattle.cv_desk.specs.code.Listed.{FitsReads, is_to_read}
 use Rattle.cv_desk.proofs.loading.load_entries.Given as goal
 
