@@ -4,27 +4,15 @@ ghost use Rattle.sample_events.specs.Core.{opened};
 use cv_hub::{Blank, Hub, Identity, Seat};
 use cv_seq::NoMemory;
 use sample_events::{
-    By, Core, EventEntry, Reply, SampleDesk, event, lanes_with_entries, learned, new_core,
-    replayed, shown_to_first, taken,
+    Core, EventEntry, Reply, SampleDesk, lanes_with_entries, learned, new_core, replayed,
+    shown_to_first, taken,
 };
+use sample_lanes::{LANES, LINES, submitted};
 use std::alloc::Global;
 use std::marker::Brand;
 use std::process::Abort;
 use std::sync::{Wait, ledger};
-use std::thread::{self, Threads};
-
-/// How many seats submit events, each in a thread of its own.
-const LANES: usize = 8;
-
-/// How many events each of them submits.
-const LINES: u64 = 1250;
-
-/// A seat that submits events in a thread, with the numbers and the replies of its receipts.
-#[derive(Drop)]
-struct Lane<L: Identity> {
-    seat: Seat<SampleDesk, L>,
-    receipts: Vec<(u64, Reply)>,
-}
+use std::thread::Threads;
 
 /// What came of events that seats submitted together: the receipts of each, the entries that all took, how many events a seat has seen
 /// that learned a note, and what the hub shows.
@@ -81,18 +69,6 @@ fn submit_together<L: Identity + Send + Sync, W: Threads + Wait + Sync>(
     taken_together(rt, alloc, hub, seats, receipts)
 }
 
-/// The seats after each submitted its events in a thread of its own, and the receipts of each.
-fn submitted<L: Identity + Send + Sync, W: Threads + Wait + Sync>(
-    rt: &W,
-    alloc: Global,
-    hub: &Hub<SampleDesk, L>,
-    seats: Vec<Seat<SampleDesk, L>>,
-) -> Result<(Vec<Seat<SampleDesk, L>>, Vec<Vec<(u64, Reply)>>), NoMemory> {
-    let mut lanes = lanes_of(alloc, seats)?;
-    submit_all(rt, alloc, hub, lanes.as_mut_slice());
-    taken_apart(alloc, lanes)
-}
-
 /// All that seats took and saw of the events that they submitted.
 fn taken_together<L: Identity, W: Wait>(
     rt: &W,
@@ -113,67 +89,4 @@ fn taken_together<L: Identity, W: Wait>(
         seen,
         shown,
     })
-}
-
-/// A lane for each seat, without receipts.
-fn lanes_of<L: Identity>(
-    alloc: Global,
-    seats: Vec<Seat<SampleDesk, L>>,
-) -> Result<Vec<Lane<L>>, NoMemory> {
-    let mut lanes = Vec::new(alloc);
-    for seat in seats {
-        lanes.push(Lane {
-            seat,
-            receipts: Vec::new(alloc),
-        })?;
-    }
-    Ok(lanes)
-}
-
-/// Each lane submits its events in a thread of its own. A lane that runs out of memory stops.
-fn submit_all<L: Identity + Send + Sync, R: Threads + Wait + Sync>(
-    rt: &R,
-    alloc: Global,
-    hub: &Hub<SampleDesk, L>,
-    lanes: &mut [Lane<L>],
-) {
-    thread::for_each_mut(
-        rt,
-        lanes,
-        LANES,
-        &|index: usize, lane: &mut Lane<L>| {
-            let _ = submit_lines(rt, alloc, hub, (index % LANES) as u8, lane);
-        },
-    );
-}
-
-fn submit_lines<L: Identity, R: Wait>(
-    rt: &R,
-    alloc: Global,
-    hub: &Hub<SampleDesk, L>,
-    index: u8,
-    lane: &mut Lane<L>,
-) -> Result<(), NoMemory> {
-    for line in 1..=LINES {
-        let by = By::Lane { lane: index, line };
-        let event = event(alloc, index, line)?;
-        let receipt = hub.submit(rt, alloc, &mut lane.seat, by, event)?;
-        lane.receipts.push((receipt.number, receipt.reply))?;
-    }
-    Ok(())
-}
-
-/// The seats of lanes, and the receipts of each.
-fn taken_apart<L: Identity>(
-    alloc: Global,
-    lanes: Vec<Lane<L>>,
-) -> Result<(Vec<Seat<SampleDesk, L>>, Vec<Vec<(u64, Reply)>>), NoMemory> {
-    let mut seats = Vec::new(alloc);
-    let mut all = Vec::new(alloc);
-    for lane in lanes {
-        let Lane { seat, receipts } = lane;
-        seats.push(seat)?;
-        all.push(receipts)?;
-    }
-    Ok((seats, all))
 }

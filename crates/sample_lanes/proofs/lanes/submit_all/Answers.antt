@@ -11,7 +11,7 @@ use Rattle.cv_hub.specs.contracts.hub.Hub as hub
 use Rattle.sample_data.proofs.desk.SampleDesk.TheSendSync as desk_crossing
 use Rattle.sample_data.specs.contracts.desk.SampleDesk as desk
 use Rattle.sample_data.specs.contracts.desk.SampleDeskDesk.TheImpl as desk_impl
-use Rattle.cv_hub_tests.proofs.tests.submit_all.Goals as goal
+use Rattle.sample_lanes.proofs.lanes.submit_all.Goals as goal
 
 -- each step is named: a search that sees the inside of a hub gives up
 pub for_each_mut-requires-sync-F : goal.for_each_mut-requires-sync-F
