@@ -9,17 +9,16 @@ use Rattle.cv_desk.specs.declared.desk.Desk as desk
 use Rattle.cv_seats.proofs.Crossing.{front_send, front_sync}
 use Rattle.cv_seats.specs.contracts.front.Front as front
 use Rattle.cv_seats.specs.declared.identity.Identity as identity
-use Rattle.cv_locked.proofs.Crossing.{locked_send}
-use Rattle.cv_locked.specs.contracts.locked.Locked as locked
+use Rattle.cv_view.proofs.Crossing.{locked_row, locked_send}
 use Rattle.cv_hub.specs.contracts.hub.Hub as hub
 
 module _ (D L : RattleType) (d : desk.Ghosts D.Denot) (i : identity.Ghosts L.Denot) (l : ledger.Ghosts L.Denot) where
   -- with the parts as they are: a search that knows more of them gives up
-  of_parts : IsSend (locked.the_row D L d i l) → IsSend (front.the_row D L d i l) → IsSend (hub.the_row D L d i l)
+  of_parts : IsSend (locked_row D L d i l) → IsSend (front.the_row D L d i l) → IsSend (hub.the_row D L d i l)
   of_parts locked_goes front_goes = search (sendable, crosses, declared_send) depth 30 fits 5000
 
   -- what lies under a lock need not be shared: who holds the lock has it alone
-  shared_of_parts : IsSend (locked.the_row D L d i l) → IsSync (front.the_row D L d i l) → IsSync (hub.the_row D L d i l)
+  shared_of_parts : IsSend (locked_row D L d i l) → IsSync (front.the_row D L d i l) → IsSync (hub.the_row D L d i l)
   shared_of_parts locked_goes front_shared = search (sendable, crosses, declared_sync) depth 30 fits 5000
 
   pub hub_send : IsSend D → IsSync D → IsSend L → IsSync L → IsSend (hub.the_row D L d i l)

@@ -1,5 +1,5 @@
-pub use Rattle.cv_locked.proofs.Replays
-pub use Rattle.cv_seats.proofs.Made
-pub use Rattle.cv_seats.proofs.Prefixes
+pub use Rattle.cv_view.proofs.Replays
+pub use Rattle.cv_view.proofs.Made
+pub use Rattle.cv_view.proofs.Prefixes
 pub mod Captured
 pub mod Crossing

@@ -12,9 +12,7 @@
 #![tactic(auto)]
 
 mod hub;
-mod view;
 
-pub use cv_locked::Receipt;
 pub use cv_seats::{Blank, Identity, Note, Seat, Submission};
+pub use cv_view::{Receipt, View};
 pub use hub::Hub;
-pub use view::View;

@@ -1,10 +1,10 @@
-use sample_runs::{CALM, MemSink, NoMemory, Status, run_once};
+use sample_runs::{MemSink, NoMemory, Status, run_by_two};
 use std::process::Abort;
 
 #[test]
 fn a_drill_prints_the_same_at_each_run(rt: HostRuntime) -> Result<(), NoMemory> {
-    let first = run_once(&rt, rt.alloc(), &["drill", "7"], "", &CALM)?;
-    let second = run_once(&rt, rt.alloc(), &["drill", "7"], "", &CALM)?;
+    let (first, _) = run_by_two(&rt, rt.alloc(), &["drill", "7"], "", 0)?;
+    let (second, _) = run_by_two(&rt, rt.alloc(), &["drill", "7"], "", 0)?;
     compare(&rt, &first, &second);
     Ok(())
 }

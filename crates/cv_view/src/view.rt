@@ -50,7 +50,7 @@ impl<'a, D: Desk, L: Identity> Model for View<'a, D, L> {
 
 impl<'a, D: Desk + Drop, L: Identity> View<'a, D, L> {
     /// The view of a guard, unless a hold ended before it gave back what lies under the lock.
-    pub(crate) fn of(guard: MutexGuard<'a, Option<Locked<D, L>>>) -> Option<View<'a, D, L>> {
+    pub fn of(guard: MutexGuard<'a, Option<Locked<D, L>>>) -> Option<View<'a, D, L>> {
         let front = match &*guard {
             Some(locked) => locked.front().again(),
             None => return None,
@@ -90,7 +90,7 @@ impl<'a, D: Desk + Drop, L: Identity> View<'a, D, L> {
     }
 
     /// The layers that are queued after these events, in ascending order.
-    pub(crate) fn queued(&self, alloc: Global) -> Result<Seq<Digest>, NoMemory>
+    pub fn queued(&self, alloc: Global) -> Result<Seq<Digest>, NoMemory>
         ensures { IsKnown D.tree → IfOk result (λ layers. layers ≡ queued (state_of (trees_of D.tree) L.limits self.now).layers) }
     {
         self.core().queued(alloc)
@@ -106,14 +106,14 @@ impl<'a, D: Desk + Drop, L: Identity> View<'a, D, L> {
     }
 
     /// The beginning of the list with these events.
-    pub(crate) fn seen(&self) -> &Front<D, L>
+    pub fn seen(&self) -> &Front<D, L>
         ensures { result.now ≡ self.now }
     {
         &self.front
     }
 
     /// Applies an event of a seat. If memory runs out, the event is spent, and all else is as before.
-    pub(crate) fn submit<W: Wait>(
+    pub fn submit<W: Wait>(
         &mut self,
         rt: &W,
         alloc: Global,
@@ -137,7 +137,7 @@ impl<'a, D: Desk + Drop, L: Identity> View<'a, D, L> {
     }
 
     /// The entries since the last taking, by all seats of the hub, if so many events were taken before.
-    pub(crate) fn take(&mut self, taken: u64, seats: &mut [Seat<D, L>]) -> Option<Vec<EventEntry>>
+    pub fn take(&mut self, taken: u64, seats: &mut [Seat<D, L>]) -> Option<Vec<EventEntry>>
         requires all { length seats.old ≡ L.parts }
         requires has_seats { 0 < length seats.old }
         requires numbered { AreNumbered 0 seats.old }

@@ -1,7 +1,7 @@
 use crate::texts::expand;
 use cv_base::NoMemory;
+use cv_command::Status;
 use cv_io::MemSink;
-use cv_run::Status;
 use std::alloc::Global;
 
 /// Whether a run ended so and printed this text, in which names in brackets stand for texts.

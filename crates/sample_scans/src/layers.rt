@@ -1,5 +1,5 @@
 ghost use Rattle.std.specs.Prelude.{◌≡◌};
-ghost use Rattle.sample_runs.specs.Layers.{rows_by, rows_of};
+ghost use Rattle.sample_scans.specs.Layers.{rows_by, rows_of};
 
 use cv_base::{Digest, Kind};
 use cv_desk::{Table, TableEntry, entry};

@@ -1,0 +1,77 @@
+mod failures;
+mod scans;
+mod versions;
+
+use sample_scans::{CALM, NoMemory, Status, USAGE, orders_to, scan_input, scans_to};
+use std::alloc::Global;
+use std::process::Abort;
+
+/// Scans an image of these layers, and compares how the scan ends and what it prints.
+fn try_scan<R: Abort>(
+    rt: &R,
+    alloc: Global,
+    layers: &str,
+    records: &str,
+    want: (Status, &str),
+) -> Result<(), NoMemory> {
+    let input = scan_input(alloc, layers, records)?;
+    let is_same = scans_to(alloc, input.as_str(), &CALM, want)?;
+    assert!(rt; is_same, "{layers} {records}");
+    Ok(())
+}
+
+/// Compares versions, and compares how that ends and what it prints.
+fn try_order<R: Abort>(
+    rt: &R,
+    alloc: Global,
+    arguments: &[&str],
+    want: (Status, &str),
+) -> Result<(), NoMemory> {
+    let is_same = orders_to(alloc, arguments, want)?;
+    assert!(rt; is_same, "{arguments:?}");
+    Ok(())
+}
+
+#[test]
+fn a_scan_prints_findings(rt: HostRuntime) -> Result<(), NoMemory> {
+    for (layers, records, output) in &scans::GOOD {
+        try_scan(&rt, rt.alloc(), layers, records, (Status::Done, *output))?;
+    }
+    Ok(())
+}
+
+#[test]
+fn a_scan_prints_why_there_are_none(rt: HostRuntime) -> Result<(), NoMemory> {
+    for (layers, records, output) in &scans::REFUSED {
+        try_scan(&rt, rt.alloc(), layers, records, (Status::Refused, *output))?;
+    }
+    Ok(())
+}
+
+#[test]
+fn versions_compare(rt: HostRuntime) -> Result<(), NoMemory> {
+    for (status, output, comparisons) in &versions::ORDERS {
+        for arguments in *comparisons {
+            try_order(&rt, rt.alloc(), arguments, (*status, *output))?;
+        }
+    }
+    Ok(())
+}
+
+#[test]
+fn arguments_that_are_not_a_comparison(rt: HostRuntime) -> Result<(), NoMemory> {
+    for arguments in &versions::USAGES {
+        try_order(&rt, rt.alloc(), arguments, (Status::Usage, USAGE))?;
+    }
+    Ok(())
+}
+
+#[test]
+fn what_fails_is_blamed(rt: HostRuntime) -> Result<(), NoMemory> {
+    for case in &failures::CASES {
+        let want = (case.status, case.output);
+        let is_same = scans_to(rt.alloc(), case.input, &case.outside, want)?;
+        assert!(rt; is_same, "{}", case.input);
+    }
+    Ok(())
+}

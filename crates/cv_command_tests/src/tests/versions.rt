@@ -1,0 +1,58 @@
+use sample_scans::Status;
+
+/// Comparisons of versions: how each ends, what it prints, and the arguments of comparisons that do so.
+pub static ORDERS: [(Status, &str, &[&[&str]]); 5] = [
+    (
+        Status::Done,
+        "<\n",
+        &[
+            &["deb", "1.0~rc1", "1.0"],
+            &["deb", "1.0-1", "1.0-1+b1"],
+            &["apk", "1.2_rc1", "1.2"],
+            &["apk", "1.2", "1.2_p1"],
+            &["apk", "1.2_p1", "1.2a"],
+            &["apk", "1.2a", "1.2.0"],
+            &["apk", "1.2.0", "1.2.0-r1"],
+            &["semver", "1.0.0-rc.1", "1.0.0"],
+        ],
+    ),
+    (
+        Status::Done,
+        "=\n",
+        &[
+            &["deb", "1.0", "1.0-0"],
+            &["semver", "--", "1.0.0", "1.0.0"],
+        ],
+    ),
+    (
+        Status::Done,
+        ">\n",
+        &[
+            &["deb", "1:0", "9"],
+            &[
+                "deb",
+                "100000000000000000000000000001",
+                "100000000000000000000000000000",
+            ],
+        ],
+    ),
+    (
+        Status::Refused,
+        "not a version: first\n",
+        &[&["deb", "a:1", "1"], &["deb", "a:1", "a:1"]],
+    ),
+    (
+        Status::Refused,
+        "not a version: second\n",
+        &[&["apk", "1.2", "1.2~ab"], &["semver", "1.0.0", "1.0"]],
+    ),
+];
+
+/// Arguments that are not a comparison.
+pub static USAGES: [&[&str]; 5] = [
+    &["rpm", "1", "2"],
+    &["Deb", "1", "2"],
+    &["", "1", "2"],
+    &["deb", "1"],
+    &[],
+];

@@ -1,0 +1,9 @@
+//! Outcomes of images whose layers are made in memory, and a feed that changes them, for the tests of `cv_outcome`.
+#![tactic(auto)]
+
+mod facts;
+mod feeds;
+mod images;
+
+pub use feeds::flawed_feeds;
+pub use images::{digest, outcomes};
