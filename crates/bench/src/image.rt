@@ -3,9 +3,9 @@ ghost use Rattle.cv_base.specs.declared.limits.TheConstants.{MAX_LAYERS};
 
 use cv_base::{Digest, Finding, MAX_LAYERS, NoMemory, Seq, Text};
 use cv_desk::Desk;
-use cv_folder_desk::FolderDesk;
-use cv_image::scan_layers;
+use cv_desk_folder::FolderDesk;
 use cv_scan::{ImageError, scan_image};
+use cv_scan_image::scan_layers;
 use std::alloc::Global;
 
 /// Scans the image of these layers, which lie in the working directory, with no record: by its root, if the first argument is `root`,

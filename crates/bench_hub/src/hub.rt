@@ -3,8 +3,8 @@ ghost use Rattle.cv_core.specs.Core.{IsSound, act_of, opened};
 
 use cv_base::{Digest, NoMemory};
 use cv_core::{Core, Event, Limits, MAX_FEEDS, MAX_IMAGES, Reply};
+use cv_core_records::By;
 use cv_hub::{Blank, Hub, Identity, Seat};
-use cv_records::By;
 use sample_data::{SampleDesk, image_facts, last_layer, manifest};
 use std::alloc::Global;
 use std::marker::Brand;

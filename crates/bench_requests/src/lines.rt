@@ -1,5 +1,5 @@
 use cv_base::{Finding, NoMemory, PackageKind, RelPath, Seq, Text};
-use cv_records::{Act, Answer, By, EventEntry, ReadEntry, Reply, ReportOutcome};
+use cv_core_records::{Act, Answer, By, EventEntry, ReadEntry, Reply, ReportOutcome};
 use cv_transcript::{Entry, entry_line};
 use sample_data::{Installed, hash, last_layer, package};
 use std::alloc::Global;

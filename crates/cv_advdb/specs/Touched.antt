@@ -1,13 +1,12 @@
 -- The keys that are touched when other records take the place of those of a feed (defined by this project): those under which a
 -- record was added, removed or changed.
-use Rattle.std.specs.Prelude.{◌≡◌, Bool, true, false, List, filter}
+use Rattle.std.specs.Prelude.{◌≡◌, Bool, true, false, List, filter, Some}
 use Rattle.std.specs.List.{list_any}
 use Rattle.std.specs.List.Sorted.{IsStrictlySortedBy}
 use Rattle.cv_base.specs.declared.advisory.Advisory.{Advisory}
 use Rattle.cv_base.specs.declared.«package».Package.{Package}
 use Rattle.cv_base.specs.declared.«package».PackageName.{PackageName}
 use Rattle.cv_match.specs.Keys.{is_key, is_named, keys_of, name_cmp}
-use Rattle.std.specs.Prelude.{Some}
 
 -- the key is one of these names
 abbrev pub has_name : PackageName → List PackageName → Bool

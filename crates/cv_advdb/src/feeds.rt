@@ -163,7 +163,7 @@ impl Feeds {
 
     /// The feeds are in the order of their names, each once, and the records of each feed are in the order of their ids, each
     /// id once. It does nothing.
-    pub fn sorted(&self)
+    pub fn sorted_law(&self)
         ensures names { IsStrictlySortedBy text_cmp (keys_of self.now.feeds) }
         ensures records { AreSorted self.now.feeds }
     {

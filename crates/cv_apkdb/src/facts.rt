@@ -1,7 +1,7 @@
 //! What the lines of a package say.
 ghost use Rattle.std.specs.Prelude.{◌≡◌, ◌++◌, IfOk, Some, option_and_then, unwrap_or};
 ghost use Rattle.std.specs.Option.{option_map};
-ghost use Rattle.cv_base.specs.Answer.{Yields};
+ghost use Rattle.cv_base.specs.Answer.{MatchesUnlessOutOfMemory};
 ghost use Rattle.cv_base.specs.Texts.{filled};
 ghost use Rattle.cv_apkdb.specs.Installed.{whole_fault};
 ghost use Rattle.cv_apkdb.specs.Package.{package_in, package_of};
@@ -10,8 +10,7 @@ ghost use Rattle.cv_apkdb.specs.code.Steps.{entry_step, facts_view};
 use crate::letter::{Entry, Letter};
 use crate::package::ApkPackage;
 use crate::value::{new_filled_value, new_value};
-use cv_base::What;
-use cv_seq::{NoMemory, Text};
+use cv_base::{NoMemory, Text, What};
 use std::alloc::Global;
 
 /// The values of the used letters so far. All of them are borrowed from the file.
@@ -26,7 +25,7 @@ pub struct Facts<'a> {
 impl<'a> Facts<'a> {
     /// Adds an entry, unless it is bad.
     pub fn add(&mut self, entry: Entry<'a>) -> Result<(), What>
-        ensures { Yields Some (λ _. facts_view self.new) result (entry_step entry.entry.letter entry.entry.value.now (facts_view self.old)) }
+        ensures { MatchesUnlessOutOfMemory Some (λ _. facts_view self.new) result (entry_step entry.entry.letter entry.entry.value.now (facts_view self.old)) }
     {
         match entry.letter {
             Letter::Name => self.name = Some(new_filled_value(self.name, entry.value)?),

@@ -1,4 +1,4 @@
-use cv_seq::Text;
+use cv_base::Text;
 
 /// An installed package of apk.
 #[derive(Clone, Debug, PartialEq, Eq, PartialOrd, Ord, Drop)]

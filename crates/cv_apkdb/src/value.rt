@@ -1,7 +1,7 @@
 //! The values of the letters.
 ghost use Rattle.std.specs.Option.{option_map};
 ghost use Rattle.std.specs.Prelude.{Some};
-ghost use Rattle.cv_base.specs.Answer.{Yields};
+ghost use Rattle.cv_base.specs.Answer.{MatchesUnlessOutOfMemory};
 ghost use Rattle.cv_apkdb.specs.code.Steps.{new_value};
 ghost use Rattle.cv_apkdb.specs.declared.letter.Letter.TheVariants as letter;
 
@@ -9,7 +9,7 @@ use cv_base::{What, printing_text};
 
 /// The value of a letter that did not stand before.
 pub fn new_value<'a>(before: Option<&str>, value: &'a [u8]) -> Result<&'a str, What>
-    ensures { Yields Some (λ text. text.now) result (new_value letter.Arch (option_map (λ s. s.now) before.entry) value.now) }
+    ensures { MatchesUnlessOutOfMemory Some (λ text. text.now) result (new_value letter.Arch (option_map (λ s. s.now) before.entry) value.now) }
 {
     if before.is_some() {
         return Err(What::Repeated);
@@ -22,7 +22,7 @@ pub fn new_value<'a>(before: Option<&str>, value: &'a [u8]) -> Result<&'a str, W
 
 /// The value, which is not empty, of a letter that did not stand before.
 pub fn new_filled_value<'a>(before: Option<&str>, value: &'a [u8]) -> Result<&'a str, What>
-    ensures { Yields Some (λ text. text.now) result (new_value letter.Name (option_map (λ s. s.now) before.entry) value.now) }
+    ensures { MatchesUnlessOutOfMemory Some (λ text. text.now) result (new_value letter.Name (option_map (λ s. s.now) before.entry) value.now) }
 {
     if before.is_none() && value.is_empty() {
         return Err(What::BadValue);

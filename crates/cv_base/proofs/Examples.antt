@@ -2,6 +2,7 @@
 use Rattle.std.specs.Prelude.{◌≡◌, ℕ, List, ◌∷◌, [], ◌++◌, codes, replicate, Some, None, refl}
 use Rattle.hex.specs.Hex.{decode_pairs, encode_with}
 use Rattle.cv_base.specs.Digest.{digest_of, digest_text}
+use Rattle.cv_base.specs.declared.limits.TheConstants.{MAX_ADVISORIES, MAX_ENTRIES, MAX_LAYERS, PACKAGE_FILE_LIMIT}
 
 -- 30 bytes after 0 and 255, and their digits
 abbrev bytes : List ℕ
@@ -29,3 +30,7 @@ lengths = (refl, refl, refl, refl)
 -- another algorithm, its name in capitals, and digits alone
 algorithms : (digest_of (codes "sha512:" ++ digits) ≡ None) × (digest_of (codes "SHA256:" ++ digits) ≡ None) × (digest_of digits ≡ None)
 algorithms = (refl, refl, refl)
+
+-- the limits of layers, records, entries and bytes
+limits : (MAX_LAYERS ≡ 128) × (MAX_ADVISORIES ≡ 200000) × (MAX_ENTRIES ≡ 1000000) × (PACKAGE_FILE_LIMIT ≡ 33554432)
+limits = (refl, refl, refl, refl)

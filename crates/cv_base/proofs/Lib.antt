@@ -1,5 +1,3 @@
-pub use Rattle.cv_seq.proofs.AllItems
-pub use Rattle.cv_seq.proofs.Orders
 pub use Rattle.cv_path.proofs.Bools
 pub use Rattle.cv_path.proofs.Cuts
 pub use Rattle.cv_path.proofs.Ends
@@ -10,6 +8,8 @@ pub use Rattle.cv_path.proofs.PathReads
 pub use Rattle.cv_path.proofs.PathSlashes
 pub use Rattle.cv_path.proofs.PlaceLemmas
 pub use Rattle.cv_path.proofs.Same
+pub use Rattle.cv_seq.proofs.AllItems
+pub use Rattle.cv_seq.proofs.Orders
 pub mod DigestLemmas
 mod Examples
 pub mod InOrder

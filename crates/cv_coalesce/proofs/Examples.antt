@@ -2,8 +2,8 @@
 use Rattle.std.specs.Prelude.{◌≡◌, false, List, [], ◌∷◌, codes, refl}
 use Rattle.cv_base.specs.Path.{Path, components}
 use Rattle.cv_facts.specs.declared.reduction.Reduction.{Reduction}
-use Rattle.cv_package_files.specs.declared.found.FileFound.{FileFound}
-use Rattle.cv_package_files.specs.declared.found.Found.TheVariants.{TooLarge}
+use Rattle.cv_packages.specs.declared.found.FileFound.{FileFound}
+use Rattle.cv_packages.specs.declared.found.Found.TheVariants.{TooLarge}
 use Rattle.cv_coalesce.specs.Gathered.{gathered}
 use Rattle.cv_coalesce.specs.Hides.{hides}
 

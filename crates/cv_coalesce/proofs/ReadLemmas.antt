@@ -21,9 +21,9 @@ use Rattle.cv_overlay.specs.Mark.{at_or_above, mark, outline}
 use Rattle.cv_overlay.specs.code.Merge.{first_of_two as first_entry, merged as merged_entries}
 use Rattle.cv_packages.specs.Files.{file_of, files_found}
 use Rattle.cv_packages.specs.Found.{found_in}
-use Rattle.cv_package_files.specs.declared.found.FileFound.{FileFound}
-use Rattle.cv_package_files.specs.declared.found.Found.{Found}
-use Rattle.cv_package_files.specs.declared.found.Found.TheVariants as found
+use Rattle.cv_packages.specs.declared.found.FileFound.{FileFound}
+use Rattle.cv_packages.specs.declared.found.Found.{Found}
+use Rattle.cv_packages.specs.declared.found.Found.TheVariants as found
 use Rattle.cv_scan.specs.Root.{root_entries}
 use Rattle.cv_coalesce.specs.Gathered.{first_of_two, gathered, merged}
 use Rattle.cv_coalesce.specs.Hides.{hides, hides_at, is_hidden}

@@ -5,7 +5,7 @@ use Rattle.std.specs.declared.cmp.Ordering.{Ordering}
 use Rattle.std.specs.declared.cmp.Ordering.TheVariants.{Less, Equal, Greater}
 use Rattle.cv_base.specs.Path.{path_cmp}
 use Rattle.cv_facts.specs.declared.reduction.Reduction.{Reduction}
-use Rattle.cv_package_files.specs.declared.found.FileFound.{FileFound}
+use Rattle.cv_packages.specs.declared.found.FileFound.{FileFound}
 use Rattle.cv_coalesce.specs.Hides.{is_hidden}
 
 -- what comes first of a lower and an upper file, by the order of their paths. At a path of both the upper one stands

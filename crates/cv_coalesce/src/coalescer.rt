@@ -10,11 +10,11 @@ ghost use Rattle.cv_scan.specs.Layers.{stored_layers, whole_layers};
 use crate::gather::gather;
 use crate::image::ImagePackages;
 use crate::shapes::{first_fault, reductions, shapes_of};
+use cv_base::NoMemory;
 use cv_desk::Desk;
 use cv_facts::{LayerFacts, Reduction, Shape};
 use cv_overlay::ImageFault;
 use cv_packages::{PackagesError, assemble};
-use cv_seq::NoMemory;
 use std::alloc::Global;
 
 /// The packages of an image, or why it has none. Its layers are the facts at these places, the base first; a place may stand

@@ -4,8 +4,8 @@ ghost use Rattle.cv_facts.specs.Order.{HasOrderedLists};
 
 use crate::merge::merge;
 use crate::visible::visible;
+use cv_base::NoMemory;
 use cv_facts::{FileFound, Reduction};
-use cv_seq::NoMemory;
 use std::alloc::Global;
 
 /// The package files of an image of these layers, the base first. It goes from the top layer down, so that each file is looked

@@ -2,8 +2,8 @@ ghost use Rattle.std.specs.Prelude.{◌≡◌, ◌+◌, ◌<◌, ◌++◌, drop,
 ghost use Rattle.cv_coalesce.specs.Gathered.{merged};
 ghost use Rattle.cv_coalesce.specs.code.Fronts.{order_of_fronts};
 
+use cv_base::NoMemory;
 use cv_facts::FileFound;
-use cv_seq::NoMemory;
 use std::alloc::Global;
 use std::cmp::Ordering;
 use std::collections::VecDeque;

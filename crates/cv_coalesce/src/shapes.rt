@@ -7,10 +7,10 @@ ghost use Rattle.cv_facts.specs.Reduction.{IsRight, shape_of};
 ghost use Rattle.cv_facts.specs.declared.reduction.Shape.TheVariants.{NoLayer};
 ghost use Rattle.cv_scan.specs.Layers.{stored_layers};
 
+use cv_base::NoMemory;
 use cv_desk::Desk;
 use cv_facts::{LayerFacts, Reduction, Shape};
 use cv_overlay::ImageFault;
-use cv_seq::NoMemory;
 use std::alloc::Global;
 
 /// The shapes of an image's layers, whose places among the facts are given.
@@ -41,8 +41,8 @@ fn shape_at<D: Desk>(facts: &[LayerFacts<D>], place: u32) -> &Shape
     ensures right { IsRight D.tree (known_at facts.now place) }
 {
     let known = &facts[place as usize];
-    known.known();
-    known.ordered();
+    known.known_law();
+    known.ordered_law();
     known.shape()
 }
 

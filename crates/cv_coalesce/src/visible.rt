@@ -4,9 +4,8 @@ ghost use Rattle.cv_coalesce.specs.Hides.{hides, is_hidden};
 ghost use Rattle.cv_facts.specs.Order.{HasOrderedLists};
 
 use crate::search::{has, has_above, has_at_or_above};
-use cv_base::RelPath;
+use cv_base::{NoMemory, RelPath};
 use cv_facts::{FileFound, Reduction};
-use cv_seq::NoMemory;
 use std::alloc::Global;
 
 /// Whether a layer hides what lower layers have at a path.

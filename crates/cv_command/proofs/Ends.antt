@@ -11,7 +11,7 @@ use Rattle.cv_scan_input.specs.Request.{RefusedAt, Scan, ScanRequest, input_of, 
 use Rattle.cv_scan_input.specs.Taken.{IsTakenWithin}
 use Rattle.cv_scan_input.specs.declared.error.InputError.{InputError}
 use Rattle.cv_scan_input.specs.declared.error.InputError.TheVariants as input
-use Rattle.cv_refusal.specs.Refusal.{refusal_text}
+use Rattle.cv_scan_output.specs.Refusal.{refusal_text}
 use Rattle.cv_command.specs.Command.{AnswersRequest, IsAnswered, IsCutShort, IsIdle, IsRequestOf, ScanEnds}
 use Rattle.cv_command.specs.Outcome.{Complete, Failed, Outcome, SaysOutcome, outcome_printed}
 use Rattle.cv_command.specs.Printed.{IsPrinted, Printed}

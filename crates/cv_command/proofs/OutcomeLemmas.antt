@@ -6,8 +6,8 @@ use Rattle.cv_base.specs.declared.finding.Finding.{Finding}
 use Rattle.cv_base.specs.declared.manifest.Manifest.{Manifest}
 use Rattle.cv_scan.specs.Layers.{AreListed, IsFailed, IsScanned, distinct, is_desk_fault, stored_layers, whole_layers}
 use Rattle.cv_scan.specs.Scan.{Scanned, scan}
-use Rattle.cv_layers.specs.declared.error.ImageError.{ImageError}
-use Rattle.cv_layers.specs.declared.error.ImageError.TheVariants as error
+use Rattle.cv_scan.specs.declared.layer_error.ImageError.{ImageError}
+use Rattle.cv_scan.specs.declared.layer_error.ImageError.TheVariants as error
 use Rattle.cv_seq.specs.Cause.{CausedBy}
 use Rattle.cv_scan_output.specs.Scan.{good_text}
 use Rattle.cv_command.specs.Outcome.{Complete, Failed, SaysOutcome}

@@ -8,7 +8,7 @@ use Rattle.cv_scan.specs.Layers.{distinct}
 use Rattle.cv_scan_input.specs.Request.{ScanRequest, NoLine, RefusedAt, TooLongLine, TooLongInput, Scan, scan_request_of, input_of}
 use Rattle.cv_scan_input.specs.Taken.{IsTaken, IsTakenWithin}
 use Rattle.cv_scan_input.specs.Unrefused.{Unrefused}
-use Rattle.cv_refusal.specs.Refusal.{no_manifest_text, refusal_text}
+use Rattle.cv_scan_output.specs.Refusal.{no_manifest_text, refusal_text}
 use Rattle.cv_command.specs.Outcome.{SaysOutcome}
 use Rattle.cv_command.specs.Printed.{IsPrinted, Printed}
 use Rattle.cv_command.specs.World.{Trees, World}

@@ -3,9 +3,9 @@
 use Rattle.std.specs.Prelude.{ℕ, if◌then◌else◌, List, codes}
 use Rattle.std.specs.Option.{option_map_or}
 use Rattle.std.specs.declared.cmp.Ordering.TheVariants.{Less, Equal, Greater}
-use Rattle.cv_arguments.specs.Forms.{Comparison, comparison_of}
-use Rattle.cv_arguments.specs.declared.order.Packages.{Packages}
-use Rattle.cv_arguments.specs.declared.order.Packages.TheVariants as packages
+use Rattle.cv_command_arguments.specs.Forms.{Comparison, comparison_of}
+use Rattle.cv_command_arguments.specs.declared.order.Packages.{Packages}
+use Rattle.cv_command_arguments.specs.declared.order.Packages.TheVariants as packages
 use Rattle.cv_base.specs.declared.«package».PackageKind.{PackageKind}
 use Rattle.cv_base.specs.declared.«package».PackageKind.TheVariants.{Deb, Apk, Npm}
 use Rattle.cv_match.specs.Order.{is_version_of, version_cmp_of}

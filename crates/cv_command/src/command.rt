@@ -2,7 +2,7 @@ ghost use Rattle.std.specs.Prelude.{◌≡◌, ◌^◌, ◌<◌, ◌≤◌, leng
 ghost use Rattle.std.specs.Io.KnownBytes.{IsAtEnd};
 ghost use Rattle.cv_seq.specs.Cause.{Rose};
 ghost use Rattle.cv_request.specs.Fault.{error_of};
-ghost use Rattle.cv_refusal.specs.Refusal.{no_manifest_text, refusal_text};
+ghost use Rattle.cv_scan_output.specs.Refusal.{no_manifest_text, refusal_text};
 ghost use Rattle.cv_command.specs.Command.{ScanEnds};
 ghost use Rattle.cv_command.specs.World.{counts_of};
 ghost use Rattle.cv_command.specs.code.Printing.{OutcomePrinted, RefusalPrinted};
@@ -13,9 +13,9 @@ use crate::status::Status;
 use cv_base::{MAX_LAYERS, NoMemory};
 use cv_desk::Desk;
 use cv_io::{Sink, Source};
-use cv_refusal::{no_manifest_line, refusal_line};
 use cv_request::{RequestError, RequestFault};
 use cv_scan_input::{InputError, ScanInput, read_scan_input};
+use cv_scan_output::{no_manifest_line, refusal_line};
 use std::alloc::Global;
 
 /// Reads the manifest of an image and records of advisories, and prints what the records find in the image.

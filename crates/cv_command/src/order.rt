@@ -1,5 +1,5 @@
 ghost use Rattle.std.specs.Prelude.{◌≡◌, true, IfOk, map, string_bytes};
-ghost use Rattle.cv_arguments.specs.Versions.{comparison_by};
+ghost use Rattle.cv_command_arguments.specs.Versions.{comparison_by};
 ghost use Rattle.cv_base.specs.declared.«package».PackageKind.TheVariants as kind;
 ghost use Rattle.cv_match.specs.Order.{version_in};
 ghost use Rattle.cv_seq.specs.Cause.{Rose};
@@ -9,11 +9,11 @@ ghost use Rattle.cv_command.specs.Printed.{IsPrinted, is_end};
 use crate::printing::print;
 use crate::status::Status;
 use crate::usage::print_usage;
-use cv_arguments::{Packages, Versions, versions_of};
 use cv_base::{NoMemory, PackageKind, Text};
+use cv_command_arguments::{Packages, Versions, versions_of};
 use cv_io::Sink;
 use cv_match::SemanticVersion;
-use cv_range::{ApkRule, DebRule, VersionRule};
+use cv_match_range::{ApkRule, DebRule, VersionRule};
 use std::alloc::Global;
 use std::cmp::Ordering;
 

@@ -9,7 +9,7 @@ ghost use Rattle.cv_command.specs.code.Printing.{SaysError, printed_of};
 use crate::status::Status;
 use cv_base::{Digest, MAX_LAYERS, NoMemory, Text};
 use cv_desk::Desk;
-use cv_image::{ImageError, scan_layers};
+use cv_scan_image::{ImageError, scan_layers};
 use cv_scan_input::ScanInput;
 use cv_scan_output::{bad_image_line, desk_fault_line, good_line};
 use std::alloc::Global;

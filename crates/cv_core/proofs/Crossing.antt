@@ -9,22 +9,22 @@ use Rattle.std.specs.declared.cmp.PartialOrd as partial_order
 use Rattle.cv_seq.proofs.seq.Seq.TheSendSync as seq
 use Rattle.cv_seq.proofs.text.Text.TheSendSync as text
 use Rattle.cv_base.proofs.digest.Digest.TheSendSync as digest
-use Rattle.cv_avl.proofs.branch.Branch.TheLaws.TheKnot as nodes
-use Rattle.cv_avl.proofs.share.Shared.TheSendSync as shared
-use Rattle.cv_avl.specs.contracts.branch.Branch as branch
+use Rattle.cv_tree.proofs.branch.Branch.TheLaws.TheKnot as nodes
+use Rattle.cv_tree.proofs.share.Shared.TheSendSync as shared
+use Rattle.cv_tree.specs.contracts.branch.Branch as branch
 use Rattle.cv_tree.specs.contracts.tree.Tree as tree
 use Rattle.cv_advdb.proofs.Crossing.{feeds_send, feeds_sync}
 use Rattle.cv_desk.specs.declared.desk.Desk as desk
 use Rattle.cv_facts.proofs.facts.LayerFacts.TheSendSync as facts
-use Rattle.cv_outcome.proofs.outcome.Outcome.TheSendSync as outcome
+use Rattle.cv_core_outcome.proofs.outcome.Outcome.TheSendSync as outcome
 use Rattle.cv_notice.proofs.notices.Notices.TheSendSync as notices
-use Rattle.cv_records.proofs.reply.Reply.TheSendSync as reply
-use Rattle.cv_registry.proofs.standing.Standing.TheSendSync as standing
-use Rattle.cv_registry.specs.contracts.registry.Registry as registry
-use Rattle.cv_knowledge.specs.contracts.knowledge.Knowledge as knowledge
-use Rattle.cv_inventory.specs.contracts.inventory.Inventory as inventory
-use Rattle.cv_board.specs.contracts.board.Board as board
-use Rattle.cv_steps.specs.contracts.machine.Machine as machine
+use Rattle.cv_core_records.proofs.reply.Reply.TheSendSync as reply
+use Rattle.cv_core_registry.proofs.layer_status.LayerStatus.TheSendSync as layer_status
+use Rattle.cv_core_registry.specs.contracts.registry.Registry as registry
+use Rattle.cv_core_inventory.specs.contracts.knowledge.Knowledge as knowledge
+use Rattle.cv_core_inventory.specs.contracts.inventory.Inventory as inventory
+use Rattle.cv_core.specs.contracts.board.Board as board
+use Rattle.cv_core.specs.contracts.machine.Machine as machine
 use Rattle.cv_core.specs.contracts.machine.Core as core
 use Rattle.cv_core.specs.contracts.plan.Planned as planned
 
@@ -59,10 +59,10 @@ ruleset small = (
 
 -- the images and their layers
 registry_send : IsSend registry.the_row
-registry_send = search (standing.the_send, standing.the_sync, small, sendable, declared_send) depth 30 fits 5000
+registry_send = search (layer_status.the_send, layer_status.the_sync, small, sendable, declared_send) depth 30 fits 5000
 
 registry_sync : IsSync registry.the_row
-registry_sync = search (standing.the_send, standing.the_sync, small, sendable, declared_sync) depth 30 fits 5000
+registry_sync = search (layer_status.the_send, layer_status.the_sync, small, sendable, declared_sync) depth 30 fits 5000
 
 -- the core, and what it gives
 ruleset parts = (feeds_send, feeds_sync, outcome.the_send, outcome.the_sync, notices.the_send, notices.the_sync, facts.the_send, facts.the_sync, small)

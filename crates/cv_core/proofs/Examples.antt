@@ -1,9 +1,9 @@
 -- Worked examples of the definitions.
 use Rattle.std.specs.Prelude.{◌≡◌, refl}
-use Rattle.cv_records.specs.declared.reply.Reply.TheVariants as reply
-use Rattle.cv_machine.specs.State.{opening}
-use Rattle.cv_machine.specs.declared.limits.Limits.{Limits}
-use Rattle.cv_steps.specs.Core.{counted, opened}
+use Rattle.cv_core_records.specs.declared.reply.Reply.TheVariants as reply
+use Rattle.cv_core_machine.specs.State.{opening}
+use Rattle.cv_core_machine.specs.declared.limits.Limits.{Limits}
+use Rattle.cv_core.specs.Core.{counted, opened}
 use Rattle.cv_core.specs.Planned.{plan_of}
 
 limits : Limits

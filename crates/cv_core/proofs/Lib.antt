@@ -1,3 +1,7 @@
+mod BoardExamples
+pub mod BoardLemmas
+pub mod CoreLemmas
 pub mod Crossing
 mod Examples
 pub mod ReadLemmas
+mod StepExamples

@@ -1,18 +1,18 @@
 -- Reports and boards of a core are those of its state.
 use Rattle.std.specs.Prelude.{◌≡◌, ℕ, List, Option}
 use Rattle.std.proofs.Common.{ap, ◌∙◌}
-use Rattle.cv_records.specs.declared.read.ReportOutcome.{ReportOutcome}
-use Rattle.cv_machine.specs.Answer.{report_of}
-use Rattle.cv_machine.specs.Board.{BoardView, board_of}
-use Rattle.cv_machine.specs.Scans.{Trees}
-use Rattle.cv_machine.specs.State.{Notifications, State}
-use Rattle.cv_outcome.specs.Truth.{report_with}
-use Rattle.cv_outcome.specs.declared.outcome.Outcome.{Outcome}
+use Rattle.cv_core_records.specs.declared.read.ReportOutcome.{ReportOutcome}
+use Rattle.cv_core_machine.specs.Answer.{report_of}
+use Rattle.cv_core_machine.specs.Board.{BoardView, board_of}
+use Rattle.cv_core_machine.specs.Scans.{Trees}
+use Rattle.cv_core_machine.specs.State.{Notifications, State}
+use Rattle.cv_core_outcome.specs.Truth.{report_with}
+use Rattle.cv_core_outcome.specs.declared.outcome.Outcome.{Outcome}
 use Rattle.cv_tree.specs.Entries.{map_values}
-use Rattle.cv_knowledge.specs.Knowledge.{Outcomes, report_by}
-use Rattle.cv_inventory.specs.Holdings.{Holdings, holding}
-use Rattle.cv_board.specs.Boards.{board_view}
-use Rattle.cv_steps.specs.Core.{CoreView}
+use Rattle.cv_core_inventory.specs.Knowledge.{Outcomes, report_by}
+use Rattle.cv_core_inventory.specs.Holdings.{Holdings, holding}
+use Rattle.cv_core.specs.Boards.{board_view}
+use Rattle.cv_core.specs.Core.{CoreView}
 
 -- the report of an image
 pub report_core : (trees : Trees) (inside core : CoreView) (h : Holdings) (generation : ℕ) (image : List ℕ) (found : Option Outcome) (shows : ReportOutcome) → inside ≡ core

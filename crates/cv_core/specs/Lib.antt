@@ -1,3 +1,5 @@
-pub use Rattle.cv_board.specs.Reports
-pub use Rattle.cv_steps.specs.Core
+pub mod Boards
+pub mod Core
 pub mod Planned
+pub mod Reports
+pub mod code

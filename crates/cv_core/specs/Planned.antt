@@ -1,6 +1,6 @@
 -- A planned event (defined by this project).
-use Rattle.cv_records.specs.declared.reply.Reply.{Reply}
-use Rattle.cv_steps.specs.Core.{CoreView}
+use Rattle.cv_core_records.specs.declared.reply.Reply.{Reply}
+use Rattle.cv_core.specs.Core.{CoreView}
 
 -- the core before an event, the core after it, and the reply
 pub record PlannedView : Type 0 where

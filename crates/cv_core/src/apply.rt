@@ -1,14 +1,13 @@
 ghost use Rattle.std.specs.Prelude.{◌≡◌, ◌+◌, ◌^◌, ◌<◌, false, IfOk, OnErr};
-ghost use Rattle.cv_machine.specs.Scans.{IsKnown, Trees, trees_of};
-ghost use Rattle.cv_machine.specs.Step.{step};
-ghost use Rattle.cv_steps.specs.Core.{IsSound, act_of, counted, is_update};
+ghost use Rattle.cv_core_machine.specs.Scans.{StatesEveryLayer, Trees, trees_of};
+ghost use Rattle.cv_core_machine.specs.Step.{step};
+ghost use Rattle.cv_core.specs.Core.{IsSound, act_of, counted, is_update};
 
-use crate::machine::Core;
-use cv_base::Steps;
+use crate::core_machine::Core;
+use crate::event::Event;
+use cv_base::{NoMemory, Steps};
+use cv_core_records::Reply;
 use cv_desk::Desk;
-use cv_records::Reply;
-use cv_seq::NoMemory;
-use cv_steps::Event;
 use std::alloc::Global;
 use std::sync::ledger::Ledger;
 
@@ -23,7 +22,7 @@ impl<D: Desk + Drop> Core<D> {
     ) -> Result<Reply, NoMemory>
         requires room { self.old.count < 2 ^ 63 }
         requires sound { IsSound (act_of event) }
-        ensures stepped { IsKnown D.tree → IfOk result (λ reply. (self.new, reply) ≡ counted self.old (step (trees_of D.tree) self.old.state (act_of event))) }
+        ensures stepped { StatesEveryLayer D.tree → IfOk result (λ reply. (self.new, reply) ≡ counted self.old (step (trees_of D.tree) self.old.state (act_of event))) }
         ensures others { (trees : Trees) → is_update (act_of event) ≡ false → IfOk result (λ reply. (self.new, reply) ≡ counted self.old (step trees self.old.state (act_of event))) }
         ensures count { IfOk result (λ _. self.new.count ≡ self.old.count + 1) }
         ensures err { OnErr result (self.new ≡ self.old) }

@@ -1,4 +1,4 @@
-//! The core of the service: the machine of `cv_machine` with its events, its reports, its notifications and its boards. An event
+//! The core of the service: the machine of `cv_core_machine` with its events, its reports, its notifications and its boards. An event
 //! that runs out of memory, or is cancelled, changes nothing.
 //!
 //! ```text
@@ -12,17 +12,27 @@
 //! ```
 #![tactic(auto)]
 
+mod ack;
 mod apply;
+mod board;
+mod core_machine;
+mod event;
+mod images;
+mod layers;
 mod machine;
+mod parts;
 mod plan;
 mod reads;
+mod report;
+mod update;
 
-pub use cv_board::{Board, Report, ReportRefusal};
-pub use cv_machine::{Limits, MAX_FEEDS, MAX_IMAGES};
-pub use cv_notice::{Notices, Page, PageError};
-pub use cv_records::{
+pub use board::Board;
+pub use core_machine::Core;
+pub use cv_core_machine::{Limits, MAX_FEEDS, MAX_IMAGES};
+pub use cv_core_records::{
     Act, Answer, By, EventEntry, NoticeHead, PageOutcome, ReadEntry, Reply, ReportOutcome,
 };
-pub use cv_steps::Event;
-pub use machine::Core;
+pub use cv_notice::{Notices, Page, PageError};
+pub use event::Event;
 pub use plan::Planned;
+pub use report::{Report, ReportRefusal};

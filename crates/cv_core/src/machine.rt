@@ -1,75 +1,101 @@
 ghost use Rattle.std.specs.Prelude.{◌≡◌, ◌≤◌, IfOk};
-ghost use Rattle.cv_machine.specs.Layers.{queued};
-ghost use Rattle.cv_machine.specs.declared.limits.TheConstants.{MAX_FEEDS, MAX_IMAGES};
-ghost use Rattle.cv_steps.specs.Core.{IsRegular, opened};
+ghost use Rattle.cv_core_inventory.specs.Holdings.{holding};
+ghost use Rattle.cv_core_machine.specs.Layers.{queued};
+ghost use Rattle.cv_core_machine.specs.declared.limits.TheConstants.{MAX_FEEDS, MAX_IMAGES};
+ghost use Rattle.cv_core.specs.Core.{IsRegular, opened};
 
-use cv_base::Digest;
+use cv_base::{Digest, NoMemory, Seq};
+use cv_core_inventory::Inventory;
+use cv_core_machine::Limits;
 use cv_desk::Desk;
-use cv_machine::Limits;
 use cv_notice::Notices;
-use cv_seq::{NoMemory, Seq};
-use cv_steps::Machine;
+use cv_tree::Shared;
 use std::alloc::Global;
 use std::marker::Model;
 
 /// The machine of the service. Contracts see its state, and how many events it replied to. The outcome of each image is kept, so
 /// that reports are read without matching.
-pub struct Core<D: Desk> {
-    pub(crate) machine: Machine<D>,
+pub struct Machine<D: Desk> {
+    pub(crate) inventory: Inventory<D>,
+    pub(crate) notices: Shared<Notices>,
+    pub(crate) generation: u64,
+    pub(crate) count: u64,
 }
 
 /// Written out, so that the crates above call it, and do not prove anew how each part is dropped.
-impl<D: Desk + Drop> Drop for Core<D> {
+impl<D: Desk + Drop> Drop for Machine<D> {
     fn drop(self) {
-        let Core { machine: _ } = self;
+        let Machine {
+            inventory: _,
+            notices: _,
+            generation: _,
+            count: _,
+        } = self;
     }
 }
 
-impl<D: Desk> Model for Core<D> {
-    ghost use Rattle.cv_steps.specs.Core.{CoreView};
+impl<D: Desk> Model for Machine<D> {
+    ghost use Rattle.cv_core.specs.Core.{CoreView, IsRegular};
+    ghost use Rattle.cv_core.specs.code.Parts.{core_of};
 
     ghost Value = { CoreView };
 
-    ghost view = { λ c. c.machine };
+    ghost view = { λ m. core_of m.inventory m.notices m.generation m.count };
+
+    ghost invariant = { λ m. IsRegular (core_of m.inventory m.notices m.generation m.count) };
 }
 
-impl<D: Desk + Drop> Core<D> {
-    /// The core before all events. There may be as many images and feeds as the limits say.
-    pub fn new(alloc: Global, limits: Limits) -> Result<Core<D>, NoMemory>
+impl<D: Desk + Drop> Machine<D> {
+    /// The machine before all events. There may be as many images and feeds as the limits say.
+    pub fn new(alloc: Global, limits: Limits) -> Result<Machine<D>, NoMemory>
         requires images { (1 ≤ limits.images) × (limits.images ≤ MAX_IMAGES) }
         requires feeds { (1 ≤ limits.feeds) × (limits.feeds ≤ MAX_FEEDS) }
-        ensures { IfOk result (λ core. core ≡ opened limits) }
+        ensures { IfOk result (λ machine. machine ≡ opened limits) }
     {
-        Ok(Core {
-            machine: Machine::new(alloc, limits)?,
-        })
+        let notices = Shared::of(alloc, Notices::new(alloc))?;
+        let inventory = Inventory::new(alloc, limits)?;
+        Ok(Machine::of(inventory, notices, 0, 0))
     }
 
     /// How many events it replied to. It takes no memory.
     pub fn count(&self) -> u64
         ensures { result ≡ self.now.count }
     {
-        self.machine.count()
+        self.count
+    }
+
+    /// The generation of the last update, or 0. It takes no memory.
+    pub fn generation(&self) -> u64
+        ensures { result ≡ self.now.state.generation }
+    {
+        self.generation
+    }
+
+    /// The images, layers and feeds. It takes no memory.
+    pub fn inventory(&self) -> &Inventory<D>
+        ensures { holding self.now.state result.now ≡ self.now.state }
+    {
+        &self.inventory
     }
 
     /// The notifications that are not acknowledged. It takes no memory.
-    pub fn notices(&self) -> &Notices
+    pub fn notices(&self) -> &Shared<Notices>
         ensures { result.now ≡ self.now.state.notifications }
     {
-        self.machine.notices().value()
+        &self.notices
     }
 
     /// The layers that wait for a worker, in ascending order.
     pub fn queued(&self, alloc: Global) -> Result<Seq<Digest>, NoMemory>
         ensures { IfOk result (λ layers. layers ≡ queued self.now.state.layers) }
     {
-        self.machine.queued(alloc)
+        Ok(Seq::of(self.inventory.queued(alloc)?))
     }
 
     /// The state is consistent. For proofs: it has no effect at run time.
-    pub fn regular(&self)
+    pub fn regular_law(&self)
         ensures { IsRegular self.now }
     {
-        self.machine.regular();
+        let _inventory = &self.inventory;
     }
 }

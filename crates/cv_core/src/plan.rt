@@ -1,17 +1,16 @@
 ghost use Rattle.std.specs.Prelude.{◌≡◌, ◌+◌, ◌^◌, ◌<◌, false, IfOk, IfErr};
-ghost use Rattle.cv_machine.specs.Board.{board_of};
-ghost use Rattle.cv_machine.specs.Scans.{IsKnown, Trees, trees_of};
-ghost use Rattle.cv_machine.specs.Step.{step};
-ghost use Rattle.cv_steps.specs.Core.{IsSound, act_of, counted, is_update};
+ghost use Rattle.cv_core_machine.specs.Board.{board_of};
+ghost use Rattle.cv_core_machine.specs.Scans.{StatesEveryLayer, Trees, trees_of};
+ghost use Rattle.cv_core_machine.specs.Step.{step};
+ghost use Rattle.cv_core.specs.Core.{IsSound, act_of, counted, is_update};
 ghost use Rattle.cv_core.specs.Planned.{plan_of};
 
-use crate::machine::Core;
-use cv_base::Steps;
-use cv_board::Board;
+use crate::board::Board;
+use crate::core_machine::Core;
+use crate::event::Event;
+use cv_base::{NoMemory, Steps};
+use cv_core_records::Reply;
 use cv_desk::Desk;
-use cv_records::Reply;
-use cv_seq::NoMemory;
-use cv_steps::Event;
 use std::alloc::Global;
 use std::marker::Model;
 use std::sync::ledger::Ledger;
@@ -54,7 +53,7 @@ impl<D: Desk + Drop> Core<D> {
     ) -> Result<Planned<D>, (Core<D>, NoMemory)>
         requires room { self.count < 2 ^ 63 }
         requires sound { IsSound (act_of event) }
-        ensures stepped { IsKnown D.tree → IfOk result (λ planned. planned ≡ plan_of self (counted self (step (trees_of D.tree) self.state (act_of event)))) }
+        ensures stepped { StatesEveryLayer D.tree → IfOk result (λ planned. planned ≡ plan_of self (counted self (step (trees_of D.tree) self.state (act_of event)))) }
         ensures others { (trees : Trees) → is_update (act_of event) ≡ false → IfOk result (λ planned. planned ≡ plan_of self (counted self (step trees self.state (act_of event)))) }
         ensures count { IfOk result (λ planned. planned.after.count ≡ self.count + 1) }
         ensures before { IfOk result (λ planned. planned.before ≡ self) }
@@ -105,7 +104,7 @@ impl<D: Desk + Drop> Planned<D> {
 
     /// The board of the core after the event.
     pub fn board(&self) -> Result<Board, NoMemory>
-        ensures { IsKnown D.tree → IfOk result (λ board. board ≡ board_of (trees_of D.tree) self.now.after.state) }
+        ensures { StatesEveryLayer D.tree → IfOk result (λ board. board ≡ board_of (trees_of D.tree) self.now.after.state) }
     {
         self.after.board()
     }

@@ -1,20 +1,20 @@
 ghost use Rattle.std.specs.Prelude.{◌≡◌, IfOk};
-ghost use Rattle.cv_machine.specs.Answer.{report_of};
-ghost use Rattle.cv_machine.specs.Board.{board_of};
-ghost use Rattle.cv_machine.specs.Scans.{IsKnown, trees_of};
-ghost use Rattle.cv_board.specs.Reports.{shown};
+ghost use Rattle.cv_core_machine.specs.Answer.{report_of};
+ghost use Rattle.cv_core_machine.specs.Board.{board_of};
+ghost use Rattle.cv_core_machine.specs.Scans.{StatesEveryLayer, trees_of};
+ghost use Rattle.cv_core.specs.Reports.{shown};
 
-use crate::machine::Core;
-use cv_base::Digest;
-use cv_board::{Board, Report, ReportRefusal, report_by};
+use crate::board::Board;
+use crate::core_machine::Core;
+use crate::report::{Report, ReportRefusal, report_by};
+use cv_base::{Digest, NoMemory};
 use cv_desk::Desk;
-use cv_seq::NoMemory;
 use cv_tree::Share;
 
 impl<D: Desk + Drop> Core<D> {
     /// The report of an image. It is read from the outcome that is kept of the image: it matches nothing and takes no memory.
     pub fn report(&self, image: &Digest) -> Result<Report<'_>, ReportRefusal<'_>>
-        ensures { IsKnown D.tree → shown result ≡ report_of (trees_of D.tree) self.now.state image.now }
+        ensures { StatesEveryLayer D.tree → shown result ≡ report_of (trees_of D.tree) self.now.state image.now }
     {
         let outcome = self.machine.inventory().outcome(image);
         report_by(self.machine.generation(), outcome)
@@ -22,7 +22,7 @@ impl<D: Desk + Drop> Core<D> {
 
     /// The board of the core as it is. It takes no memory, and fails only if a count of owners is at its last value.
     pub fn board(&self) -> Result<Board, NoMemory>
-        ensures { IsKnown D.tree → IfOk result (λ board. board ≡ board_of (trees_of D.tree) self.now.state) }
+        ensures { StatesEveryLayer D.tree → IfOk result (λ board. board ≡ board_of (trees_of D.tree) self.now.state) }
     {
         let outcomes = self.machine.inventory().outcomes()?;
         let notices = self.machine.notices().share()?;

@@ -5,8 +5,7 @@ ghost use Rattle.cv_desk.specs.Fault.{is_failed};
 ghost use Rattle.cv_desk.specs.Stored.{ArePathsIn, IsDistinctIn, Stored, file_read, item_in, listed};
 ghost use Rattle.cv_desk.specs.declared.desk.DeskFault.TheVariants as desk;
 
-use cv_base::{Digest, ListEntry, RelPath};
-use cv_seq::{NoMemory, Seq};
+use cv_base::{Digest, ListEntry, NoMemory, RelPath, Seq};
 use std::alloc::Global;
 use thiserror::Error;
 

@@ -12,9 +12,9 @@ ghost use Rattle.cv_desk.specs.code.Listed.{FitsFound, FitsReads, IsAnswer, file
 
 use crate::desk::{Desk, DeskFault, FileRead};
 use cv_base::{
-    Content, Digest, Kind, ListEntry, Node, PACKAGE_FILE_LIMIT, RelPath, Tree, TreeEntry, place,
+    Content, Digest, Kind, ListEntry, NoMemory, Node, PACKAGE_FILE_LIMIT, RelPath, Seq, Tree,
+    TreeEntry, place,
 };
-use cv_seq::{NoMemory, Seq};
 use std::alloc::Global;
 
 /// Loads a layer: lists it once, and reads its package files, up to their limit, and no others. A listed file that is no

@@ -8,8 +8,7 @@ ghost use Rattle.cv_desk.specs.code.TableRow.{row_of, stored_of};
 ghost use Rattle.cv_desk.specs.code.TableSteps.{HasPaths, first_at, with_entry, with_row};
 
 use crate::desk::{Desk, DeskFault, FileRead, ReadResult};
-use cv_base::{Digest, Kind, ListEntry, PathError, RelPath};
-use cv_seq::{NoMemory, Seq};
+use cv_base::{Digest, Kind, ListEntry, NoMemory, PathError, RelPath, Seq};
 use std::alloc::Global;
 use std::collections::BTreeSet;
 use std::marker::PhantomData;

@@ -5,9 +5,8 @@ ghost use Rattle.cv_desk_wrappers.specs.Failing.{fails_next, faults_after};
 ghost use Rattle.cv_desk.specs.Fault.{is_failed};
 ghost use Rattle.cv_desk.specs.Stored.{file_read, item_in, listed};
 
-use cv_base::{Digest, ListEntry, RelPath};
+use cv_base::{Digest, ListEntry, RelPath, Seq};
 use cv_desk::{Desk, DeskFault, ReadResult};
-use cv_seq::Seq;
 use std::alloc::Global;
 use std::marker::Model;
 

@@ -5,9 +5,8 @@ ghost use Rattle.cv_desk.specs.Fault.{is_failed};
 ghost use Rattle.cv_desk_wrappers.specs.Gate.{Gated, gated, has_passed};
 ghost use Rattle.cv_desk.specs.Stored.{file_read, item_in, listed};
 
-use cv_base::{Digest, ListEntry, RelPath};
+use cv_base::{Digest, ListEntry, NoMemory, RelPath, Seq};
 use cv_desk::{Desk, DeskFault, ReadResult};
-use cv_seq::{NoMemory, Seq};
 use std::alloc::Global;
 use std::marker::Model;
 use std::sync::Arc;

@@ -1,7 +1,7 @@
 //! What the lines of a paragraph say of its package.
 ghost use Rattle.std.specs.Prelude.{◌≡◌, ◌++◌, IfOk, MatchResult, None, Some, codes, unwrap_or};
 ghost use Rattle.std.specs.Option.{option_map};
-ghost use Rattle.cv_base.specs.Answer.{Yields};
+ghost use Rattle.cv_base.specs.Answer.{MatchesUnlessOutOfMemory};
 ghost use Rattle.cv_base.specs.Texts.{same};
 ghost use Rattle.cv_base.specs.declared.fault.What.TheVariants as what;
 ghost use Rattle.cv_stanza.specs.code.Steps.{or_fault};
@@ -14,8 +14,7 @@ use crate::field::Field;
 use crate::package::DebPackage;
 use crate::rule::StatusRule;
 use crate::value::{Source, origin_of, state_of};
-use cv_base::{What, printing_text};
-use cv_seq::{NoMemory, Text};
+use cv_base::{NoMemory, Text, What, printing_text};
 use std::alloc::Global;
 
 /// What the lines so far say. All of it is borrowed from the file.
@@ -47,7 +46,7 @@ impl<'a> Facts<'a> {
 
     /// Adds the value of a field, unless it is bad.
     pub fn add(&mut self, field: Field, value: &'a [u8]) -> Result<(), What>
-        ensures { Yields Some (λ _. facts_view self.new) result (value_step field value.now (facts_view self.old)) }
+        ensures { MatchesUnlessOutOfMemory Some (λ _. facts_view self.new) result (value_step field value.now (facts_view self.old)) }
     {
         match field {
             Field::Package => self.name = Some(filled_value(value)?),
@@ -136,7 +135,7 @@ impl<'a> Facts<'a> {
 
 /// A value of printing bytes.
 fn printing_value(value: &[u8]) -> Result<&str, What>
-    ensures { Yields Some (λ text. text.now) result (or_fault (value_fault field.Version value.now) value.now) }
+    ensures { MatchesUnlessOutOfMemory Some (λ text. text.now) result (or_fault (value_fault field.Version value.now) value.now) }
 {
     match printing_text(value) {
         Some(text) => Ok(text),
@@ -146,7 +145,7 @@ fn printing_value(value: &[u8]) -> Result<&str, What>
 
 /// A value of printing bytes, at least one.
 fn filled_value(value: &[u8]) -> Result<&str, What>
-    ensures { Yields Some (λ text. text.now) result (or_fault (value_fault field.Package value.now) value.now) }
+    ensures { MatchesUnlessOutOfMemory Some (λ text. text.now) result (or_fault (value_fault field.Package value.now) value.now) }
 {
     if value.is_empty() {
         return Err(What::BadValue);

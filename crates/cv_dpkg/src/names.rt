@@ -1,11 +1,10 @@
 //! The names of a paragraph's fields, found again without regard to the case of ASCII letters.
 ghost use Rattle.std.specs.Prelude.{◌≡◌, not, IfOk, OnOk};
-ghost use Rattle.cv_dpkg.specs.code.Steps.{stood_in};
-ghost use Rattle.cv_dpkg.specs.code.Steps.{with_name};
+ghost use Rattle.cv_dpkg.specs.code.Steps.{stood_in, with_name};
 ghost use Rattle.cv_dpkg.specs.code.Names.{name_cmp};
 
 use crate::field::name_order;
-use cv_seq::NoMemory;
+use cv_base::NoMemory;
 use std::alloc::Global;
 use std::cmp::Ordering;
 use std::collections::BTreeSet;

@@ -1,4 +1,4 @@
-use cv_seq::Text;
+use cv_base::Text;
 
 /// An installed binary package. Without a field Source the source has the package's own name and version.
 #[derive(Clone, Debug, PartialEq, Eq, PartialOrd, Ord, Drop)]

@@ -1,6 +1,6 @@
 //! A paragraph, line by line.
 ghost use Rattle.std.specs.Prelude.{◌≡◌, Some};
-ghost use Rattle.cv_base.specs.Answer.{Yields};
+ghost use Rattle.cv_base.specs.Answer.{MatchesUnlessOutOfMemory};
 ghost use Rattle.cv_stanza.specs.code.Steps.{line_fault};
 ghost use Rattle.cv_dpkg.specs.code.Names.{entry_of};
 ghost use Rattle.cv_dpkg.specs.code.Steps.{field_step, line_step, opening, state_view};
@@ -37,7 +37,7 @@ impl<'a> Paragraph<'a> {
 
     /// Takes one more line, which is not empty.
     pub fn take(&mut self, line: &'a [u8]) -> LineResult
-        ensures { Yields line_fault (λ _. state_view self.new) result (line_step (state_view self.old) line.now) }
+        ensures { MatchesUnlessOutOfMemory line_fault (λ _. state_view self.new) result (line_step (state_view self.old) line.now) }
     {
         if begins_with_blank(line) {
             return if self.begun {
@@ -53,7 +53,7 @@ impl<'a> Paragraph<'a> {
     }
 
     fn take_field(&mut self, entry: Entry<'a>) -> LineResult
-        ensures { Yields line_fault (λ _. state_view self.new) result (field_step (state_view self.old) (Some (entry_of entry.entry))) }
+        ensures { MatchesUnlessOutOfMemory line_fault (λ _. state_view self.new) result (field_step (state_view self.old) (Some (entry_of entry.entry))) }
     {
         if !is_name(entry.name) {
             return Err(LineError::Bad(What::BadField));

@@ -1,14 +1,13 @@
 //! A whole status file.
 ghost use Rattle.std.specs.Prelude.{IfErr, IfSome};
-ghost use Rattle.cv_base.specs.Answer.{Yields};
+ghost use Rattle.cv_base.specs.Answer.{MatchesUnlessOutOfMemory};
 ghost use Rattle.cv_base.specs.Reading.{read_fault};
 ghost use Rattle.cv_stanza.specs.Blocks.{IsFirstBad};
 ghost use Rattle.cv_dpkg.specs.Status.{lines, rules, status};
 
 use crate::package::DebPackage;
 use crate::rule::StatusRule;
-use cv_base::ReadBad;
-use cv_seq::Seq;
+use cv_base::{ReadBad, Seq};
 use cv_stanza::read_blocks;
 use std::alloc::Global;
 
@@ -21,7 +20,7 @@ pub fn read_status(
     bytes: &[u8],
     rule: StatusRule,
 ) -> Result<Seq<DebPackage>, ReadBad>
-    ensures answer { Yields read_fault (λ packages. packages) result (status bytes.now rule) }
+    ensures answer { MatchesUnlessOutOfMemory read_fault (λ packages. packages) result (status bytes.now rule) }
     ensures first { IfErr result (λ error. IfSome (read_fault error) (IsFirstBad (rules rule) (lines bytes.now))) }
 {
     Ok(Seq::of(read_blocks(alloc, &rule, bytes)?))

@@ -1,7 +1,7 @@
 -- The summary on worked examples.
 use Rattle.std.proofs.Common.{◌≡◌, ℕ, List, [], ◌∷◌, codes, refl, Some, None}
 use Rattle.serde_json.specs.Data.{Data, Items, array, null, number, unsigned, object, string, no_items, item, no_members, member}
-use Rattle.cv_drill_input.specs.Lines.{json_text}
+use Rattle.cv_drill.specs.Lines.{json_text}
 use Rattle.cv_drill.specs.Summary.{findings, generation, last_report, numberless_list, replies, rows, standing}
 
 -- a reply is counted by its word

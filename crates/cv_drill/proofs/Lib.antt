@@ -1,5 +1,10 @@
-pub use Rattle.cv_drill_input.proofs.Lists
 mod Examples
+mod Floats
+mod InputExamples
 mod Items
+pub mod Lists
 mod Numbers
+mod RecordExamples
+pub mod RecordFloats
 mod Reports
+mod Sizes

@@ -1,6 +1,6 @@
-pub use Rattle.cv_drill_input.specs.Images
-pub use Rattle.cv_drill_input.specs.Lines
-pub use Rattle.cv_drill_input.specs.Records
-pub use Rattle.cv_drill_input.specs.Script
+pub mod Images
+pub mod Lines
+pub mod Records
+pub mod Script
 pub mod Summary
 pub mod Transcript

@@ -10,8 +10,8 @@ use Rattle.serde_json.specs.Find.{as_array, get}
 use Rattle.sha2.specs.Sha256.{sha256}
 use Rattle.cv_base.specs.Digest.{digest_text}
 use Rattle.cv_base.specs.Texts.{same}
-use Rattle.cv_drill_input.specs.Images.{image}
-use Rattle.cv_drill_input.specs.Lines.{json_text, lines_text, numbers}
+use Rattle.cv_drill.specs.Images.{image}
+use Rattle.cv_drill.specs.Lines.{json_text, lines_text, numbers}
 use Rattle.cv_drill.specs.declared.totals.Totals.{Totals}
 use Rattle.cv_drill.specs.Transcript.{has_number, list, number_at, objects, says, text_at}
 

@@ -1,4 +1,4 @@
-//! A large run of the service that a number determines: a summary of what is written for the input of `cv_drill_input`.
+//! A large run of the service that a number determines: a summary of what is written for the input of `cv_drill`.
 //!
 //! ```text
 //! let input = script(alloc, 7)?;
@@ -6,10 +6,15 @@
 //! ```
 #![tactic(auto)]
 
+mod digest;
+mod image;
+mod input;
+mod line;
 mod output;
+mod record;
 mod report;
 mod totals;
 mod transcript;
 
-pub use cv_drill_input::script;
+pub use input::script;
 pub use output::summary;

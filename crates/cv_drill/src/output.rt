@@ -2,11 +2,11 @@ ghost use Rattle.std.specs.Prelude.{◌≡◌, IfOk, map, string_bytes};
 ghost use Rattle.serde_json.specs.View.{view};
 ghost use Rattle.cv_drill.specs.Summary.{counts_text, line_of, sum_text, sums_text, summary, summary_of};
 
+use crate::image::IMAGES;
 use crate::report::last_reports;
 use crate::totals::{Totals, totals_of};
 use crate::transcript::objects;
-use cv_drill_input::IMAGES;
-use cv_seq::{NoMemory, Text};
+use cv_base::{NoMemory, Text};
 use serde_json::Value;
 use sha2::{Digest, Sha256};
 use std::alloc::Global;

@@ -6,13 +6,14 @@ ghost use Rattle.std.specs.Ordering.{nat_cmp};
 ghost use Rattle.serde_json.specs.View.{view};
 ghost use Rattle.serde_json.specs.Written.{has_float};
 ghost use Rattle.cv_base.specs.Digest.{digest_text};
-ghost use Rattle.cv_drill_input.specs.Images.{image};
-ghost use Rattle.cv_drill_input.specs.Lines.{json_text, lines_text, numbers};
+ghost use Rattle.cv_drill.specs.Images.{image};
+ghost use Rattle.cv_drill.specs.Lines.{json_text, lines_text, numbers};
 ghost use Rattle.cv_drill.specs.Summary.{good_findings, image_report, is_good_report, last_report, last_reports, numberless_list, under};
 
+use crate::digest::Role;
+use crate::line::json_text;
 use crate::transcript::{has_number, says, text_at};
-use cv_drill_input::{Role, json_text};
-use cv_seq::{NoMemory, Text};
+use cv_base::{NoMemory, Text};
 use serde_json::Value;
 use std::alloc::Global;
 use std::collections::BTreeMap;

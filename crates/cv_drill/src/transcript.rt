@@ -3,8 +3,7 @@ ghost use Rattle.std.specs.Option.{option_map};
 ghost use Rattle.serde_json.specs.View.{items_view, members_view, view};
 ghost use Rattle.cv_drill.specs.Transcript.{has_number, items_have_number, json_of, line_object, list, members_have_number, number_at, objects, says, text_at};
 
-use cv_base::next_line;
-use cv_seq::NoMemory;
+use cv_base::{NoMemory, next_line};
 use serde_json::{Map, Value};
 use std::alloc::Global;
 use std::str;

@@ -15,8 +15,7 @@ use Rattle.cv_base.specs.declared.tree.Node.TheVariants as node
 use Rattle.cv_base.specs.declared.tree.TreeEntry.{TreeEntry}
 use Rattle.cv_desk.specs.Loaded.{loaded, whole, whole_node}
 use Rattle.cv_desk.specs.code.Loaded.{loaded_by}
-use Rattle.cv_desk.specs.Stored.{Dir, File, IsDistinctIn, Item, Other, Stored, kind_of}
-use Rattle.cv_desk.specs.Stored.{listed as listed_entry}
+use Rattle.cv_desk.specs.Stored.{Dir, File, IsDistinctIn, Item, Other, Stored, kind_of, listed as listed_entry}
 use Rattle.cv_desk.proofs.LoadedLayers.{loaded_whole}
 use Rattle.cv_overlay.specs.Fault.{fault, list_fault, tree_fault}
 use Rattle.cv_overlay.specs.Lay.{is_plain}
@@ -24,8 +23,8 @@ use Rattle.cv_overlay.specs.Mark.{Outline, is_dir_kind, is_dir_node, listed, mar
 use Rattle.cv_overlay.specs.declared.fault.TreeFault.{TreeFault}
 use Rattle.cv_packages.specs.Files.{file_of}
 use Rattle.cv_packages.specs.Found.{found_at}
-use Rattle.cv_package_files.specs.declared.found.FileFound.{FileFound}
-use Rattle.cv_package_files.specs.declared.found.Found.TheVariants as found
+use Rattle.cv_packages.specs.declared.found.FileFound.{FileFound}
+use Rattle.cv_packages.specs.declared.found.Found.TheVariants as found
 use Rattle.cv_facts.specs.Cover.{covers, opaque_dirs, place_dirs, targets}
 use Rattle.cv_facts.specs.Files.{own_file, own_files}
 use Rattle.cv_facts.specs.Reduction.{shape_by, shape_of}

@@ -23,7 +23,7 @@ use Rattle.cv_overlay.specs.Lay.{is_plain}
 use Rattle.cv_overlay.specs.Mark.{Outline, is_dir_kind, is_dir_node, listed, mark_of, outline}
 use Rattle.cv_overlay.proofs.MergeLemmas.{good_ascends}
 use Rattle.cv_overlay.proofs.SearchLemmas.{turned_less}
-use Rattle.cv_package_files.specs.declared.found.FileFound.{FileFound}
+use Rattle.cv_packages.specs.declared.found.FileFound.{FileFound}
 use Rattle.cv_facts.specs.Cover.{cover_by, covers, is_place, place_dir_by, place_dirs}
 use Rattle.cv_facts.specs.Order.{AreAscending}
 

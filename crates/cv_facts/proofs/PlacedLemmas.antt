@@ -19,7 +19,7 @@ use Rattle.cv_overlay.specs.Lay.{is_plain}
 use Rattle.cv_overlay.specs.Mark.{is_dir_node, mark_of}
 use Rattle.cv_packages.specs.Files.{file_of}
 use Rattle.cv_packages.specs.Found.{found_in}
-use Rattle.cv_package_files.specs.declared.found.FileFound.{FileFound}
+use Rattle.cv_packages.specs.declared.found.FileFound.{FileFound}
 use Rattle.cv_facts.specs.Files.{own_file}
 use Rattle.cv_facts.specs.code.Listing.{content_of, listed_kind}
 

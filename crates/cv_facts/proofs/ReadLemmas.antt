@@ -16,14 +16,13 @@ use Rattle.cv_base.specs.declared.tree.Node.TheVariants as node
 use Rattle.cv_desk.proofs.ReadCounts.{count_after-more, count_by-cons}
 use Rattle.cv_desk.specs.Counts.{count_after}
 use Rattle.cv_desk.specs.Loaded.{whole}
-use Rattle.cv_desk.specs.Stored.{Dir, File, Item, Other, Stored}
-use Rattle.cv_desk.specs.Stored.{listed as listed_entry}
+use Rattle.cv_desk.specs.Stored.{Dir, File, Item, Other, Stored, listed as listed_entry}
 use Rattle.cv_overlay.specs.Fault.{fault, tree_fault}
 use Rattle.cv_overlay.specs.Lay.{is_plain}
 use Rattle.cv_overlay.specs.Mark.{is_dir_kind, listed, mark_of}
 use Rattle.cv_overlay.specs.declared.fault.TreeFault.{TreeFault}
 use Rattle.cv_packages.specs.Files.{file_of}
-use Rattle.cv_package_files.specs.declared.found.FileFound.{FileFound}
+use Rattle.cv_packages.specs.declared.found.FileFound.{FileFound}
 use Rattle.cv_facts.specs.Cover.{covers, is_place}
 use Rattle.cv_facts.specs.Files.{own_file, own_files}
 use Rattle.cv_facts.specs.Reads.{HasReads, file_count, place_count}

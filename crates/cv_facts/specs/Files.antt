@@ -5,7 +5,7 @@ use Rattle.cv_base.specs.declared.tree.TreeEntry.{TreeEntry}
 use Rattle.cv_overlay.specs.Lay.{is_plain}
 use Rattle.cv_overlay.specs.Mark.{mark}
 use Rattle.cv_packages.specs.Files.{file_found}
-use Rattle.cv_package_files.specs.declared.found.FileFound.{FileFound}
+use Rattle.cv_packages.specs.declared.found.FileFound.{FileFound}
 
 -- the package file that an entry of a layer is, if it is one
 abbrev pub own_file : TreeEntry → Option FileFound

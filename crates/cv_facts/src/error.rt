@@ -2,8 +2,8 @@ ghost use Rattle.std.specs.Prelude.{◌≡◌};
 ghost use Rattle.cv_facts.specs.Cause.{index_error};
 ghost use Rattle.cv_facts.specs.declared.error.IndexError.TheVariants as error;
 
+use cv_base::NoMemory;
 use cv_desk::DeskFault;
-use cv_seq::NoMemory;
 use thiserror::Error;
 
 /// Why a layer was not indexed.

@@ -3,9 +3,8 @@ ghost use Rattle.cv_facts.specs.Order.{IsOrdered};
 ghost use Rattle.cv_facts.specs.Reduction.{IsRight};
 
 use crate::reduction::Shape;
-use cv_base::Digest;
+use cv_base::{Digest, NoMemory};
 use cv_desk::Desk;
-use cv_seq::NoMemory;
 use std::alloc::Global;
 use std::marker::{Model, PhantomData};
 use std::sync::Arc;
@@ -71,14 +70,14 @@ impl<D: Desk> LayerFacts<D> {
     }
 
     /// The facts are right. For proofs: it has no effect at run time.
-    pub fn known(&self)
+    pub fn known_law(&self)
         ensures { IsRight D.tree self.now }
     {
         let _digest = &self.digest;
     }
 
     /// The lists of the shape are in order. For proofs: it has no effect at run time.
-    pub fn ordered(&self)
+    pub fn ordered_law(&self)
         ensures { IsOrdered self.now.shape }
     {
         let _digest = &self.digest;

@@ -6,9 +6,8 @@ ghost use Rattle.cv_overlay.specs.Mark.{has_mark, is_dir_kind, listed, mark_of, 
 ghost use Rattle.cv_overlay.specs.declared.mark.Mark.TheVariants.{Whiteout};
 ghost use Rattle.cv_facts.specs.Cover.{cover_by, covers, opaque_by, opaque_dirs, place_dir_by, place_dirs, target_by, targets};
 
-use cv_base::{Kind, ListEntry, PathError, RelPath, place};
+use cv_base::{Kind, ListEntry, NoMemory, PathError, RelPath, place};
 use cv_overlay::{Mark, mark_of};
-use cv_seq::NoMemory;
 use std::alloc::Global;
 
 /// What a layer hides, in the order of its listing.

@@ -21,11 +21,13 @@ use crate::facts::LayerFacts;
 use crate::hides::hides_of;
 use crate::order::in_path_order;
 use crate::reduction::{Reduction, Shape};
-use cv_base::{Content, Digest, Kind, ListEntry, PACKAGE_FILE_LIMIT, Place, RelPath, Seq, place};
+use cv_base::{
+    Content, Digest, Kind, ListEntry, NoMemory, PACKAGE_FILE_LIMIT, Place, RelPath, Seq, place,
+};
 use cv_desk::{Desk, FileRead};
 use cv_overlay::{Mark, check_tree, mark_of};
 use cv_packages::{FileFound, read_file};
-use cv_seq::{NoMemory, push_some};
+use cv_seq::push_some;
 use std::alloc::Global;
 
 /// Indexes a layer: lists it once, checks the listing, and reads its package files. The files of a layer whose listing is not a

@@ -2,8 +2,7 @@ ghost use Rattle.std.specs.Prelude.{◌≡◌, IfOk};
 ghost use Rattle.cv_base.specs.InOrder.{in_order};
 ghost use Rattle.cv_base.specs.Path.{path_cmp};
 
-use cv_base::{RelPath, in_order};
-use cv_seq::NoMemory;
+use cv_base::{NoMemory, RelPath, in_order};
 use std::alloc::Global;
 
 /// Paths in their order, each once.

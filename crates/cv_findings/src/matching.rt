@@ -8,8 +8,8 @@ ghost use Rattle.cv_findings.specs.code.Lookup.{found_by, found_once, found_unde
 
 use cv_advdb::{Feeds, Listed};
 use cv_base::{Advisory, Finding, NoMemory, Package, PackageName, Seq, Steps};
-use cv_finding::find_one;
 use cv_match::{ReadyPackage, in_order, package_keys, prepare_package};
+use cv_match_feed::find_one;
 use std::alloc::Global;
 use std::sync::ledger::Ledger;
 
@@ -25,7 +25,7 @@ pub fn match_all<L: Ledger>(
     ensures found { IfOk result (λ out. out ≡ findings packages.now feeds.now.feeds) }
     ensures counted { steps.new ≤ steps.old + pair_count packages.now feeds.now.feeds }
 {
-    feeds.sorted();
+    feeds.sorted_law();
     let found = match_each(alloc, packages, feeds, steps)?;
     in_order(alloc, found)
 }

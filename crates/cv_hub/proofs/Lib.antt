@@ -1,5 +1,9 @@
-pub use Rattle.cv_view.proofs.Replays
-pub use Rattle.cv_view.proofs.Made
-pub use Rattle.cv_view.proofs.Prefixes
+pub use Rattle.cv_hub_seats.proofs.Made
+pub use Rattle.cv_hub_seats.proofs.Prefixes
 pub mod Captured
 pub mod Crossing
+pub mod Listed
+pub mod LockedCrossing
+pub mod Receipts
+pub mod Replays
+pub mod ViewCrossing

@@ -1,2 +1,5 @@
-pub use Rattle.cv_seats.specs.Events
-pub use Rattle.cv_seats.specs.Seats
+pub use Rattle.cv_core.specs.Core
+pub use Rattle.cv_core.specs.Reports
+pub use Rattle.cv_hub_seats.specs.Events
+pub use Rattle.cv_hub_seats.specs.Seats
+pub mod code

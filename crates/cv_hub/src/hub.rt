@@ -1,19 +1,20 @@
 ghost use Rattle.std.specs.Prelude.{◌≡◌, ◌+◌, ◌≤◌, ◌<◌, ◌^◌, List, [], drop, length, IfOk, OnErr};
 ghost use Rattle.std.specs.List.{AllByRecursion};
 ghost use mathlib.Core.List.{IsPrefix};
-ghost use Rattle.cv_machine.specs.Layers.{queued};
-ghost use Rattle.cv_machine.specs.Scans.{IsKnown, trees_of};
-ghost use Rattle.cv_view.specs.Core.{IsSound, act_of, opened};
-ghost use Rattle.cv_seats.specs.Events.{IsReplayed, entries_from, state_of};
-ghost use Rattle.cv_seats.specs.Seats.{AreAllReceipts, AreFresh, AreNumbered, HaveSeen, IsApplied, seat_of};
-ghost use Rattle.cv_seats.specs.declared.submission.Submission.{Submission};
+ghost use Rattle.cv_core_machine.specs.Layers.{queued};
+ghost use Rattle.cv_core_machine.specs.Scans.{StatesEveryLayer, trees_of};
+ghost use Rattle.cv_hub.specs.Core.{IsSound, act_of, opened};
+ghost use Rattle.cv_hub_seats.specs.Events.{IsReplayed, entries_from, state_of};
+ghost use Rattle.cv_hub_seats.specs.Seats.{AreAllReceipts, AreFresh, AreNumbered, HaveSeen, IsApplied, seat_of};
+ghost use Rattle.cv_hub_seats.specs.declared.submission.Submission.{Submission};
 
-use cv_base::Digest;
+use crate::locked::{Locked, Receipt};
+use crate::view::View;
+use cv_base::{Digest, NoMemory, Seq};
+use cv_core::{Core, Event};
+use cv_core_records::{By, EventEntry};
 use cv_desk::Desk;
-use cv_records::{By, EventEntry};
-use cv_seats::{Blank, Front, Identity, Note, Parts, Seat, fresh_seats, have_seen};
-use cv_seq::{NoMemory, Seq};
-use cv_view::{Core, Event, Locked, Receipt, View};
+use cv_hub_seats::{Blank, Identity, Note, Parts, Prefix, Seat, fresh_seats, have_seen};
 use std::alloc::Global;
 use std::marker::Model;
 use std::sync::{Mutex, Wait};
@@ -24,7 +25,7 @@ const MOST_EVENTS: u64 = 1 << 63;
 /// A core that threads share, with the one list of its events. Contracts see the list up to the last taking.
 pub struct Hub<D: Desk, L: Identity> {
     locked: Mutex<Option<Locked<D, L>>>,
-    taken: Front<D, L>,
+    taken: Prefix<D, L>,
 }
 
 /// Written out, so that the crates above call it, and do not prove anew how each part is dropped.
@@ -39,7 +40,7 @@ impl<D: Desk + Drop, L: Identity> Drop for Hub<D, L> {
 
 impl<D: Desk, L: Identity> Model for Hub<D, L> {
     ghost use Rattle.std.specs.Prelude.{List};
-    ghost use Rattle.cv_seats.specs.declared.submission.Submission.{Submission};
+    ghost use Rattle.cv_hub_seats.specs.declared.submission.Submission.{Submission};
 
     ghost Value = { List Submission };
 
@@ -122,7 +123,7 @@ impl<D: Desk + Drop, L: Identity> Hub<D, L> {
     /// The layers that are queued after exactly the events that were taken, in ascending order. It waits for the lock, and if an event
     /// came after the last taking it does not return.
     pub fn queued<W: Wait>(&self, rt: &W, alloc: Global) -> Result<Seq<Digest>, NoMemory>
-        ensures { IsKnown D.tree → IfOk result (λ layers. layers ≡ queued (state_of (trees_of D.tree) L.limits self.now).layers) }
+        ensures { StatesEveryLayer D.tree → IfOk result (λ layers. layers ≡ queued (state_of (trees_of D.tree) L.limits self.now).layers) }
     {
         for _ in rt.forever() {
             let held = self.hold(rt, &self.taken);
@@ -158,7 +159,7 @@ impl<D: Desk + Drop, L: Identity> Hub<D, L> {
     }
 
     /// The list with the entries since the last taking.
-    fn take<W: Wait>(&self, rt: &W, seats: &mut [Seat<D, L>]) -> (Front<D, L>, Vec<EventEntry>)
+    fn take<W: Wait>(&self, rt: &W, seats: &mut [Seat<D, L>]) -> (Prefix<D, L>, Vec<EventEntry>)
         requires all { length seats.old ≡ L.parts }
         requires has_seats { 0 < length seats.old }
         requires numbered { AreNumbered 0 seats.old }
@@ -180,7 +181,7 @@ impl<D: Desk + Drop, L: Identity> Hub<D, L> {
     }
 
     /// Holds the lock, with room for one more event.
-    fn hold_with_room<W: Wait>(&self, rt: &W, seen: &Front<D, L>) -> View<'_, D, L>
+    fn hold_with_room<W: Wait>(&self, rt: &W, seen: &Prefix<D, L>) -> View<'_, D, L>
         ensures seen { IsPrefix seen.now result }
         ensures taken { IsPrefix self.now result }
         ensures below_2_63_events { length result < 2 ^ 63 }
@@ -195,7 +196,7 @@ impl<D: Desk + Drop, L: Identity> Hub<D, L> {
     }
 
     /// Holds the lock. A hold that finds fewer events than were seen or taken is given up and tried again.
-    fn hold<W: Wait>(&self, rt: &W, seen: &Front<D, L>) -> View<'_, D, L>
+    fn hold<W: Wait>(&self, rt: &W, seen: &Prefix<D, L>) -> View<'_, D, L>
         ensures seen { IsPrefix seen.now result }
         ensures taken { IsPrefix self.now result }
     {

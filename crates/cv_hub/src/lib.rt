@@ -1,5 +1,5 @@
 //! A core that threads share. A hub keeps the core and the one list of its events behind a lock: seats submit events, and each receipt,
-//! note, view and taken entry speaks of a beginning of that list, as `specs/Events.antt` and `specs/Seats.antt` of `cv_seats` say.
+//! note, view and taken entry speaks of a beginning of that list, as `specs/Events.antt` and `specs/Seats.antt` of `cv_hub_seats` say.
 //!
 //! ```text
 //! let (mut hub, mut seats) = Hub::<D, L>::start(alloc, Blank::new(2), core, 2)?;
@@ -11,8 +11,13 @@
 //! ```
 #![tactic(auto)]
 
+mod events;
 mod hub;
+mod locked;
+mod prepared;
+mod view;
 
-pub use cv_seats::{Blank, Identity, Note, Seat, Submission};
-pub use cv_view::{Receipt, View};
+pub use cv_hub_seats::{Blank, Identity, Note, Seat, Submission};
 pub use hub::Hub;
+pub use locked::Receipt;
+pub use view::View;

@@ -10,7 +10,7 @@ use Rattle.cv_base.specs.declared.advisory.RangeKind.TheVariants.{Ecosystem}
 use Rattle.cv_base.specs.declared.advisory.Turn.{Turn}
 use Rattle.cv_base.specs.declared.advisory.Turn.TheVariants.{Introduced, Fixed, LastAffected}
 use Rattle.cv_base.specs.declared.finding.Finding.{Finding}
-use Rattle.cv_range.specs.Within.{within}
+use Rattle.cv_match_range.specs.Within.{within}
 use Rattle.cv_match.specs.Affects.{affects, fixed, family}
 use Rattle.cv_match.specs.Findings.{findings}
 

@@ -6,9 +6,9 @@ use Rattle.cv_match.specs.declared.entry.PreparedEntry.{PreparedEntry}
 use Rattle.cv_match.specs.declared.key.PackageKey.{PackageKey}
 use Rattle.cv_match.specs.code.Entries.{entry_text}
 use Rattle.cv_match.specs.code.Hit.{entry_holds, entry_lists}
-use Rattle.cv_range.specs.declared.placed.Placed.{Placed}
-use Rattle.cv_range.specs.ReadRange.{range_holds, range_text}
-use Rattle.cv_range.proofs.Mapped.{any_map, place_map}
+use Rattle.cv_match_range.specs.declared.placed.Placed.{Placed}
+use Rattle.cv_match_range.specs.ReadRange.{range_holds, range_text}
+use Rattle.cv_match_range.proofs.Mapped.{any_map, place_map}
 
 pub any_ranges : {V : Type 0} (f : V → List ℕ) (R : List ℕ → List ℕ → Ordering) (v : List ℕ) (xs : List (Option (List (Placed V))))
     → list_any (range_holds R v) (map (range_text f) xs) ≡ list_any (λ range. range_holds R v (range_text f range)) xs

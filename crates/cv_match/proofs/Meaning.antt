@@ -18,18 +18,18 @@ use Rattle.cv_base.specs.declared.advisory.Turn.TheVariants as turn
 use Rattle.cv_match.specs.declared.answer.Hit.TheVariants.{No, Yes}
 use Rattle.cv_match.specs.declared.entry.PreparedEntry.{PreparedEntry}
 use Rattle.cv_match.specs.declared.key.PackageKey.{PackageKey}
-use Rattle.cv_range.specs.declared.placed.Placed.{Placed}
-use Rattle.cv_range.specs.declared.placed.Placed.TheVariants.{Introduced, Fixed, LastAffected, Limit}
+use Rattle.cv_match_range.specs.declared.placed.Placed.{Placed}
+use Rattle.cv_match_range.specs.declared.placed.Placed.TheVariants.{Introduced, Fixed, LastAffected, Limit}
 use Rattle.cv_match.specs.Affects.{affects, fixed, has_within, is_affected_by, least_fix, lists, matched_version, matches, matching_ranges}
 use Rattle.cv_match.specs.Answer.{Answers, NamesFixed, fix_of}
 use Rattle.cv_match.specs.code.Hit.{entry_holds, entry_lists, fixed_at, fixed_in, hit_listed, hit_of, hit_within, key_matches, key_of}
-use Rattle.cv_range.specs.Order.{is_version_of, version_cmp_of, version_in}
+use Rattle.cv_match_range.specs.Order.{is_version_of, version_cmp_of, version_in}
 use Rattle.cv_match.specs.code.Entries.{prepared_entry}
-use Rattle.cv_range.specs.Within.{holds, is_range_of, placed, within}
+use Rattle.cv_match_range.specs.Within.{holds, is_range_of, placed, within}
 use Rattle.cv_base.proofs.Bools.{or_swap_inner}
-use Rattle.cv_range.specs.Fix.{fix_text, is_least_fix}
-use Rattle.cv_range.specs.ReadRange.{events_of, range_holds}
-use Rattle.cv_range.proofs.Mapped.{any_map, get_map, place_map}
+use Rattle.cv_match_range.specs.Fix.{fix_text, is_least_fix}
+use Rattle.cv_match_range.specs.ReadRange.{events_of, range_holds}
+use Rattle.cv_match_range.proofs.Mapped.{any_map, get_map, place_map}
 
 -- ---- the first item that passes, and its place
 

@@ -10,9 +10,9 @@ use Rattle.cv_base.specs.declared.«package».PackageKind.TheVariants.{Deb, Apk,
 use Rattle.cv_base.specs.declared.advisory.Advisory.{Advisory}
 use Rattle.cv_base.specs.declared.advisory.Affected.{Affected}
 use Rattle.cv_base.specs.declared.advisory.Range.{Range}
-use Rattle.cv_range.specs.Fix.{fix_text, is_least_fix}
-use Rattle.cv_range.specs.Order.{version_cmp_of}
-use Rattle.cv_range.specs.Within.{placed, within}
+use Rattle.cv_match_range.specs.Fix.{fix_text, is_least_fix}
+use Rattle.cv_match_range.specs.Order.{version_cmp_of}
+use Rattle.cv_match_range.specs.Within.{placed, within}
 
 -- 58 is `:`
 abbrev pub is_colon : ℕ → Bool

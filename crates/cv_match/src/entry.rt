@@ -1,5 +1,5 @@
 use cv_base::{PackageName, Seq, Text};
-use cv_range::{ApkVersion, DebVersion, Placed, SemanticVersion};
+use cv_match_range::{ApkVersion, DebVersion, Placed, SemanticVersion};
 
 /// An affected entry of an advisory with its versions read. A range in which nothing can lie has no events.
 #[derive(Drop)]

@@ -21,7 +21,7 @@ mod prepared;
 mod reading;
 
 pub use answer::{FixedAt, Hit};
-pub use cv_range::{SemanticVersion, semantic_order_laws};
+pub use cv_match_range::{SemanticVersion, semantic_order_laws};
 pub use evaluate::{affects, fixed_text};
 pub use key::{family, key_name, package_keys};
 pub use kinds::{PreparedForKinds, prepare_for_kinds};

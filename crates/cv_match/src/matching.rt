@@ -5,14 +5,14 @@ ghost use Rattle.cv_base.specs.Texts.{same};
 ghost use Rattle.cv_match.specs.Affects.{matches_ecosystem};
 ghost use Rattle.cv_match.specs.code.Hit.{entry_holds, entry_lists, fixed_at, fixed_in, hit_listed, hit_of, hit_within, key_matches};
 ghost use Rattle.cv_match.specs.code.Entries.{entry_text};
-ghost use Rattle.cv_range.specs.Order.{version_cmp_of};
-ghost use Rattle.cv_range.specs.ReadRange.{range_holds, range_text};
+ghost use Rattle.cv_match_range.specs.Order.{version_cmp_of};
+ghost use Rattle.cv_match_range.specs.ReadRange.{range_holds, range_text};
 
 use crate::answer::{FixedAt, Hit};
 use crate::entry::PreparedEntry;
 use crate::key::{PackageKey, family};
 use cv_base::{PackageName, Seq, Text};
-use cv_range::{Placed, Version, fix_in, range_holds};
+use cv_match_range::{Placed, Version, fix_in, range_holds};
 
 /// The answer of a record's entries about a package. `version` is `None` if the text of the package is not a
 /// valid version.
@@ -29,7 +29,7 @@ pub(crate) fn hit<V: Version>(
     }
 }
 
-#[tactic(auto, using(cv_range::proofs::Mapped::get_map))]
+#[tactic(auto, using(cv_match_range::proofs::Mapped::get_map))]
 fn hit_within<V: Version>(
     entries: &[PreparedEntry<V>],
     key: &PackageKey,
@@ -46,7 +46,7 @@ fn hit_within<V: Version>(
     }
 }
 
-#[tactic(auto, using(cv_range::proofs::Mapped::get_map))]
+#[tactic(auto, using(cv_match_range::proofs::Mapped::get_map))]
 fn fixed_at_place<V: Version>(
     entries: &[PreparedEntry<V>],
     place: usize,
@@ -141,7 +141,7 @@ fn fixed_at<V: Version>(place: usize, entry: &PreparedEntry<V>, version: &V) -> 
     }
 }
 
-#[tactic(auto, using(cv_range::proofs::Mapped::get_map))]
+#[tactic(auto, using(cv_match_range::proofs::Mapped::get_map))]
 fn fixed_in<V: Version>(
     place: usize,
     ranges: &[Option<Seq<Placed<V>>>],

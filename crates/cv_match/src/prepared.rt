@@ -3,7 +3,7 @@ ghost use Rattle.cv_match.specs.Affects.{matched_version};
 ghost use Rattle.cv_match.specs.Answer.{Answers};
 ghost use Rattle.cv_match.specs.code.Hit.{hit_of, key_of};
 ghost use Rattle.cv_match.specs.code.Kinds.{entries_kind, entries_text, version_kind, version_text};
-ghost use Rattle.cv_range.specs.Order.{version_in};
+ghost use Rattle.cv_match_range.specs.Order.{version_in};
 ghost use Rattle.cv_match.specs.code.Entries.{prepared_entry};
 
 use crate::answer::Hit;
@@ -12,7 +12,7 @@ use crate::key::{PackageKey, key_name};
 use crate::matching::hit;
 use crate::reading::prepare_entries;
 use cv_base::{Advisory, Affected, NoMemory, Package, PackageKind, Text};
-use cv_range::{ApkVersion, DebVersion, SemanticVersion, Version};
+use cv_match_range::{ApkVersion, DebVersion, SemanticVersion, Version};
 use std::alloc::{AllocError, Global};
 use std::marker::Model;
 use std::snapshot::Snapshot;
@@ -79,7 +79,7 @@ impl Model for ReadyPackage {
     ghost use Rattle.cv_match.specs.Affects.{matched_version};
     ghost use Rattle.cv_match.specs.code.Hit.{key_of};
     ghost use Rattle.cv_match.specs.code.Kinds.{version_kind, version_text};
-    ghost use Rattle.cv_range.specs.Order.{version_in};
+    ghost use Rattle.cv_match_range.specs.Order.{version_in};
 
     ghost Value = { Package };
 

@@ -1,10 +1,10 @@
 ghost use Rattle.std.specs.Prelude.{◌≡◌, IfOk, map};
 ghost use Rattle.cv_match.specs.code.Entries.{entry_text, prepared_entry};
-ghost use Rattle.cv_range.specs.ReadRange.{events_of, range_text};
+ghost use Rattle.cv_match_range.specs.ReadRange.{events_of, range_text};
 
 use crate::entry::PreparedEntry;
 use cv_base::{Affected, NoMemory, PackageKind, Range, Seq};
-use cv_range::{Placed, Version, prepare_range};
+use cv_match_range::{Placed, Version, prepare_range};
 use std::alloc::Global;
 
 /// The entries of a record, with each version read once.

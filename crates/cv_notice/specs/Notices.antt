@@ -7,7 +7,7 @@ use Rattle.cv_tree.specs.Entries.{at}
 use Rattle.cv_notice.specs.Pages.{page_in}
 use Rattle.cv_notice.specs.declared.error.PageError.{PageError}
 use Rattle.cv_notice.specs.declared.error.PageError.TheVariants.{NoNotification}
-use Rattle.cv_records.specs.declared.read.NoticeHead.{NoticeHead}
+use Rattle.cv_core_records.specs.declared.read.NoticeHead.{NoticeHead}
 
 -- notifications, the one with the lowest number first
 abbrev pub Notifications : Type 0

@@ -12,7 +12,7 @@ mod error;
 mod notices;
 mod pages;
 
-pub use cv_records::NoticeHead;
+pub use cv_core_records::NoticeHead;
 pub use error::{NoNotification, PageError};
 pub use notices::Notices;
 pub use pages::{Page, page_laws};

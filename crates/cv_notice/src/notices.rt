@@ -9,9 +9,8 @@ ghost use Rattle.cv_notice.specs.code.Places.{HasNumber};
 
 use crate::error::{NoNotification, PageError};
 use crate::pages::{Page, page_of};
-use cv_base::Row;
-use cv_records::NoticeHead;
-use cv_seq::{NoMemory, Seq};
+use cv_base::{NoMemory, Row, Seq};
+use cv_core_records::NoticeHead;
 use cv_tree::{Share, Shared};
 use std::alloc::Global;
 use std::marker::Model;

@@ -5,7 +5,7 @@ ghost use Rattle.serde_json.specs.View.{view};
 ghost use Rattle.cv_npm.specs.Npm.{npm, package_in, text_at};
 
 use crate::package::NpmPackage;
-use cv_seq::{NoMemory, Text};
+use cv_base::{NoMemory, Text};
 use serde_json::Value;
 use std::alloc::Global;
 use std::str;

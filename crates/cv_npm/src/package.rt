@@ -1,4 +1,4 @@
-use cv_seq::Text;
+use cv_base::Text;
 
 /// A package of npm. `read_package` gives no empty text.
 #[derive(Clone, Debug, PartialEq, Eq, PartialOrd, Ord, Drop)]

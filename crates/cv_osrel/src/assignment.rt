@@ -3,8 +3,7 @@ ghost use Rattle.std.specs.Prelude.{◌≡◌, IfOk, IsTrue};
 ghost use Rattle.cv_osrel.specs.System.{is_name, value_by};
 
 use crate::value::value_of;
-use cv_base::cut_at;
-use cv_seq::{NoMemory, Text};
+use cv_base::{NoMemory, Text, cut_at};
 use std::alloc::Global;
 
 /// The value that a line gives to a name, if it is an assignment of this name.

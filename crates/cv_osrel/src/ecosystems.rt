@@ -5,8 +5,7 @@ ghost use Rattle.cv_osrel.specs.Ecosystem.{alpine, eco, system, versioned};
 
 use crate::branch::branch_of;
 use crate::name::OsName;
-use cv_base::PackageKind;
-use cv_seq::{NoMemory, Text};
+use cv_base::{NoMemory, PackageKind, Text};
 use std::alloc::Global;
 
 /// The ecosystem of a package in the form of OSV, as `Debian:12`, `Alpine:v3.18` or `npm`. There is no system if the

@@ -1,4 +1,4 @@
-use cv_seq::Text;
+use cv_base::Text;
 
 /// The system that os-release names. `read_os` gives neither an empty id nor an empty version.
 #[derive(Clone, Debug, PartialEq, Eq, PartialOrd, Ord, Drop)]

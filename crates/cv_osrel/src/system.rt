@@ -7,7 +7,7 @@ ghost use Rattle.cv_osrel.specs.System.{is_name, lines, os_of, value_by, value_i
 use crate::assignment::value_by;
 use crate::name::OsName;
 use crate::text::next_line;
-use cv_seq::{NoMemory, Text};
+use cv_base::{NoMemory, Text};
 use std::alloc::Global;
 
 /// The system that a file os-release names.

@@ -5,8 +5,7 @@ ghost use Rattle.std.specs.Option.{option_and_then, option_map};
 ghost use Rattle.cv_osrel.specs.System.{text_of};
 ghost use Rattle.cv_osrel.specs.Value.{double_quoted, is_bare, is_escapable, single_quoted, unescaped, value_of};
 
-use cv_base::{cut_at, is_blank};
-use cv_seq::{NoMemory, Text};
+use cv_base::{NoMemory, Text, cut_at, is_blank};
 use std::alloc::Global;
 use std::str;
 

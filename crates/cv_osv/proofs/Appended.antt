@@ -8,8 +8,8 @@ use Rattle.cv_base.specs.Results.{◌>>=◌, or_first_fault}
 use Rattle.cv_base.specs.Texts.{same}
 use Rattle.cv_base.specs.declared.advisory.Advisory.{Advisory}
 use Rattle.cv_base.specs.declared.limits.TheConstants.{MAX_ADVISORIES}
-use Rattle.cv_osv_record.specs.Json.{items_list}
-use Rattle.cv_osv_record.specs.Record.{advisory_of}
+use Rattle.cv_osv.specs.Json.{items_list}
+use Rattle.cv_osv.specs.Record.{advisory_of}
 use Rattle.cv_osv.specs.Records.{BadAdvisory, DuplicateId, ListFault, NotList, RecordRead, TooMany, fault_after, faults_after, has_id, listed, appended, reads_of, records_in, records_of}
 use Rattle.cv_osv.specs.code.Appended.{index_of, pushed, pushed_reading, all_appended}
 use Rattle.serde_json.specs.Data.{Data}

@@ -1,8 +1,8 @@
 -- Lists of records read by the definition, computed.
 use Rattle.std.specs.Prelude.{◌≡◌, ℕ, false, List, [], ◌∷◌, codes, Ok, Err, refl}
 use Rattle.cv_base.specs.declared.advisory.Advisory.{Advisory}
-use Rattle.cv_osv_record.specs.Record.{advisory_of}
-use Rattle.cv_osv_record.specs.declared.error.RecordWhat.TheVariants.{NotObject}
+use Rattle.cv_osv.specs.Record.{advisory_of}
+use Rattle.cv_osv.specs.declared.record_error.RecordWhat.TheVariants.{NotObject}
 use Rattle.cv_osv.specs.Records.{BadAdvisory, DuplicateId, NotList, records_of}
 use Rattle.serde_json.specs.Data.{Data, null, string, array, object, no_items, item, no_members, member}
 

@@ -1,3 +1,6 @@
 pub mod Appended
 mod Examples
+pub mod FirstFault
 pub mod Indices
+pub mod Onto
+mod RecordExamples

@@ -1,6 +1,7 @@
-pub use Rattle.cv_osv_record.specs.Faults
-pub use Rattle.cv_osv_record.specs.Json
-pub use Rattle.cv_osv_record.specs.Record
 pub mod Answer
+pub mod Faults
+pub mod Json
+pub mod Record
+pub mod RecordAnswer
 pub mod Records
 pub mod code

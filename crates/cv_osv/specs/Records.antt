@@ -9,9 +9,9 @@ use Rattle.cv_base.specs.Results.{◌>>=◌, or_first_fault}
 use Rattle.cv_base.specs.Texts.{same}
 use Rattle.cv_base.specs.declared.advisory.Advisory.{Advisory}
 use Rattle.cv_base.specs.declared.limits.TheConstants.{MAX_ADVISORIES}
-use Rattle.cv_osv_record.specs.Json.{items_list}
-use Rattle.cv_osv_record.specs.Record.{advisory_of}
-use Rattle.cv_osv_record.specs.declared.error.RecordWhat.{RecordWhat}
+use Rattle.cv_osv.specs.Json.{items_list}
+use Rattle.cv_osv.specs.Record.{advisory_of}
+use Rattle.cv_osv.specs.declared.record_error.RecordWhat.{RecordWhat}
 use Rattle.serde_json.specs.Data.{Data}
 use Rattle.serde_json.specs.Find.{as_array}
 

@@ -1,2 +1,3 @@
 -- Words that only retell private functions.
 pub mod Appended
+pub mod Member

@@ -1,8 +1,8 @@
 ghost use Rattle.std.specs.Prelude.{◌≡◌};
 ghost use Rattle.cv_osv.specs.declared.error.OsvError.TheVariants as osv;
 
+use crate::record_error::RecordWhat;
 use cv_base::NoMemory;
-use cv_osv_record::RecordWhat;
 use thiserror::Error;
 
 /// Why a list of records was not read. Indices count from 0.

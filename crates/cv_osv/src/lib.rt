@@ -8,12 +8,18 @@
 #![tactic(auto)]
 
 mod error;
+mod json;
+mod node;
+mod part;
+mod range;
+mod record;
+mod record_error;
 mod record_list;
 mod records;
 
-pub use cv_osv_record::{
-    AdvisoryError, NewTexts, Node, RecordRead, RecordWhat, Texts, read_advisory, read_node,
-};
 pub use error::OsvError;
+pub use node::{NewTexts, Node, Texts};
+pub use record::{RecordRead, read_advisory, read_node};
+pub use record_error::{AdvisoryError, RecordWhat};
 pub use record_list::RecordList;
 pub use records::read_records;

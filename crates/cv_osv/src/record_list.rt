@@ -2,16 +2,17 @@ ghost use Rattle.std.specs.Prelude.{◌≡◌, ◌+◌, ◌<◌, ◌≤◌, [], 
 ghost use Rattle.std.specs.BTreeMap.{get};
 ghost use Rattle.std.specs.Cmp.Lexicographic.{slice_cmp};
 ghost use Rattle.std.specs.Ordering.{nat_cmp};
-ghost use Rattle.cv_base.specs.Answer.{Yields};
+ghost use Rattle.cv_base.specs.Answer.{MatchesUnlessOutOfMemory};
 ghost use Rattle.cv_osv.specs.Answer.{fault_of};
-ghost use Rattle.cv_osv_record.specs.Record.{advisory_of};
+ghost use Rattle.cv_osv.specs.Record.{advisory_of};
 ghost use Rattle.cv_osv.specs.Records.{HasDistinctIds, appended};
 ghost use Rattle.cv_osv.specs.code.Appended.{at_index, Indexes, IsIndexed, pushed_reading};
 ghost use Rattle.serde_json.specs.View.{view};
 
 use crate::error::OsvError;
+use crate::record::{RecordRead, read_advisory};
+use crate::record_error::AdvisoryError;
 use cv_base::{Advisory, MAX_ADVISORIES, NoMemory, Seq, Text};
-use cv_osv_record::{AdvisoryError, RecordRead, read_advisory};
 use serde_json::Value;
 use std::alloc::Global;
 use std::collections::BTreeMap;
@@ -62,7 +63,7 @@ impl RecordList {
     /// record with its id. A refusal drops the list.
     pub fn read(self, alloc: Global, value: &Value) -> Result<RecordList, OsvError>
         requires room { length self < MAX_ADVISORIES }
-        ensures value { Yields fault_of (λ records. records) result (appended self (advisory_of (view value.now))) }
+        ensures value { MatchesUnlessOutOfMemory fault_of (λ records. records) result (appended self (advisory_of (view value.now))) }
         ensures count { IfOk result (λ records. length records ≡ length self + 1) }
     {
         match read_advisory(alloc, value) {
@@ -77,7 +78,7 @@ impl RecordList {
     #[tactic(auto, using(crate::proofs::Appended::pushed_reading_is))]
     pub fn append(mut self, found: RecordRead) -> Result<RecordList, OsvError>
         requires room { length self < MAX_ADVISORIES }
-        ensures value { Yields fault_of (λ records. records) result (appended self found) }
+        ensures value { MatchesUnlessOutOfMemory fault_of (λ records. records) result (appended self found) }
         ensures count { IfOk result (λ records. length records ≡ length self + 1) }
     {
         push_record(found, &mut self.records, &mut self.indices)?;
@@ -103,7 +104,7 @@ fn push_record(
     requires room { length records.old.items < MAX_ADVISORIES }
     requires indexed { Indexes indices.old records.old.items }
     requires distinct { HasDistinctIds records.old.items }
-    ensures value { Yields fault_of (λ _. records.new.items) result (pushed_reading records.old.items found) }
+    ensures value { MatchesUnlessOutOfMemory fault_of (λ _. records.new.items) result (pushed_reading records.old.items found) }
     ensures indexed { OnOk result (Indexes indices.new records.new.items) }
     ensures distinct { OnOk result (HasDistinctIds records.new.items) }
     ensures count { OnOk result (length records.new.items ≡ length records.old.items + 1) }
@@ -140,7 +141,7 @@ fn push(records: &mut Vec<Advisory>, advisory: Advisory) -> Result<(), NoMemory>
 
 /// The record, whose fault has this index.
 fn record_at(found: RecordRead, index: u32) -> Result<Advisory, OsvError>
-    ensures { Yields fault_of (λ record_read. record_read) result (at_index index found) }
+    ensures { MatchesUnlessOutOfMemory fault_of (λ record_read. record_read) result (at_index index found) }
 {
     match found {
         Ok(record) => Ok(record),

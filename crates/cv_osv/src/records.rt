@@ -1,5 +1,5 @@
 ghost use Rattle.std.specs.Prelude.{◌≡◌, ◌≤◌, [], length, map, IfOk};
-ghost use Rattle.cv_base.specs.Answer.{Yields};
+ghost use Rattle.cv_base.specs.Answer.{MatchesUnlessOutOfMemory};
 ghost use Rattle.cv_osv.specs.Answer.{fault_of};
 ghost use Rattle.cv_osv.specs.Records.{HasDistinctIds, records_of};
 ghost use Rattle.cv_osv.specs.code.Appended.{all_appended};
@@ -16,7 +16,7 @@ use std::alloc::Global;
 /// has, whichever stands first.
 #[tactic(auto, using(crate::proofs::Appended::records_none, crate::proofs::Appended::records_over, crate::proofs::Appended::records_within))]
 pub fn read_records(alloc: Global, value: &Value) -> Result<Seq<Advisory>, OsvError>
-    ensures value { Yields fault_of (λ records. records) result (records_of (view value.now)) }
+    ensures value { MatchesUnlessOutOfMemory fault_of (λ records. records) result (records_of (view value.now)) }
     ensures distinct { IfOk result HasDistinctIds }
     ensures within { IfOk result (λ records. length records ≤ MAX_ADVISORIES) }
 {
@@ -31,7 +31,7 @@ pub fn read_records(alloc: Global, value: &Value) -> Result<Seq<Advisory>, OsvEr
 
 fn read_all(alloc: Global, items: &[Value]) -> Result<Seq<Advisory>, OsvError>
     requires { length items.now ≤ MAX_ADVISORIES }
-    ensures value { Yields fault_of (λ records. records) result (all_appended [] (map view items.now)) }
+    ensures value { MatchesUnlessOutOfMemory fault_of (λ records. records) result (all_appended [] (map view items.now)) }
     ensures distinct { IfOk result HasDistinctIds }
     ensures count { IfOk result (λ records. length records ≡ length items.now) }
 {

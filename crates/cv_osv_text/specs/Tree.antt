@@ -2,7 +2,7 @@
 -- key stays. Here a number is what serde_json makes of it, and 0 if it is out of range, where serde_json has no value at all.
 use Rattle.std.specs.Prelude.{ℕ, Bool, true, false, ◌||◌, List, Option, Some, None, option_and_then, Result, Ok}
 use Rattle.cv_base.specs.Results.{◌>>=◌}
-use Rattle.cv_osv_record.specs.Record.{advisory_of}
+use Rattle.cv_osv.specs.Record.{advisory_of}
 use Rattle.cv_osv.specs.Records.{RecordRead}
 use Rattle.cv_request.specs.Line.{json_or}
 use Rattle.cv_request.specs.declared.error.RequestFault.{RequestFault}

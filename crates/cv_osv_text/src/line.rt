@@ -1,7 +1,7 @@
 ghost use Rattle.std.specs.Prelude.{◌≡◌, Ok};
 ghost use Rattle.std.specs.Option.{ok_or};
-ghost use Rattle.cv_base.specs.Answer.{Yields};
-ghost use Rattle.cv_osv_record.specs.Record.{advisory_of};
+ghost use Rattle.cv_base.specs.Answer.{MatchesUnlessOutOfMemory};
+ghost use Rattle.cv_osv.specs.Record.{advisory_of};
 ghost use Rattle.cv_request.specs.Fault.{fault_of};
 ghost use Rattle.cv_request.specs.declared.error.RequestFault.TheVariants.{BadJson};
 ghost use Rattle.cv_osv_text.specs.Tree.{line_read, tree_of};
@@ -9,7 +9,7 @@ ghost use Rattle.json.specs.Value.{value_view};
 
 use crate::numbers::has_number;
 use crate::shared::SharedTexts;
-use cv_osv_record::{AdvisoryError, NewTexts, Node, RecordRead, Texts, read_node};
+use cv_osv::{AdvisoryError, NewTexts, Node, RecordRead, Texts, read_node};
 use cv_request::{RequestError, read_json};
 use json::{Error, Reader, Scratch, Value};
 use std::alloc::Global;
@@ -18,7 +18,7 @@ use std::str;
 /// How deep arrays and objects nest at most, as for serde_json.
 const MAX_DEPTH: usize = 127;
 
-/// Reads a line as a record, as `read_json` of cv_request and `read_advisory` of cv_osv_record do. `BadJson` if the line is
+/// Reads a line as a record, as `read_json` of cv_request and `read_advisory` of cv_osv do. `BadJson` if the line is
 /// not UTF-8 or not JSON. Of a line without a number only the texts that are kept are copied, but for those with escapes. A
 /// line with a number is read a second time, by these two, which copy all of its texts: serde_json decides which numbers are
 /// in range.
@@ -29,7 +29,7 @@ pub(crate) fn read_line(
     scratch: &mut Scratch,
     texts: &mut SharedTexts,
 ) -> Result<RecordRead, RequestError>
-    ensures { Yields fault_of (λ found. found) result (line_read line.now) }
+    ensures { MatchesUnlessOutOfMemory fault_of (λ found. found) result (line_read line.now) }
 {
     let Ok(text) = str::from_utf8(line) else {
         return Err(RequestError::BadJson);
@@ -47,7 +47,7 @@ fn read_tree<'a>(
     text: &'a str,
     scratch: &'a mut Scratch,
 ) -> Result<Value<'a>, RequestError>
-    ensures { Yields fault_of value_view result (ok_or (tree_of text.now) BadJson) }
+    ensures { MatchesUnlessOutOfMemory fault_of value_view result (ok_or (tree_of text.now) BadJson) }
 {
     let Ok(mut reader) = Reader::new(text, scratch) else {
         return Err(RequestError::NoMemory);
@@ -69,7 +69,7 @@ fn read_record<V: Node<T>, T: Texts>(
     texts: &mut T,
     value: &V,
 ) -> Result<RecordRead, RequestError>
-    ensures { Yields fault_of (λ found. found) result (Ok (advisory_of (V.data_of value.now))) }
+    ensures { MatchesUnlessOutOfMemory fault_of (λ found. found) result (Ok (advisory_of (V.data_of value.now))) }
 {
     match read_node(alloc, texts, value) {
         Ok(record) => Ok(Ok(record)),
@@ -80,7 +80,7 @@ fn read_record<V: Node<T>, T: Texts>(
 
 /// The same by a value that owns its texts.
 fn read_owned(alloc: Global, line: &[u8]) -> Result<RecordRead, RequestError>
-    ensures { Yields fault_of (λ found. found) result (line_read line.now) }
+    ensures { MatchesUnlessOutOfMemory fault_of (λ found. found) result (line_read line.now) }
 {
     let value = read_json(alloc, line)?;
     let mut texts = NewTexts;

@@ -5,7 +5,7 @@ ghost use Rattle.json.specs.Value.{items_view};
 ghost use Rattle.serde_json.specs.Find.{as_array};
 
 use crate::shared::SharedTexts;
-use cv_osv_record::Node;
+use cv_osv::Node;
 use json::Value;
 
 impl<'a> Node<SharedTexts> for Value<'a> {

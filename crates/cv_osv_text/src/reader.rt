@@ -1,11 +1,11 @@
-ghost use Rattle.cv_base.specs.Answer.{Yields};
+ghost use Rattle.cv_base.specs.Answer.{MatchesUnlessOutOfMemory};
 ghost use Rattle.cv_request.specs.Fault.{fault_of};
 ghost use Rattle.cv_osv_text.specs.Tree.{line_read};
 
 use crate::line::read_line;
 use crate::shared::SharedTexts;
 use cv_base::NoMemory;
-use cv_osv_record::RecordRead;
+use cv_osv::RecordRead;
 use cv_request::RequestError;
 use json::Scratch;
 use std::alloc::Global;
@@ -26,10 +26,10 @@ impl RecordReader {
         })
     }
 
-    /// Reads a line as a record, as `read_json` of cv_request and `read_advisory` of cv_osv_record do. `BadJson` if the line is not
+    /// Reads a line as a record, as `read_json` of cv_request and `read_advisory` of cv_osv do. `BadJson` if the line is not
     /// UTF-8 or not JSON.
     pub fn read(&mut self, alloc: Global, line: &[u8]) -> Result<RecordRead, RequestError>
-        ensures { Yields fault_of (λ found. found) result (line_read line.now) }
+        ensures { MatchesUnlessOutOfMemory fault_of (λ found. found) result (line_read line.now) }
     {
         read_line(alloc, line, &mut self.scratch, &mut self.texts)
     }

@@ -1,7 +1,7 @@
 ghost use Rattle.std.specs.Prelude.{◌≡◌, IfOk, IfSome};
 
 use cv_base::{NoMemory, Text};
-use cv_osv_record::Texts;
+use cv_osv::Texts;
 use std::alloc::Global;
 
 /// How many slots there are at first, and at most.

@@ -1,9 +1,8 @@
 -- Paths by their texts: the last component, and what lies within a directory.
 use Rattle.std.specs.Prelude.{◌≡◌, ℕ, Bool, true, false, ◌&&◌, ◌||◌, cond, List, [], ◌∷◌, ◌++◌, refl}
-use Rattle.std.specs.List.{list_any, onto_first, slice_split}
+use Rattle.std.specs.List.{list_any, onto_first, slice_split, join_with_byte}
 use Rattle.std.proofs.Common.{ap, sym, ◌∙◌}
 use Rattle.std.proofs.lemmas.List.Splits.{join_with_byte-slice_split}
-use Rattle.std.specs.List.{join_with_byte}
 use Rattle.cv_base.specs.Path.{Path, components, is_above, is_slash, same_path, parent_of}
 use Rattle.cv_base.specs.code.PathText.{goes_on}
 use Rattle.cv_base.specs.Texts.{same, is_cons}

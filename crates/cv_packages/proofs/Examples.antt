@@ -13,8 +13,8 @@ use Rattle.cv_base.specs.declared.tree.TreeEntry.{TreeEntry}
 use Rattle.cv_packages.specs.Packages.{assembled, packages}
 use Rattle.cv_packages.specs.Texts.{package_with}
 use Rattle.cv_npm.specs.declared.package.NpmPackage.{NpmPackage}
-use Rattle.cv_package_files.specs.declared.found.FileFound.{FileFound}
-use Rattle.cv_package_files.specs.declared.found.Found.TheVariants as found
+use Rattle.cv_packages.specs.declared.found.FileFound.{FileFound}
+use Rattle.cv_packages.specs.declared.found.Found.TheVariants as found
 use Rattle.cv_packages.specs.declared.error.FileFault.TheVariants.{BadFile, TooLarge}
 
 abbrev file : List ℕ → List ℕ → TreeEntry

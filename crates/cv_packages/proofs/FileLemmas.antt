@@ -9,7 +9,7 @@ use Rattle.cv_packages.specs.Faults.{refused_file}
 use Rattle.cv_packages.specs.Packages.{all_packages, packages_in}
 use Rattle.cv_packages.specs.declared.error.FileFault.{FileFault}
 use Rattle.cv_packages.specs.declared.error.PackagesError.{PackagesError}
-use Rattle.cv_package_files.specs.declared.found.FileFound.{FileFound}
+use Rattle.cv_packages.specs.declared.found.FileFound.{FileFound}
 
 -- packages of a file stand before those of the remaining ones
 pub files_more : (front ps : List Package) (os : Option OsName) (file : FileFound) (files : List FileFound) → packages_in os file.path file.found ≡ Ok ps

@@ -1,2 +1,3 @@
 pub mod Examples
+mod FileExamples
 pub mod FileLemmas

@@ -20,13 +20,13 @@ use Rattle.cv_apkdb.specs.declared.package.ApkPackage.{ApkPackage}
 use Rattle.cv_npm.specs.declared.package.NpmPackage.{NpmPackage}
 use Rattle.cv_osrel.specs.Ecosystem.{eco}
 use Rattle.cv_osrel.specs.declared.name.OsName.{OsName}
-use Rattle.cv_package_files.specs.Files.{files_found}
+use Rattle.cv_packages.specs.Files.{files_found}
 use Rattle.cv_packages.specs.declared.error.FileFault.{FileFault}
 use Rattle.cv_packages.specs.declared.error.FileFault.TheVariants as fault
 use Rattle.cv_packages.specs.Texts.{apk_texts, deb_texts, npm_texts, package_with}
-use Rattle.cv_package_files.specs.declared.found.FileFound.{FileFound}
-use Rattle.cv_package_files.specs.declared.found.Found.{Found}
-use Rattle.cv_package_files.specs.declared.found.Found.TheVariants.{Status, Installed, Os, Npm, Bad, TooLarge}
+use Rattle.cv_packages.specs.declared.found.FileFound.{FileFound}
+use Rattle.cv_packages.specs.declared.found.Found.{Found}
+use Rattle.cv_packages.specs.declared.found.Found.TheVariants.{Status, Installed, Os, Npm, Bad, TooLarge}
 
 -- the place is etc/os-release
 abbrev pub is_etc_place : Option Place → Bool

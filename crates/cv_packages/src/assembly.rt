@@ -1,23 +1,22 @@
 ghost use Rattle.std.specs.Prelude.{◌≡◌, map, IfOk};
 ghost use Rattle.std.specs.List.{list_any};
 ghost use Rattle.std.specs.Option.{option_map};
-ghost use Rattle.cv_base.specs.Answer.{Yields};
+ghost use Rattle.cv_base.specs.Answer.{MatchesUnlessOutOfMemory};
 ghost use Rattle.cv_packages.specs.Faults.{refused_file};
 ghost use Rattle.cv_packages.specs.Packages.{all_packages, assembled, counted, is_etc_os, is_usr_os, packages_in, system, system_in};
 
 use crate::error::{FileFault, PackagesError};
+use crate::found::{FileFound, Found};
 use crate::package::packages_of;
-use cv_base::{FileBad, Package, Place, RelPath, place};
+use cv_base::{FileBad, NoMemory, Package, Place, RelPath, Seq, place};
 use cv_osrel::OsName;
-use cv_package_files::{FileFound, Found};
-use cv_seq::{NoMemory, Seq};
 use std::alloc::Global;
 use std::slice;
 
 /// The packages of the package files of a root, which stand in the order of their paths, or the first file that is refused.
 /// The first os-release names the system, and `usr/lib/os-release` does not count beside `etc/os-release`.
 pub fn assemble(alloc: Global, files: &[&FileFound]) -> Result<Seq<Package>, PackagesError>
-    ensures { Yields refused_file (λ packages. packages) result (assembled (map (λ file. file.now) files.now)) }
+    ensures { MatchesUnlessOutOfMemory refused_file (λ packages. packages) result (assembled (map (λ file. file.now) files.now)) }
 {
     let counted = counted(alloc, files)?;
     all_packages(alloc, system(&counted), &counted)
@@ -89,7 +88,7 @@ fn all_packages(
     os: Option<&OsName>,
     files: &[&FileFound],
 ) -> Result<Seq<Package>, PackagesError>
-    ensures { Yields refused_file (λ packages. packages) result (all_packages (option_map (λ name. name.now) os.entry) (map (λ file. file.now) files.now)) }
+    ensures { MatchesUnlessOutOfMemory refused_file (λ packages. packages) result (all_packages (option_map (λ name. name.now) os.entry) (map (λ file. file.now) files.now)) }
 {
     let mut out = Vec::new(alloc);
     for file in files {
@@ -108,7 +107,7 @@ fn packages_in(
     path: &RelPath,
     found: &Found,
 ) -> Result<Vec<Package>, PackagesError>
-    ensures { Yields refused_file (λ packages. packages.items) result (packages_in (option_map (λ name. name.now) os.entry) path.now found.now) }
+    ensures { MatchesUnlessOutOfMemory refused_file (λ packages. packages.items) result (packages_in (option_map (λ name. name.now) os.entry) path.now found.now) }
 {
     match found {
         Found::Status(found) => Ok(packages_of(alloc, os, path, found.as_slice())?),

@@ -2,9 +2,8 @@ ghost use Rattle.std.specs.Prelude.{◌≡◌};
 ghost use Rattle.cv_packages.specs.Faults.{image_fault};
 ghost use Rattle.cv_packages.specs.declared.error.PackagesError.TheVariants as error;
 
-use cv_base::{RelPath, What};
+use cv_base::{NoMemory, RelPath, What};
 use cv_overlay::ImageFault;
-use cv_seq::NoMemory;
 use std::alloc::AllocError;
 use thiserror::Error;
 

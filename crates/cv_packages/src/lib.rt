@@ -9,10 +9,14 @@
 
 mod assembly;
 mod error;
+mod files;
+mod found;
 mod package;
+mod read;
 mod root;
 
 pub use assembly::assemble;
-pub use cv_package_files::{FileFound, Found, read_file};
 pub use error::{FileFault, PackagesError};
+pub use found::{FileFound, Found};
+pub use read::read_file;
 pub use root::read_packages;

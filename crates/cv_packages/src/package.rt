@@ -7,11 +7,10 @@ ghost use Rattle.cv_packages.specs.Texts.{Texts, apk_texts, deb_texts, npm_texts
 ghost use Rattle.cv_packages.specs.code.Texts.{texts_in};
 
 use cv_apkdb::ApkPackage;
-use cv_base::{Package, PackageKind, RelPath};
+use cv_base::{NoMemory, Package, PackageKind, RelPath, Text};
 use cv_dpkg::DebPackage;
 use cv_npm::NpmPackage;
 use cv_osrel::{OsName, ecosystem};
-use cv_seq::{NoMemory, Text};
 use std::alloc::Global;
 
 /// The texts of a package of any kind. Without an architecture it is the empty text.

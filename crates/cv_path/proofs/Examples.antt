@@ -6,6 +6,7 @@ use Rattle.cv_path.specs.Place.{place_of}
 use Rattle.cv_path.specs.declared.path.PathError.TheVariants.{Empty, TooLong, BadComponent}
 use Rattle.cv_path.specs.declared.places.Place.{Place}
 use Rattle.cv_path.specs.declared.places.Place.TheVariants.{Status, StatusFolder, Installed, UsrInstalled, Os, UsrOs, Npm}
+use Rattle.cv_path.specs.declared.limits.TheConstants.{MAX_PATH_LEN}
 
 -- Paths.
 
@@ -106,3 +107,7 @@ scope_name = refl
 no_npm : (at (codes "node_modules/x/lib/package.json") ≡ None) × (at (codes "node_modules/@s/n/lib/package.json") ≡ None) × (at (codes "node_modules/@/n/package.json") ≡ None)
     × (at (codes "node_modules/package.json") ≡ None) × (at (codes "app/x/package.json") ≡ None) × (at (codes "node_modules/x/package.jsonc") ≡ None)
 no_npm = (refl, refl, refl, refl, refl, refl)
+
+-- the limit of a path
+limits : MAX_PATH_LEN ≡ 4096
+limits = refl

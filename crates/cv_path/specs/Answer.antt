@@ -8,6 +8,6 @@ Gives is_memory view (Err e) wanted = MatchBool (is_memory e) ⊤ (wanted ≡ Er
 
 -- the same where the definition's faults have a type of their own: `fault` is the fault that an error is, and
 -- None where the call ran out of memory
-abbrev pub Yields : {X Y E F : Type 0} → (E → Option F) → (X → Y) → Result X E → Result Y F → Type 0
-Yields fault view (Ok x) wanted = wanted ≡ Ok (view x)
-Yields fault view (Err e) wanted = IfSome (fault e) (λ f. wanted ≡ Err f)
+abbrev pub MatchesUnlessOutOfMemory : {X Y E F : Type 0} → (E → Option F) → (X → Y) → Result X E → Result Y F → Type 0
+MatchesUnlessOutOfMemory fault view (Ok x) wanted = wanted ≡ Ok (view x)
+MatchesUnlessOutOfMemory fault view (Err e) wanted = IfSome (fault e) (λ f. wanted ≡ Err f)

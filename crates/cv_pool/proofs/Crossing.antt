@@ -12,7 +12,7 @@ use Rattle.crossbeam_deque.proofs.handles.Stealer.TheSendSync as stealer_sent
 use Rattle.crossbeam_deque.proofs.inner.Inner.TheSendSync as inner_sent
 use Rattle.crossbeam_deque.specs.declared.protocol.Protocol as Protocol
 use Rattle.cv_pool.specs.contracts.seat.Seat as seat
-use Rattle.cv_pool.specs.contracts.chest.Chest as chest
+use Rattle.cv_pool.specs.contracts.queue_owners.QueueOwners as queue_owners
 use Rattle.cv_pool.specs.contracts.hand.Hand as hand
 
 -- a `&` to a pass shows a part of what a pass owns
@@ -31,8 +31,8 @@ module _ (T V A : RattleType) (g : Allocator.Ghosts A.Denot) where
 pub seat_sync : IsSync seat.the_row
 seat_sync = search (pass_sync, stealer_sync, crosses, sendable, declared_sync, declared_send) depth 60 fits 20000
 
--- so may a chest
-pub chest_sync : IsSync chest.the_row
+-- so may a queue_owners
+pub chest_sync : IsSync queue_owners.the_row
 chest_sync = search (end_sync, inner_sent.the_send, inner_sent.the_sync, crosses, sendable, declared_sync, declared_send) depth 60 fits 20000
 
 -- and a hand

@@ -16,9 +16,9 @@ use Rattle.cv_pool.specs.code.Accounts.{account, with_pushed}
 use Rattle.cv_pool.specs.code.Owners.{Owner, owner_account, owner_deque, IsOwner, owners_dealt}
 use Rattle.cv_pool.specs.code.Filling.{AreOwners, AreNewSeats, AreParts, Seated, SeatedAt, fill_of, owner_jobs}
 use Rattle.cv_pool.specs.code.Seats.{seat_deque, seat_jobs, seat_account, IsSeated, seats_weigh, seats_dealt, any_more}
-use Rattle.cv_pool.specs.code.HandParts.{hand_state, IsHand, HasChest}
+use Rattle.cv_pool.specs.code.HandParts.{hand_state, IsHand, HasQueueOwners}
 use Rattle.cv_pool.specs.Hands.{Fill, HandState, below, dealt_to, deal, new_hand, new_hands, AreHandsFrom, IsNewFill}
-use Rattle.cv_pool.specs.declared.chest.Chest.{Chest}
+use Rattle.cv_pool.specs.declared.queue_owners.QueueOwners.{QueueOwners}
 use Rattle.std.specs.Global.{Global, Vec}
 use Rattle.std.specs.Vec.{vec_capacity}
 use Rattle.cv_pool.proofs.SeatLemmas.{each_seat_by}
@@ -256,15 +256,15 @@ pub same_count : (f : Seat → (ℕ × ℕ) × Global) (os : List Owner) (ss : L
 same_count f os ss e = sym (length-map ss f) ∙ ap length e ∙ length-map os owner_deque
 
 -- a hand with new seats and an empty list
-pub new_is_hand : (k index : ℕ) (os : List Owner) (ss : List Seat) (list : Vec ℕ) (chest : Option Chest) → AreNewSeats k (map owner_deque os) (map owner_jobs os) ss → index < length os → list.items ≡ [] → k ≤ vec_capacity list
-    → (index ≡ 0 → HasChest k (map owner_deque os) chest) → IsHand k index ss list chest
-new_is_hand k index os ss list chest new place empty room first = record {
+pub new_is_hand : (k index : ℕ) (os : List Owner) (ss : List Seat) (list : Vec ℕ) (queue_owners : Option QueueOwners) → AreNewSeats k (map owner_deque os) (map owner_jobs os) ss → index < length os → list.items ≡ [] → k ≤ vec_capacity list
+    → (index ≡ 0 → HasQueueOwners k (map owner_deque os) queue_owners) → IsHand k index ss list queue_owners
+new_is_hand k index os ss list queue_owners new place empty room first = record {
   place = subst (λ n. index < n) (sym (same_count seat_deque os ss new.deques_of)) place;
   seated = new.seated;
   weights = (λ h. ap (weigh h) empty ∙ sym (new.none_taken h));
   dealt = new.dealt;
   room = room;
-  first = λ e. subst (λ deques. HasChest k deques chest) (sym new.deques_of) (first e);
+  first = λ e. subst (λ deques. HasQueueOwners k deques queue_owners) (sym new.deques_of) (first e);
 }
 
 -- and what callers see of it

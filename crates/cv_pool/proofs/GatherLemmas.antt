@@ -3,11 +3,11 @@ use Rattle.std.proofs.Common.{◌≡◌, ℕ, ◌+◌, ◌<◌, ◌≤◌, Bool,
 use Rattle.std.specs.List.{AllByRecursion}
 use Rattle.cv_pool.specs.declared.account.Account.{Account}
 use Rattle.std.specs.Global.{Vec}
-use Rattle.cv_pool.specs.declared.chest.Chest.{Chest}
+use Rattle.cv_pool.specs.declared.queue_owners.QueueOwners.{QueueOwners}
 use Rattle.cv_pool.specs.declared.seat.Seat.{Seat}
 use Rattle.cv_pool.specs.Jobs.{weigh, lists_weigh}
 use Rattle.cv_pool.specs.Hands.{Fill, HandState, AreHandsFrom, AreHandsOf, lists_of, any_done}
-use Rattle.cv_pool.specs.code.HandParts.{hand_state, IsChest, HasChest, IsHand}
+use Rattle.cv_pool.specs.code.HandParts.{hand_state, AreQueueOwners, HasQueueOwners, IsHand}
 use Rattle.cv_pool.specs.code.Tasks.{jobs}
 use Rattle.cv_pool.specs.code.Seats.{seat_deque, seat_jobs, seat_account, IsSeated, seats_weigh, any_more}
 use Rattle.cv_pool.specs.code.Owners.{Owner, owner_deque, owner_account, IsOwner, HasShares, HasEnded, owners_weigh, owners_dealt}
@@ -164,24 +164,24 @@ from_to : (fill : Fill) (from : ℕ) (hs : List HandState) (to : ℕ) → AreHan
 from_to fill from [] to hands = (let e = hands in omega arith)
 from_to fill from (h ∷ hs) to hands = let e = from_to fill (from + 1) hs to hands.2 in omega arith
 
--- the chest of the first hand, which fits the hands of its fill
-pub record Opened (fill : Fill) (c : Chest) (rest : List HandState) : Type 0 where
+-- the queue_owners of the first hand, which fits the hands of its fill
+pub record Opened (fill : Fill) (c : QueueOwners) (rest : List HandState) : Type 0 where
   pub kept : ℕ
-  pub chest : IsChest fill.jobs fill.deques kept c
+  pub queue_owners : AreQueueOwners fill.jobs fill.deques kept c
   pub of : AreOfDeques (map owner_deque c.owners.items) rest
   pub count : length fill.deques ≡ length rest + 1
 
--- the first hand has the chest
-pub opened : (n index : ℕ) (seats : List Seat) (list : Vec ℕ) (chest : Option Chest) (c : Chest) (first : HandState) (rest : List HandState) (fill : Fill)
-    → hand_state n index seats list.items ≡ first → IsHand n index seats list chest → chest ≡ Some c → AreHandsOf fill (first ∷ rest) → Opened fill c rest
-opened n index seats list chest c first rest fill is hand some all =
+-- the first hand has the queue_owners
+pub opened : (n index : ℕ) (seats : List Seat) (list : Vec ℕ) (queue_owners : Option QueueOwners) (c : QueueOwners) (first : HandState) (rest : List HandState) (fill : Fill)
+    → hand_state n index seats list.items ≡ first → IsHand n index seats list queue_owners → queue_owners ≡ Some c → AreHandsOf fill (first ∷ rest) → Opened fill c rest
+opened n index seats list queue_owners c first rest fill is hand some all =
     let here : index ≡ 0 = ap (λ (h : HandState). h.index) is ∙ all.1.1 in
     let of_fill : record { deques = map seat_deque seats; jobs = n; dealt = map seat_jobs seats } ≡ fill = ap (λ (h : HandState). h.fill) is ∙ all.1.0 in
-    let has : HasChest n (map seat_deque seats) (Some c) = subst (HasChest n (map seat_deque seats)) some (hand.first here) in
-    let box : IsChest fill.jobs fill.deques has.0 c = subst (λ (f : Fill). IsChest f.jobs f.deques has.0 c) of_fill has.1 in
+    let has : HasQueueOwners n (map seat_deque seats) (Some c) = subst (HasQueueOwners n (map seat_deque seats)) some (hand.first here) in
+    let box : AreQueueOwners fill.jobs fill.deques has.0 c = subst (λ (f : Fill). AreQueueOwners f.jobs f.deques has.0 c) of_fill has.1 in
     record {
       kept = has.0;
-      chest = box;
+      queue_owners = box;
       of = subst (λ deques. AreOfDeques deques rest) (sym box.deques_of) (of_deques fill 1 rest (length fill.deques) all.1.2);
       count = (let e = from_to fill 1 rest (length fill.deques) all.1.2 in omega arith);
     }

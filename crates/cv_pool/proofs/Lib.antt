@@ -1,6 +1,6 @@
-mod Examples
 pub mod AccountLemmas
 pub mod Crossing
+mod Examples
 pub mod FillLemmas
 pub mod GatherLemmas
 pub mod HandLemmas

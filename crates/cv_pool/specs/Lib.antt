@@ -1,3 +1,3 @@
-pub mod Jobs
 pub mod Hands
+pub mod Jobs
 pub mod code

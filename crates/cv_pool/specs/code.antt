@@ -1,8 +1,8 @@
 -- Definitions that only restate private functions.
-pub mod Tasks
 pub mod Accounts
-pub mod Seats
-pub mod Owners
-pub mod HandParts
-pub mod Gathering
 pub mod Filling
+pub mod Gathering
+pub mod HandParts
+pub mod Owners
+pub mod Seats
+pub mod Tasks

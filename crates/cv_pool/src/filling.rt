@@ -6,8 +6,8 @@ ghost use Rattle.cv_pool.specs.code.Owners.{owner_deque, IsOwner, owners_dealt};
 ghost use Rattle.cv_pool.specs.code.Filling.{AreOwners, AreParts, Seated, SeatedAt, fill_of, owner_jobs};
 
 use crate::account::{Added, Share};
-use crate::chest::Chest;
 use crate::hand::Hand;
+use crate::queue_owners::QueueOwners;
 use crate::seat::Seat;
 use crate::task::{MARKS, Owner, Task};
 use cv_seq::NoMemory;
@@ -143,7 +143,7 @@ fn other_hand(
         index,
         seats,
         list,
-        chest: None,
+        queue_owners: None,
     })
 }
 
@@ -194,7 +194,7 @@ pub fn fill(alloc: Global, jobs: u32, hands: u32) -> Result<Vec<Hand>, NoMemory>
         index: 0,
         seats,
         list,
-        chest: Some(Chest { owners, lists }),
+        queue_owners: Some(QueueOwners { owners, lists }),
     };
     all.insert(0, first)?;
     Ok(all)

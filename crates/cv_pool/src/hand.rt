@@ -2,7 +2,7 @@ ghost use Rattle.std.specs.Prelude.{◌≡◌, ◌<◌, true, None, IfSome};
 ghost use Rattle.std.specs.List.{AllByRecursion};
 ghost use Rattle.cv_pool.specs.Hands.{hand_after};
 
-use crate::chest::Chest;
+use crate::queue_owners::QueueOwners;
 use crate::seat::{Seat, take_from};
 use std::marker::Model;
 use std::sync::Wait;
@@ -14,7 +14,7 @@ pub struct Hand {
     pub(crate) index: usize,
     pub(crate) seats: Vec<Seat>,
     pub(crate) list: Vec<u32>,
-    pub(crate) chest: Option<Chest>,
+    pub(crate) queue_owners: Option<QueueOwners>,
 }
 
 impl Model for Hand {
@@ -26,7 +26,7 @@ impl Model for Hand {
 
     ghost view = { λ h. hand_state h.jobs h.index h.seats.items h.list.items };
 
-    ghost invariant = { λ h. IsHand h.jobs h.index h.seats.items h.list h.chest };
+    ghost invariant = { λ h. IsHand h.jobs h.index h.seats.items h.list h.queue_owners };
 }
 
 impl Hand {

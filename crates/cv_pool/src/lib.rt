@@ -15,10 +15,10 @@
 #![tactic(auto)]
 
 mod account;
-mod chest;
 mod filling;
 mod hand;
 mod laws;
+mod queue_owners;
 mod seat;
 mod taken;
 mod task;

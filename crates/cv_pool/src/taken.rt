@@ -9,8 +9,8 @@ ghost use Rattle.cv_pool.specs.code.Owners.{owner_deque, IsOwner, HasShares, own
 ghost use Rattle.cv_pool.specs.code.Gathering.{AreSeatsOf, AreOfDeques, Absorbed, AbsorbedAt, Gathered, HasShare, HasSettled};
 
 use crate::account::{Settled, Share};
-use crate::chest::Chest;
 use crate::hand::Hand;
+use crate::queue_owners::QueueOwners;
 use crate::seat::Seat;
 use crate::task::Owner;
 use cv_seq::Seq;
@@ -81,7 +81,7 @@ fn gather_hands(owners: &mut [Owner], mut hands: VecDeque<Hand>, lists: &mut Vec
         index: _,
         seats,
         list,
-        chest: _,
+        queue_owners: _,
     } = hand;
     gather_hand(owners, seats, list, lists);
     gather_hands(owners, hands, lists);
@@ -147,13 +147,15 @@ pub fn gather(hands: Vec<Hand>) -> Taken
         index: _,
         seats,
         list,
-        chest,
+        queue_owners,
     } = first;
-    let Some(chest) = chest else { unreachable!() };
-    let Chest {
+    let Some(queue_owners) = queue_owners else {
+        unreachable!()
+    };
+    let QueueOwners {
         mut owners,
         mut lists,
-    } = chest;
+    } = queue_owners;
     gather_all(owners.as_mut_slice(), seats, list, hands, &mut lists);
     Taken {
         lists: Seq::of(lists),

@@ -7,6 +7,7 @@ use Rattle.cv_request.specs.Request.{act_of, page_of, request_line, request_of, 
 use Rattle.cv_request.specs.declared.error.RequestFault.TheVariants.{BadJson, BadRequest}
 use Rattle.cv_request.specs.declared.error.RequestWhat.TheVariants.{BadLane, BadNumber}
 use Rattle.cv_request.specs.declared.request.Act.TheVariants as act
+use Rattle.cv_request.specs.declared.limits.TheConstants.{MAX_FEED_NAME_LEN, MAX_LANES, MAX_PAGE_ROWS}
 
 -- a page of lane 3
 page :
@@ -29,3 +30,7 @@ faults :
     × (request_line (codes "{\"do\":\"ack\",\"number\":-0}") ≡ Err (BadRequest BadNumber))
 unfolding is_utf8 chars serde_json_on_literals request_of act_of
 faults = (refl, refl, refl)
+
+-- the limits of lanes, names of feeds and rows
+limits : (MAX_LANES ≡ 8) × (MAX_FEED_NAME_LEN ≡ 64) × (MAX_PAGE_ROWS ≡ 1000)
+limits = (refl, refl, refl)

@@ -3,8 +3,8 @@ ghost use Rattle.cv_request.specs.Fault.{fault_of, error_of};
 ghost use Rattle.cv_request.specs.declared.error.RequestError.TheVariants as error;
 ghost use Rattle.cv_request.specs.code.Records.{requested};
 
+use cv_base::NoMemory;
 use cv_osv::{OsvError, RecordWhat};
-use cv_seq::NoMemory;
 use std::alloc::AllocFailed;
 use thiserror::Error;
 

@@ -1,7 +1,7 @@
 ghost use Rattle.std.specs.Prelude.{◌≡◌, ◌<◌, ◌≤◌, ◌^◌, length, IfOk};
 ghost use Rattle.std.specs.Option.{option_map};
 ghost use Rattle.serde_json.specs.View.{view, items_view};
-ghost use Rattle.cv_base.specs.Answer.{Yields};
+ghost use Rattle.cv_base.specs.Answer.{MatchesUnlessOutOfMemory};
 ghost use Rattle.cv_osv.specs.Json.{object_or};
 ghost use Rattle.cv_request.specs.Fault.{fault_of, refusing};
 ghost use Rattle.cv_request.specs.Manifest.{checked_layers, digest_or, layer_of, layers_from, layers_in, list_or, manifest_of};
@@ -16,7 +16,7 @@ use std::alloc::Global;
 /// `layers`, the count of its items, and each of them from the first on.
 #[tactic(auto, unfolding(crate::specs::Manifest::manifest_of), using(crate::proofs::Layers::manifest_fails))]
 pub fn read_manifest(alloc: Global, value: &Value) -> Result<Manifest, RequestError>
-    ensures value { Yields fault_of (λ manifest. manifest) result (refusing (manifest_of (view value.now))) }
+    ensures value { MatchesUnlessOutOfMemory fault_of (λ manifest. manifest) result (refusing (manifest_of (view value.now))) }
     ensures at_most_128_layers { IfOk result (λ manifest. length manifest.layers ≤ MAX_LAYERS) }
 {
     object_or(value, RequestWhat::BadManifest)?;
@@ -47,7 +47,7 @@ pub(crate) fn digest_or(found: Option<&Value>, bad: RequestWhat) -> Result<Diges
 }
 
 fn list_or(found: Option<&Value>, bad: RequestWhat) -> Result<&[Value], RequestWhat>
-    ensures { Yields (λ what. Some what) (λ items. items_view items.now) result (list_or bad (option_map (λ v. view v.now) found.entry)) }
+    ensures { MatchesUnlessOutOfMemory (λ what. Some what) (λ items. items_view items.now) result (list_or bad (option_map (λ v. view v.now) found.entry)) }
 {
     match found.and_then(Value::as_array) {
         Some(items) => Ok(items.as_slice()),
@@ -57,7 +57,7 @@ fn list_or(found: Option<&Value>, bad: RequestWhat) -> Result<&[Value], RequestW
 
 /// The layers of an image by their member.
 fn read_layers(alloc: Global, found: Option<&Value>) -> Result<Seq<Digest>, RequestError>
-    ensures { Yields fault_of (λ layers. layers) result (refusing (layers_in (option_map (λ v. view v.now) found.entry))) }
+    ensures { MatchesUnlessOutOfMemory fault_of (λ layers. layers) result (refusing (layers_in (option_map (λ v. view v.now) found.entry))) }
 {
     let items = list_or(found, RequestWhat::BadLayers)?;
     read_checked(alloc, items)
@@ -66,7 +66,7 @@ fn read_layers(alloc: Global, found: Option<&Value>) -> Result<Seq<Digest>, Requ
 /// At least one layer, and at most 128.
 #[tactic(auto, using(crate::proofs::Layers::count_items))]
 fn read_checked(alloc: Global, items: &[Value]) -> Result<Seq<Digest>, RequestError>
-    ensures { Yields fault_of (λ layers. layers) result (refusing (checked_layers (items_view items.now))) }
+    ensures { MatchesUnlessOutOfMemory fault_of (λ layers. layers) result (refusing (checked_layers (items_view items.now))) }
 {
     if items.is_empty() {
         return Err(RequestError::BadRequest(RequestWhat::NoLayers));
@@ -80,7 +80,7 @@ fn read_checked(alloc: Global, items: &[Value]) -> Result<Seq<Digest>, RequestEr
 /// The layers of a list of items.
 fn read_each(alloc: Global, items: &[Value]) -> Result<Seq<Digest>, RequestError>
     requires { length items.now < 2 ^ 32 }
-    ensures { Yields fault_of (λ layers. layers) result (refusing (layers_from 0 (items_view items.now))) }
+    ensures { MatchesUnlessOutOfMemory fault_of (λ layers. layers) result (refusing (layers_from 0 (items_view items.now))) }
 {
     let mut layers = Vec::new(alloc);
     let mut index: u32 = 0;

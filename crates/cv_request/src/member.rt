@@ -3,7 +3,7 @@ ghost use Rattle.std.specs.Prelude.{◌≡◌, ◌<◌, ◌≤◌, Some, IfOk};
 ghost use Rattle.std.specs.List.{list_all};
 ghost use Rattle.std.specs.Option.{option_map};
 ghost use Rattle.serde_json.specs.View.{view};
-ghost use Rattle.cv_base.specs.Answer.{Yields};
+ghost use Rattle.cv_base.specs.Answer.{MatchesUnlessOutOfMemory};
 ghost use Rattle.cv_osv.specs.Json.{text_or};
 ghost use Rattle.cv_request.specs.Member.{feed_or, is_feed_byte, is_feed_name, lane_or, number_or};
 
@@ -12,7 +12,7 @@ use crate::limits::{MAX_FEED_NAME_LEN, MAX_LANES};
 use serde_json::Value;
 
 pub(crate) fn text_or(found: Option<&Value>, bad: RequestWhat) -> Result<&str, RequestWhat>
-    ensures { Yields (λ what. Some what) (λ text. text.now) result (text_or bad (option_map (λ v. view v.now) found.entry)) }
+    ensures { MatchesUnlessOutOfMemory (λ what. Some what) (λ text. text.now) result (text_or bad (option_map (λ v. view v.now) found.entry)) }
 {
     found.and_then(Value::as_str).ok_or(bad)
 }
@@ -47,7 +47,7 @@ pub(crate) fn lane_or(found: Option<&Value>) -> Result<u8, RequestWhat>
 }
 
 pub(crate) fn feed_or(found: Option<&Value>) -> Result<&str, RequestWhat>
-    ensures { Yields (λ what. Some what) (λ text. text.now) result (feed_or (option_map (λ v. view v.now) found.entry)) }
+    ensures { MatchesUnlessOutOfMemory (λ what. Some what) (λ text. text.now) result (feed_or (option_map (λ v. view v.now) found.entry)) }
 {
     match found.and_then(Value::as_str) {
         Some(text) if is_feed_name(text.as_bytes()) => Ok(text),

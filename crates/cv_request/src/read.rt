@@ -1,7 +1,7 @@
 ghost use Rattle.std.specs.Prelude.{◌≡◌, ◌<◌, ◌≤◌, length, IfOk};
 ghost use Rattle.std.specs.Option.{option_map};
 ghost use Rattle.serde_json.specs.View.{view};
-ghost use Rattle.cv_base.specs.Answer.{Yields};
+ghost use Rattle.cv_base.specs.Answer.{MatchesUnlessOutOfMemory};
 ghost use Rattle.cv_osv.specs.Records.{HasDistinctIds};
 ghost use Rattle.cv_request.specs.Fault.{fault_of, refusing};
 ghost use Rattle.cv_request.specs.Limits.{IsWithinLimits};
@@ -24,7 +24,7 @@ use std::alloc::Global;
 /// `number`. Other members are ignored. The first fault is the answer: the line as JSON, the object, `lane`, `do`, and
 /// then the members in this order.
 pub fn read_request(alloc: Global, line: &[u8]) -> Result<Request, RequestError>
-    ensures value { Yields fault_of (λ request. request) result (request_line line.now) }
+    ensures value { MatchesUnlessOutOfMemory fault_of (λ request. request) result (request_line line.now) }
     ensures lane { IfOk result (λ request. request.lane < MAX_LANES) }
     ensures limits { IfOk result (λ request. IsWithinLimits request.act) }
 {
@@ -34,7 +34,7 @@ pub fn read_request(alloc: Global, line: &[u8]) -> Result<Request, RequestError>
 
 #[tactic(auto, unfolding(crate::specs::Request::request_of))]
 fn request_of(alloc: Global, value: &Value) -> Result<Request, RequestError>
-    ensures value { Yields fault_of (λ request. request) result (request_of (view value.now)) }
+    ensures value { MatchesUnlessOutOfMemory fault_of (λ request. request) result (request_of (view value.now)) }
     ensures lane { IfOk result (λ request. request.lane < MAX_LANES) }
     ensures limits { IfOk result (λ request. IsWithinLimits request.act) }
 {
@@ -48,7 +48,7 @@ fn request_of(alloc: Global, value: &Value) -> Result<Request, RequestError>
 /// The action of the command of this name.
 #[tactic(auto, unfolding(crate::specs::Request::act_of))]
 fn act_of(alloc: Global, name: &str, value: &Value) -> Result<Act, RequestError>
-    ensures value { Yields fault_of (λ act. act) result (act_of name.now (view value.now)) }
+    ensures value { MatchesUnlessOutOfMemory fault_of (λ act. act) result (act_of name.now (view value.now)) }
     ensures limits { IfOk result IsWithinLimits }
 {
     match name {
@@ -65,7 +65,7 @@ fn act_of(alloc: Global, name: &str, value: &Value) -> Result<Act, RequestError>
 
 #[tactic(auto, unfolding(crate::specs::Request::register_of), using(crate::proofs::LayerLimit::read_some))]
 fn register_of(alloc: Global, value: &Value) -> Result<Act, RequestError>
-    ensures value { Yields fault_of (λ act. act) result (refusing (register_of (view value.now))) }
+    ensures value { MatchesUnlessOutOfMemory fault_of (λ act. act) result (refusing (register_of (view value.now))) }
     ensures limits { IfOk result IsWithinLimits }
 {
     let found = value.get("manifest").ok_or(RequestWhat::BadManifest)?;
@@ -81,7 +81,7 @@ fn image_of(value: &Value) -> Result<Digest, RequestWhat>
 
 #[tactic(auto, unfolding(crate::specs::Request::update_of))]
 fn update_of(alloc: Global, value: &Value) -> Result<Act, RequestError>
-    ensures value { Yields fault_of (λ act. act) result (update_of (view value.now)) }
+    ensures value { MatchesUnlessOutOfMemory fault_of (λ act. act) result (update_of (view value.now)) }
     ensures limits { IfOk result IsWithinLimits }
 {
     let feed = feed_or(value.get("feed"))?;
@@ -95,7 +95,7 @@ fn update_of(alloc: Global, value: &Value) -> Result<Act, RequestError>
 /// The records of a feed.
 #[tactic(auto, using(crate::proofs::Records::records_fail))]
 fn records_or(alloc: Global, found: Option<&Value>) -> Result<Seq<Advisory>, RequestError>
-    ensures value { Yields fault_of (λ records. records) result (records_or (option_map (λ v. view v.now) found.entry)) }
+    ensures value { MatchesUnlessOutOfMemory fault_of (λ records. records) result (records_or (option_map (λ v. view v.now) found.entry)) }
     ensures distinct { IfOk result HasDistinctIds }
     ensures within { IfOk result (λ records. length records ≤ MAX_ADVISORIES) }
 {

@@ -3,7 +3,7 @@ use Rattle.std.proofs.Common.{◌≡◌, ℕ, Bool, true, false, List, [], ◌�
 use Rattle.std.specs.Prelude.{Option, Some, None, if◌then◌else◌, codes}
 use Rattle.std.specs.Option.{option_map_or}
 use Rattle.cv_base.specs.Texts.{same}
-use Rattle.cv_arguments.specs.Forms.{Comparison, comparison_of}
+use Rattle.cv_command_arguments.specs.Forms.{Comparison, comparison_of}
 use Rattle.cv_command.specs.Order.{compared_as, compared_status, comparison_printed, kind_of, order_of}
 use Rattle.cv_command.specs.Printed.{IsPrinted, Printed, usage}
 use Rattle.cv_command.specs.declared.order.Compared.{Compared}

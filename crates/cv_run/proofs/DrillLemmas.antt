@@ -4,12 +4,12 @@ use Rattle.std.specs.Prelude.{◌≢◌, Option, Some, None, take}
 use Rattle.std.specs.Io.KnownBytes.{Appends}
 use Rattle.std.proofs.lemmas.List.{length-take-le}
 use Rattle.std.proofs.Math.Nat.{eq-or-lt_of_le}
-use Rattle.cv_drill_desk.specs.Generated.{generated}
+use Rattle.cv_desk_drill.specs.Generated.{generated}
 use Rattle.cv_drill.specs.Script.{script}
 use Rattle.cv_io.specs.Lines.{Finished}
-use Rattle.cv_legal.specs.Parts.{events_by}
-use Rattle.cv_legal.specs.Replay.{beginning}
-use Rattle.cv_machine.specs.Scans.{Trees}
+use Rattle.cv_serve_legal.specs.Parts.{events_by}
+use Rattle.cv_serve_legal.specs.Replay.{beginning}
+use Rattle.cv_core_machine.specs.Scans.{Trees}
 use Rattle.cv_serve.specs.Round.{DesksCounted, RoseBy, fault_count}
 use Rattle.cv_scan_input.specs.Request.{input_of}
 use Rattle.cv_seq.specs.Cause.{Rose}

@@ -4,33 +4,33 @@ use Rattle.std.specs.Prelude.{⊤, ◌==◌, filter, if◌then◌else◌, Option
 use Rattle.std.specs.List.{AllByRecursion, cons_option}
 use Rattle.std.proofs.lemmas.Bool.{cases_lt, eq-eqb, eqb-true}
 use Rattle.std.proofs.lemmas.List.Elements.{filter_map-append}
-use Rattle.cv_records.specs.declared.event.Act.{Act}
-use Rattle.cv_records.specs.declared.event.Act.TheVariants as name
-use Rattle.cv_records.specs.declared.event.By.{By}
-use Rattle.cv_records.specs.declared.event.By.TheVariants as by
-use Rattle.cv_records.specs.declared.event.EventEntry.{EventEntry}
+use Rattle.cv_core_records.specs.declared.event.Act.{Act}
+use Rattle.cv_core_records.specs.declared.event.Act.TheVariants as name
+use Rattle.cv_core_records.specs.declared.event.By.{By}
+use Rattle.cv_core_records.specs.declared.event.By.TheVariants as by
+use Rattle.cv_core_records.specs.declared.event.EventEntry.{EventEntry}
 use Rattle.cv_request.specs.declared.request.Act.{Act as RequestAct}
 use Rattle.cv_request.specs.declared.request.Act.TheVariants as request
 use Rattle.cv_transcript.specs.Order.{event_in, events_of}
 use Rattle.cv_transcript.specs.declared.entry.Entry.{Entry}
 use Rattle.cv_transcript.specs.declared.entry.Entry.TheVariants as entry
-use Rattle.cv_machine.specs.History.{act_name}
-use Rattle.cv_machine.specs.Layers.{queued}
-use Rattle.cv_machine.specs.Scans.{Trees}
-use Rattle.cv_machine.specs.declared.act.WholeAct.{WholeAct}
-use Rattle.cv_legal.specs.Legal.{AreLast, AreLegal, AreLegalRounds}
-use Rattle.cv_legal.specs.Parts.{event_by, events_by}
-use Rattle.cv_legal.specs.Replay.{IsEvent, Moment, Replays, event_of, requested_at, submitted}
-use Rattle.cv_legal.specs.Round.{IsLegalRound}
-use Rattle.cv_legal.specs.Rounds.{Round}
-use Rattle.cv_legal.specs.Turns.{ClaimsBelow, FitsWork, Works}
-use Rattle.cv_legal.specs.declared.taken.Requested.{Requested}
-use Rattle.cv_legal.proofs.History.{no_events}
+use Rattle.cv_core_machine.specs.History.{act_name}
+use Rattle.cv_core_machine.specs.Layers.{queued}
+use Rattle.cv_core_machine.specs.Scans.{Trees}
+use Rattle.cv_core_machine.specs.declared.event.MachineEvent.{MachineEvent}
+use Rattle.cv_serve_legal.specs.Legal.{AreLast, AreLegal, AreLegalRounds}
+use Rattle.cv_serve_legal.specs.Parts.{event_by, events_by}
+use Rattle.cv_serve_legal.specs.Replay.{IsEvent, Moment, Replays, event_of, requested_at, submitted}
+use Rattle.cv_serve_legal.specs.Round.{IsLegalRound}
+use Rattle.cv_serve_legal.specs.Rounds.{Round}
+use Rattle.cv_serve_legal.specs.Turns.{ClaimsBelow, FitsWork, Works}
+use Rattle.cv_serve_legal.specs.declared.parsed_line.Requested.{Requested}
+use Rattle.cv_serve_legal.proofs.History.{no_events}
 use Rattle.cv_serve.specs.Round.{fault_count, is_fault}
 
 -- ---- a lane submits no fault
 
-abbrev NoFault : Option WholeAct → Type 0
+abbrev NoFault : Option MachineEvent → Type 0
 NoFault None = ⊤
 NoFault (Some act) = is_fault (act_name act) ≡ false
 
@@ -54,7 +54,7 @@ IsOfWorker (by.Worker worker) = ⊤
 abbrev IsBlamed : EventEntry → Type 0
 IsBlamed event = is_fault event.act ≡ true → IsOfWorker event.by
 
-source_fault : (requested : List Requested) (source : By) (named : Act) (act : WholeAct) → submitted requested source named ≡ Some act → named ≡ act_name act
+source_fault : (requested : List Requested) (source : By) (named : Act) (act : MachineEvent) → submitted requested source named ≡ Some act → named ≡ act_name act
     → is_fault named ≡ true → IsOfWorker source
 source_fault requested (by.Worker worker) named act from same fault = tt
 source_fault requested (by.Lane lane line) named act from same fault =

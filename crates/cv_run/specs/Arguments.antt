@@ -2,7 +2,7 @@
 -- name of the command, and a simple command of clap reads those after it.
 use Rattle.std.specs.Prelude.{ℕ, if◌then◌else◌, List, [], ◌∷◌, codes}
 use Rattle.std.specs.Option.{option_map_or}
-use Rattle.cv_arguments.specs.Forms.{seed_of, takes_scan, workers_of}
+use Rattle.cv_command_arguments.specs.Forms.{seed_of, takes_scan, workers_of}
 use Rattle.cv_base.specs.Texts.{same}
 use Rattle.cv_command.specs.Order.{order_of}
 use Rattle.cv_command.specs.Printed.{Printed, usage}

@@ -2,11 +2,11 @@
 -- seed, and the summary of its transcript is printed.
 use Rattle.std.specs.Prelude.{◌≡◌, ℕ, List, [], ◌∷◌, ◌++◌, Option, ◌⊎◌}
 use Rattle.std.specs.Io.KnownBytes.{Appends}
-use Rattle.cv_drill_desk.specs.Generated.{generated}
+use Rattle.cv_desk_drill.specs.Generated.{generated}
 use Rattle.cv_drill.specs.Script.{script}
 use Rattle.cv_drill.specs.Summary.{summary}
-use Rattle.cv_legal.specs.Legal.{IsLegal}
-use Rattle.cv_machine.specs.State.{State}
+use Rattle.cv_serve_legal.specs.Legal.{IsLegal}
+use Rattle.cv_core_machine.specs.State.{State}
 use Rattle.cv_serve.specs.Round.{fault_count}
 use Rattle.cv_transcript.specs.Order.{events_of}
 use Rattle.cv_transcript.specs.declared.entry.Entry.{Entry}

@@ -3,7 +3,7 @@
 use Rattle.std.specs.Prelude.{◌≡◌, ℕ, ◌^◌, nat_le, min, ◌&&◌, if◌then◌else◌, List, length, take, drop, Option, Some, None, IfSome}
 use Rattle.std.specs.Io.KnownBytes.{IsAtEnd}
 use Rattle.cv_io.specs.Lines.{Stop, Finished, LongLine, LongInput}
-use Rattle.cv_machine.specs.Scans.{IsKnown, trees_of}
+use Rattle.cv_core_machine.specs.Scans.{StatesEveryLayer, trees_of}
 use Rattle.cv_scan_input.specs.Request.{input_of}
 use Rattle.cv_scan_input.specs.Taken.{IsTaken, IsTakenWithin}
 use Rattle.cv_serve.specs.Served.{IsServed, IsTakenUpTo}
@@ -41,7 +41,7 @@ AreOthersSame workers desks desks_now = (drop workers desks_now ≡ drop workers
 -- transcript of the input with these workers, and each worker's desk counted what the transcript says of it
 abbrev pub IsTranscript : {D : Type 0} → Trees → ℕ → (D → ℕ) → (D → ℕ) → Option (List ℕ) → Option (List ℕ) → Option (List ℕ) → List D → List D → Type 0
 IsTranscript trees workers listings faults remaining written written_now desks desks_now =
-    IsKnown trees → IfSome remaining (λ bytes.
+    StatesEveryLayer trees → IfSome remaining (λ bytes.
     IsServed (trees_of trees) workers listings faults bytes written written_now (take workers desks) (take workers desks_now))
 
 -- how a service of so many workers ends: only their desks are used, and the input was read to its end if the service is done. More than

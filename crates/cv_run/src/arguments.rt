@@ -1,8 +1,8 @@
 ghost use Rattle.std.specs.Prelude.{◌≡◌, map, string_bytes, IfOk};
 ghost use Rattle.cv_run.specs.Arguments.{command_of, drill_with, named, scan_with, serve_with};
 
-use cv_arguments::{seed_of, takes_scan, workers_of};
 use cv_base::NoMemory;
+use cv_command_arguments::{seed_of, takes_scan, workers_of};
 use std::alloc::Global;
 
 /// What the arguments of the program name.

@@ -1,4 +1,6 @@
+pub mod DistinctLemmas
 pub mod Examples
+pub mod Failed
 pub mod Laid
 pub mod LaidTrees
 pub mod Loaded
@@ -6,3 +8,4 @@ pub mod RootLoaded
 pub mod ScanAnswers
 pub mod Scanned
 pub mod Scans
+pub mod Seen

@@ -19,7 +19,7 @@ use Rattle.cv_overlay.specs.Mark.{is_dir_node, outline}
 use Rattle.cv_packages.specs.Files.{file_of, files_found}
 use Rattle.cv_packages.specs.Found.{found_at}
 use Rattle.cv_packages.specs.Packages.{assembled, packages}
-use Rattle.cv_package_files.specs.declared.found.Found.TheVariants as found
+use Rattle.cv_packages.specs.declared.found.Found.TheVariants as found
 
 -- what loading makes of a node of a root
 abbrev pub load_content : Path → Content → Content

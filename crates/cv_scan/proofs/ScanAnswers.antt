@@ -4,9 +4,9 @@ use Rattle.std.proofs.Common.{arith, sym, subst}
 use Rattle.cv_base.specs.declared.advisory.Advisory.{Advisory}
 use Rattle.cv_base.specs.declared.finding.Finding.{Finding}
 use Rattle.cv_desk.specs.Stored.{Stored}
-use Rattle.cv_layers.specs.Failed.{IsOfLayers}
-use Rattle.cv_layers.specs.declared.error.ImageError.{ImageError}
-use Rattle.cv_layers.specs.declared.error.ImageError.TheVariants as error
+use Rattle.cv_scan.specs.Failed.{IsOfLayers}
+use Rattle.cv_scan.specs.declared.layer_error.ImageError.{ImageError}
+use Rattle.cv_scan.specs.declared.layer_error.ImageError.TheVariants as error
 use Rattle.cv_scan.specs.Layers.{AreListed, IsScanAnswer, IsScanned, distinct, is_desk_fault, stored_layers, whole_layers}
 use Rattle.cv_scan.specs.Scan.{Scanned, scan}
 use Rattle.cv_seq.specs.Cause.{CausedBy}

@@ -14,12 +14,12 @@ use Rattle.cv_base.proofs.Same.{same_is}
 use Rattle.cv_desk.specs.Loaded.{loaded, whole}
 use Rattle.cv_desk.specs.Stored.{Stored}
 use Rattle.cv_overlay.specs.declared.fault.ImageFault.{ImageFault}
-use Rattle.cv_layers.proofs.Seen.{AreSeen, all_seen}
+use Rattle.cv_scan.proofs.Seen.{AreSeen, all_seen}
 use Rattle.cv_scan.specs.Layers.{IsScanAnswer, IsScanned, distinct, is_desk_fault, stored_layers, whole_layers, with_stored}
 use Rattle.cv_scan.specs.code.Layers.{IsLoaded, is_image_memory, refusing, tree_in}
 use Rattle.cv_scan.specs.Scan.{Scanned, scan}
-use Rattle.cv_layers.specs.declared.error.ImageError.{ImageError}
-use Rattle.cv_layers.specs.declared.error.ImageError.TheVariants as error
+use Rattle.cv_scan.specs.declared.layer_error.ImageError.{ImageError}
+use Rattle.cv_scan.specs.declared.layer_error.ImageError.TheVariants as error
 use Rattle.cv_scan.specs.declared.loader.LoadedLayer.{LoadedLayer}
 use Rattle.cv_seq.specs.Cause.{CausedBy}
 use Rattle.cv_scan.proofs.Loaded.{loaded_is}

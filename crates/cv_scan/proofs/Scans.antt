@@ -13,8 +13,8 @@ use Rattle.cv_overlay.specs.Ascending.{AreAscending}
 use Rattle.cv_overlay.specs.declared.fault.ImageFault.{ImageFault}
 use Rattle.cv_scan.specs.code.Layers.{is_image_memory, refusing}
 use Rattle.cv_scan.specs.Scan.{Scanned, as_scanned, bad_tree_from, root_findings, scan, scan_good, scan_layers, scan_of, trees_from, with_tree}
-use Rattle.cv_layers.specs.declared.error.ImageError.{ImageError}
-use Rattle.cv_layers.specs.declared.error.ImageError.TheVariants as error
+use Rattle.cv_scan.specs.declared.layer_error.ImageError.{ImageError}
+use Rattle.cv_scan.specs.declared.layer_error.ImageError.TheVariants as error
 use Rattle.cv_scan.proofs.Laid.{laid_entries}
 
 abbrev Feeds : Type 0

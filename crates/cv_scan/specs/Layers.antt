@@ -6,10 +6,10 @@ use Rattle.cv_base.specs.declared.finding.Finding.{Finding}
 use Rattle.cv_base.specs.declared.tree.TreeEntry.{TreeEntry}
 use Rattle.cv_desk.specs.Loaded.{whole}
 use Rattle.cv_desk.specs.Stored.{Stored}
-pub use Rattle.cv_layers.specs.Distinct.{distinct}
-pub use Rattle.cv_layers.specs.Failed.{IsFailed, is_desk_fault}
-use Rattle.cv_layers.specs.declared.error.ImageError.{ImageError}
-use Rattle.cv_layers.specs.declared.error.ImageError.TheVariants as error
+pub use Rattle.cv_scan.specs.Distinct.{distinct}
+pub use Rattle.cv_scan.specs.Failed.{IsFailed, is_desk_fault}
+use Rattle.cv_scan.specs.declared.layer_error.ImageError.{ImageError}
+use Rattle.cv_scan.specs.declared.layer_error.ImageError.TheVariants as error
 use Rattle.cv_scan.specs.Scan.{Scanned, scan}
 use Rattle.cv_seq.specs.Cause.{CausedBy}
 

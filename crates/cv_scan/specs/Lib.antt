@@ -1,3 +1,5 @@
+pub mod Distinct
+pub mod Failed
 pub mod Faults
 pub mod Layers
 pub mod Root

@@ -1,2 +1,4 @@
 -- Definitions for the clauses of private functions.
+pub mod Distinct
+pub mod Failed
 pub mod Layers

@@ -2,9 +2,8 @@ ghost use Rattle.std.specs.Prelude.{◌≡◌, Some};
 ghost use Rattle.cv_scan.specs.declared.error.ScanError.TheVariants as error;
 ghost use Rattle.cv_scan.specs.Faults.{scan_fault};
 
-use cv_base::{RelPath, What};
+use cv_base::{NoMemory, RelPath, What};
 use cv_packages::FileFault;
-use cv_seq::NoMemory;
 use thiserror::Error;
 
 /// Why a root has no findings: its first package file, in the order of paths, that is refused.

@@ -2,9 +2,9 @@ ghost use Rattle.std.specs.Prelude.{◌≡◌};
 ghost use Rattle.std.specs.Option.{option_map};
 ghost use Rattle.cv_scan.specs.code.Layers.{tree_in};
 
+use crate::reader::LayerReader;
 use cv_base::{Digest, Tree};
 use cv_desk::{Desk, DeskFault, load};
-use cv_layers::LayerReader;
 use std::alloc::Global;
 
 /// A layer as it was loaded. It has no tree if the desk has no such layer.

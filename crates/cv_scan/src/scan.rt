@@ -1,5 +1,5 @@
 ghost use Rattle.std.specs.Prelude.{◌≡◌, ◌^◌, ◌<◌, ◌≤◌, ◌∷◌, [], length, map, IfOk, IfErr, IfSome, None};
-ghost use Rattle.cv_base.specs.Answer.{Gives, Yields};
+ghost use Rattle.cv_base.specs.Answer.{Gives, MatchesUnlessOutOfMemory};
 ghost use Rattle.cv_base.specs.Path.{Path};
 ghost use Rattle.cv_overlay.specs.Lay.{node_at, root_of};
 ghost use Rattle.cv_packages.specs.Faults.{refused_file};
@@ -9,14 +9,14 @@ ghost use Rattle.cv_scan.specs.code.Layers.{IsBadTree, is_image_memory, refusing
 ghost use Rattle.cv_scan.specs.Scan.{as_scanned, bad_tree_from, root_findings, scan, scan_of, trees_from};
 
 use crate::error::ScanError;
+use crate::layer_error::ImageError;
 use crate::loader::{LoadedLayer, Loader, tree_of};
-use cv_base::{Advisory, Digest, Finding, MAX_LAYERS, Text, Tree, TreeEntry};
+use crate::reader::read_layers;
+use cv_base::{Advisory, Digest, Finding, MAX_LAYERS, NoMemory, Seq, Text, Tree, TreeEntry};
 use cv_desk::Desk;
-use cv_feed::find_all;
-use cv_layers::{ImageError, read_layers};
+use cv_match_feed::find_all;
 use cv_overlay::{ImageFault, OverlayError, Root};
 use cv_packages::{PackagesError, read_packages};
-use cv_seq::{NoMemory, Seq};
 use std::alloc::Global;
 
 /// Scans an image: loads each distinct layer once, in the order of the image, and returns the findings of the packages of
@@ -137,7 +137,7 @@ pub fn scan_root(
     advisories: &[Advisory],
     feed: &Text,
 ) -> Result<Seq<Finding>, ScanError>
-    ensures { Yields scan_fault (λ found. found) result (root_findings root.now ((feed.now, advisories.now) ∷ [])) }
+    ensures { MatchesUnlessOutOfMemory scan_fault (λ found. found) result (root_findings root.now ((feed.now, advisories.now) ∷ [])) }
 {
     match scan_entries(alloc, root.entries(), advisories, feed) {
         Ok(found) => Ok(found),
@@ -153,7 +153,7 @@ fn scan_entries(
     advisories: &[Advisory],
     feed: &Text,
 ) -> Result<Seq<Finding>, PackagesError>
-    ensures { Yields refused_file (λ found. found) result (root_findings entries.now ((feed.now, advisories.now) ∷ [])) }
+    ensures { MatchesUnlessOutOfMemory refused_file (λ found. found) result (root_findings entries.now ((feed.now, advisories.now) ∷ [])) }
 {
     let packages = read_packages(alloc, entries)?;
     Ok(find_all(alloc, packages.as_slice(), feed, advisories)?)

@@ -3,13 +3,14 @@ use Rattle.std.specs.Prelude.{◌≡◌, ℕ, false, List, [], ◌∷◌, codes,
 use Rattle.cv_base.specs.declared.advisory.Advisory.{Advisory}
 use Rattle.cv_base.specs.declared.manifest.Manifest.{Manifest}
 use Rattle.cv_io.specs.Lines.{Reading, Stop, Finished, LongLine, LongInput}
-use Rattle.cv_osv_record.specs.declared.error.RecordWhat.TheVariants.{NoId}
+use Rattle.cv_osv.specs.declared.record_error.RecordWhat.TheVariants.{NoId}
 use Rattle.cv_request.specs.Line.{json_of}
 use Rattle.cv_request.specs.Manifest.{manifest_of}
 use Rattle.cv_request.specs.declared.error.RequestFault.TheVariants.{BadJson, BadRequest, BadAdvisory, DuplicateId}
 use Rattle.cv_request.specs.declared.error.RequestWhat.TheVariants.{BadHash}
 use Rattle.cv_scan_input.specs.Request.{ScanRequest, NoLine, RefusedAt, TooLongLine, TooLongInput, Scan, RecordLine, request_after, scan_request_of, record_lines}
 use Rattle.serde_json.specs.Data.{object, no_members}
+use Rattle.cv_scan_input.specs.declared.input.TheConstants.{MAX_INPUT, MAX_LINE}
 
 -- lines, and how the reading stops
 abbrev read : List (List ℕ) → Stop → Reading
@@ -70,3 +71,7 @@ stops :
     × (after_image (good 2 (codes "a") ∷ []) LongInput ≡ TooLongInput)
     × (after_image [] Finished ≡ Scan image [])
 stops = (refl, refl, refl)
+
+-- the limits of a line and of the input
+limits : (MAX_LINE ≡ 67108864) × (MAX_INPUT ≡ 68719476736)
+limits = (refl, refl)

@@ -11,7 +11,7 @@ use Rattle.cv_base.specs.declared.manifest.Manifest.{Manifest}
 use Rattle.cv_io.specs.Lines.{Reading, Stop, line_then}
 use Rattle.cv_osv.specs.Record.{advisory_of}
 use Rattle.cv_osv.specs.Records.{ListFault, RecordRead, fault_after, appended, reads_of}
-use Rattle.cv_osv_record.specs.declared.error.RecordWhat.{RecordWhat}
+use Rattle.cv_osv.specs.declared.record_error.RecordWhat.{RecordWhat}
 use Rattle.cv_request.specs.Fault.{list_fault, listing}
 use Rattle.cv_request.specs.Line.{json_of}
 use Rattle.cv_request.specs.declared.error.RequestFault.{RequestFault}

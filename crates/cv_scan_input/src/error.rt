@@ -2,9 +2,9 @@ ghost use Rattle.std.specs.Prelude.{◌≡◌};
 ghost use Rattle.cv_scan_input.specs.Answer.{stop_error};
 ghost use Rattle.cv_scan_input.specs.declared.error.InputError.TheVariants as input;
 
+use cv_base::NoMemory;
 use cv_io::LineError;
 use cv_request::RequestFault;
-use cv_seq::NoMemory;
 use thiserror::Error;
 
 /// Why the input of a scan requests nothing.

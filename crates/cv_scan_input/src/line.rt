@@ -1,5 +1,5 @@
 ghost use Rattle.std.specs.Prelude.{◌≡◌, ◌≤◌, length, IfOk};
-ghost use Rattle.cv_base.specs.Answer.{Gives, Yields};
+ghost use Rattle.cv_base.specs.Answer.{Gives, MatchesUnlessOutOfMemory};
 ghost use Rattle.cv_request.specs.Fault.{fault_of};
 ghost use Rattle.cv_scan_input.specs.code.Memory.{is_input_memory};
 ghost use Rattle.cv_scan_input.specs.Request.{manifest_or};
@@ -49,7 +49,7 @@ fn refused_at(line: u64, error: RequestError) -> InputError
 }
 
 fn manifest_text(alloc: Global, text: &[u8]) -> Result<Manifest, RequestError>
-    ensures value { Yields fault_of (λ manifest. manifest) result (manifest_or text.now) }
+    ensures value { MatchesUnlessOutOfMemory fault_of (λ manifest. manifest) result (manifest_or text.now) }
     ensures at_most_128_layers { IfOk result (λ manifest. length manifest.layers ≤ MAX_LAYERS) }
 {
     let value = read_json(alloc, text)?;
@@ -63,7 +63,7 @@ fn record_text(
     records: RecordList,
     text: &[u8],
 ) -> Result<RecordList, RequestError>
-    ensures { Yields fault_of (λ more. more) result (text_after records text.now) }
+    ensures { MatchesUnlessOutOfMemory fault_of (λ more. more) result (text_after records text.now) }
 {
     let found = reader.read(alloc, text)?;
     append(records, found)
@@ -72,7 +72,7 @@ fn record_text(
 /// Appends a record that was read, unless there are too many.
 #[tactic(auto, using(crate::proofs::Refusals::list_yields))]
 fn append(records: RecordList, found: RecordRead) -> Result<RecordList, RequestError>
-    ensures { Yields fault_of (λ more. more) result (found_after records found) }
+    ensures { MatchesUnlessOutOfMemory fault_of (λ more. more) result (found_after records found) }
 {
     if records.is_full() {
         return Err(RequestError::TooManyAdvisories);

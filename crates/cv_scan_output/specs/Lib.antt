@@ -1,4 +1,5 @@
 pub mod Bad
 pub mod Finding
 pub mod Line
+pub mod Refusal
 pub mod Scan

@@ -1,7 +1,7 @@
-//! Writes the answer of a scan as a line of JSON.
+//! Writes that a line of the input is refused, and why, as a line of JSON.
 //!
 //! ```text
-//! {"findings":[],"image":"sha256:11..","reply":"good"}
+//! {"line":2,"refused":"bad_json"}
 //! ```
 #![tactic(auto)]
 
@@ -10,10 +10,12 @@ mod finding;
 mod line;
 mod names;
 mod object;
+mod refusal;
 mod scan;
 
 pub use bad::{bad_image_line, bad_value};
 pub use finding::{finding_value, findings_value};
 pub use line::{ended, json_of, line_of};
 pub use object::Object;
+pub use refusal::{no_manifest_line, refusal_line, refusal_value};
 pub use scan::{desk_fault_line, good_line};

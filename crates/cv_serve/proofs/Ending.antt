@@ -6,20 +6,20 @@ use Rattle.cv_base.specs.Lines.{numbered}
 use Rattle.cv_io.specs.Lines.{lines_of}
 use Rattle.cv_transcript.specs.Entry.{entry_text}
 use Rattle.cv_transcript.specs.declared.entry.Entry.{Entry}
-use Rattle.cv_machine.specs.Scans.{Trees}
-use Rattle.cv_legal.specs.Legal.{AreLegal}
-use Rattle.cv_legal.specs.Replay.{Moment, beginning}
-use Rattle.cv_legal.specs.Rounds.{counted, cut_lines, round_limits, rounds_of}
-use Rattle.cv_legal.specs.declared.taken.Taken.{Taken}
-use Rattle.cv_round_lines.specs.Round.{DesksCounted}
-use Rattle.cv_round_lines.specs.Further.{ServedToEnd}
-use Rattle.cv_round_lines.proofs.Counts.{counts_both}
-use Rattle.cv_round_lines.proofs.Further.{lines_both, tags_both}
+use Rattle.cv_core_machine.specs.Scans.{Trees}
+use Rattle.cv_serve_legal.specs.Legal.{AreLegal}
+use Rattle.cv_serve_legal.specs.Replay.{Moment, beginning}
+use Rattle.cv_serve_legal.specs.Rounds.{counted, cut_lines, round_limits, rounds_of}
+use Rattle.cv_serve_legal.specs.declared.parsed_line.ParsedLine.{ParsedLine}
+use Rattle.cv_serve_round.specs.Round.{DesksCounted}
+use Rattle.cv_serve_round.specs.Further.{ServedToEnd}
+use Rattle.cv_serve_round.proofs.Counts.{counts_both}
+use Rattle.cv_serve_round.proofs.Further.{lines_both, tags_both}
 use Rattle.cv_serve.specs.Served.{IsServed}
 use Rattle.cv_serve.specs.code.Reading.{Done}
 use Rattle.cv_serve.proofs.Quiet.{Laws, complete_of}
 
-pub all_served : {D : Type 0} (laws : Laws) (trees : Trees) (workers : ℕ) (listings faults : D → ℕ) (input : List ℕ) (texts : List (List ℕ)) (taken : List Taken) (bytes : ℕ) (now after : Moment)
+pub all_served : {D : Type 0} (laws : Laws) (trees : Trees) (workers : ℕ) (listings faults : D → ℕ) (input : List ℕ) (texts : List (List ℕ)) (taken : List ParsedLine) (bytes : ℕ) (now after : Moment)
     (w m v : Option (List ℕ)) (l k n : List D) → lines_of input ≡ texts → length l ≡ workers
     → (d : Done trees workers listings faults texts taken bytes now w m l k)
     → ServedToEnd trees workers listings faults (cut_lines round_limits (numbered 1 texts)) d.more after m v k n

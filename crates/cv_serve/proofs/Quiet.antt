@@ -5,11 +5,11 @@ use Rattle.std.proofs.Common.{ap, arith, inl, inr, subst, sym, ◌∙◌}
 use Rattle.std.proofs.lemmas.Bool.{cases_lt, eq-eqb, eqb-true, or_parts}
 use Rattle.std.proofs.lemmas.List.Folds.{list_any-append}
 use Rattle.std.proofs.lemmas.Option.{same_Some}
-use Rattle.cv_records.specs.declared.event.Act.{Act}
-use Rattle.cv_records.specs.declared.event.Act.TheVariants as name
-use Rattle.cv_records.specs.declared.event.By.{By}
-use Rattle.cv_records.specs.declared.event.By.TheVariants as by
-use Rattle.cv_records.specs.declared.event.EventEntry.{EventEntry}
+use Rattle.cv_core_records.specs.declared.event.Act.{Act}
+use Rattle.cv_core_records.specs.declared.event.Act.TheVariants as name
+use Rattle.cv_core_records.specs.declared.event.By.{By}
+use Rattle.cv_core_records.specs.declared.event.By.TheVariants as by
+use Rattle.cv_core_records.specs.declared.event.EventEntry.{EventEntry}
 use Rattle.cv_request.specs.declared.error.RequestError.{RequestError}
 use Rattle.cv_request.specs.declared.request.Act.{Act as RequestAct}
 use Rattle.cv_request.specs.declared.request.Act.TheVariants as request
@@ -17,25 +17,25 @@ use Rattle.cv_request.specs.declared.request.Request.{Request}
 use Rattle.cv_transcript.specs.Order.{events_of}
 use Rattle.cv_transcript.specs.declared.entry.Entry.{Entry}
 use Rattle.cv_transcript.specs.declared.entry.Entry.TheVariants as entry
-use Rattle.cv_machine.specs.History.{act_name}
-use Rattle.cv_machine.specs.Layers.{queued}
-use Rattle.cv_machine.specs.Scans.{Trees}
-use Rattle.cv_machine.specs.declared.act.WholeAct.{WholeAct}
-use Rattle.cv_machine.specs.declared.act.WholeAct.TheVariants as whole
-use Rattle.cv_legal.specs.Legal.{AreLast, AreLegal, AreLegalRounds}
-use Rattle.cv_legal.specs.Parts.{event_by, events_by}
-use Rattle.cv_legal.specs.Replay.{Moment, Replays, beginning, event_of, requested_at, submitted}
-use Rattle.cv_legal.specs.Round.{IsLegalRound}
-use Rattle.cv_legal.specs.Rounds.{Round}
-use Rattle.cv_legal.specs.Taken.{refusal_at, refusals, requests}
-use Rattle.cv_legal.specs.Turns.{ClaimsBelow, FitsWork, Works}
-use Rattle.cv_legal.specs.declared.taken.Requested.{Requested}
-use Rattle.cv_legal.specs.declared.taken.Taken.{Taken}
-use Rattle.cv_complete.specs.Complete.{AreAllIndexed, AreDivided, ArePendingRecent, HasNoFault, gives_back}
-use Rattle.cv_complete.specs.Complete as complete
-use Rattle.cv_round_lines.specs.Round.{DesksCounted, RoseBy, fault_count, is_fault}
+use Rattle.cv_core_machine.specs.History.{act_name}
+use Rattle.cv_core_machine.specs.Layers.{queued}
+use Rattle.cv_core_machine.specs.Scans.{Trees}
+use Rattle.cv_core_machine.specs.declared.event.MachineEvent.{MachineEvent}
+use Rattle.cv_core_machine.specs.declared.event.MachineEvent.TheVariants as whole
+use Rattle.cv_serve_legal.specs.Legal.{AreLast, AreLegal, AreLegalRounds}
+use Rattle.cv_serve_legal.specs.Parts.{event_by, events_by}
+use Rattle.cv_serve_legal.specs.Replay.{Moment, Replays, beginning, event_of, requested_at, submitted}
+use Rattle.cv_serve_legal.specs.Round.{IsLegalRound}
+use Rattle.cv_serve_legal.specs.Rounds.{Round}
+use Rattle.cv_serve_legal.specs.ParsedLine.{refusal_at, refusals, requests}
+use Rattle.cv_serve_legal.specs.Turns.{ClaimsBelow, FitsWork, Works}
+use Rattle.cv_serve_legal.specs.declared.parsed_line.Requested.{Requested}
+use Rattle.cv_serve_legal.specs.declared.parsed_line.ParsedLine.{ParsedLine}
+use Rattle.cv_serve_legal.specs.Complete.{AreAllIndexed, AreDivided, ArePendingRecent, HasNoFault, gives_back}
+use Rattle.cv_serve_legal.specs.Complete as complete
+use Rattle.cv_serve_round.specs.Round.{DesksCounted, RoseBy, fault_count, is_fault}
 use Rattle.cv_serve.specs.Quiet.{AreQuiet, HasNoMemoryLine, IsComplete, is_memory, is_memory_line}
-use Rattle.cv_round_lines.proofs.Counts.{faults_both}
+use Rattle.cv_serve_round.proofs.Counts.{faults_both}
 
 -- ---- a desk that did not fail
 
@@ -86,7 +86,7 @@ first_claims workers worker (event ∷ events) below head rest is fits = by_sour
   by_source again (by.Worker other) source =
       by_test again other (other == worker) refl source (subst (λ who. cons_option (event_by worker who event) (events_by worker events) ≡ head ∷ rest) source is)
 
-no_refused : (taken : List Taken) → events_of (refusals taken) ≡ []
+no_refused : (taken : List ParsedLine) → events_of (refusals taken) ≡ []
 no_refused [] = refl
 no_refused (first ∷ taken) = by_answer first.answer (no_refused taken) where
   by_answer : (answer : Result Request RequestError) → events_of (refusals taken) ≡ [] → events_of (cons_option (refusal_at first.line answer) (refusals taken)) ≡ []
@@ -134,7 +134,7 @@ idle trees workers worker before rounds entries after h high =
 abbrev AreFree : List Entry → Type 0
 AreFree entries = (worker : ℕ) → fault_count (events_by worker (events_of entries)) ≡ 0
 
-request_fault : (requested : RequestAct) (act : WholeAct) → event_of requested ≡ Some act → is_fault (act_name act) ≡ false
+request_fault : (requested : RequestAct) (act : MachineEvent) → event_of requested ≡ Some act → is_fault (act_name act) ≡ false
 request_fault (request.Register manifest) act is = sym (ap (λ a. is_fault (act_name a)) (same_Some (whole.Register manifest) act is))
 request_fault (request.DropImage image) act is = sym (ap (λ a. is_fault (act_name a)) (same_Some (whole.DropImage image) act is))
 request_fault (request.Update feed records) act is = sym (ap (λ a. is_fault (act_name a)) (same_Some (whole.Update feed records) act is))
@@ -143,7 +143,7 @@ request_fault (request.Page number size page) act is = absurd (cc is)
 request_fault request.List act is = absurd (cc is)
 request_fault (request.Ack number) act is = sym (ap (λ a. is_fault (act_name a)) (same_Some (whole.Ack number) act is))
 
-lane_fault : (requested : Option RequestAct) (act : WholeAct) → option_and_then event_of requested ≡ Some act → is_fault (act_name act) ≡ false
+lane_fault : (requested : Option RequestAct) (act : MachineEvent) → option_and_then event_of requested ≡ Some act → is_fault (act_name act) ≡ false
 lane_fault None act is = absurd (cc is)
 lane_fault (Some requested) act is = request_fault requested act is
 
@@ -154,7 +154,7 @@ one_fault worker event source fault =
     ∙ ap (λ b. fault_count (cons_option (cond b (Some event) None) [])) (eq-eqb worker worker refl)
     ∙ ap (λ b. length (cond b (event ∷ []) [])) fault
 
-not_fault : (requested : List Requested) (event : EventEntry) (act : WholeAct) → submitted requested event.by event.act ≡ Some act → event.act ≡ act_name act
+not_fault : (requested : List Requested) (event : EventEntry) (act : MachineEvent) → submitted requested event.by event.act ≡ Some act → event.act ≡ act_name act
     → AreFree (entry.Event event ∷ []) → is_fault event.act ≡ false
 not_fault requested event act source named free = by_test (is_fault event.act) refl where
   by_source : (who : By) → event.by ≡ who → is_fault event.act ≡ true → ⊥
@@ -198,7 +198,7 @@ replayed_quiet trees requested before (entry.Event event ∷ entries) after h fr
     let here = not_back event.act (not_fault requested event h.1.act h.1.source (ap (λ (e : EventEntry). e.act) h.1.is) frees.0) nones.0 in
     ap (λ b. b || list_any complete.is_fault entries) here ∙ replayed_quiet trees requested h.0 entries after h.2 frees.1 nones.1
 
-refused_quiet : (taken : List Taken) → HasNoFault (refusals taken)
+refused_quiet : (taken : List ParsedLine) → HasNoFault (refusals taken)
 refused_quiet [] = refl
 refused_quiet (first ∷ taken) = by_answer first.answer (refused_quiet taken) where
   by_answer : (answer : Result Request RequestError) → HasNoFault (refusals taken) → HasNoFault (cons_option (refusal_at first.line answer) (refusals taken))

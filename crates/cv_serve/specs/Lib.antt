@@ -1,4 +1,4 @@
-pub use Rattle.cv_round_lines.specs.Round
+pub use Rattle.cv_serve_round.specs.Round
 pub mod Quiet
 pub mod Served
 pub mod code

@@ -1,14 +1,14 @@
 -- What a service leaves whose desks did not fail and whose workers did not run out of memory (defined by this project).
 use Rattle.std.specs.Prelude.{◌≡◌, ⊤, ℕ, ◌-◌, ◌<◌, ◌^◌, Bool, true, false, List, [], ◌∷◌}
 use Rattle.std.specs.List.{list_any}
-use Rattle.cv_records.specs.declared.event.Act.{Act}
-use Rattle.cv_records.specs.declared.event.Act.TheVariants as name
+use Rattle.cv_core_records.specs.declared.event.Act.{Act}
+use Rattle.cv_core_records.specs.declared.event.Act.TheVariants as name
 use Rattle.cv_transcript.specs.declared.entry.Entry.{Entry}
 use Rattle.cv_transcript.specs.declared.entry.Entry.TheVariants as entry
-use Rattle.cv_machine.specs.Scans.{Trees}
-use Rattle.cv_legal.specs.Replay.{Moment, beginning}
-use Rattle.cv_legal.specs.Rounds.{Round}
-use Rattle.cv_complete.specs.Complete.{AreAllIndexed, AreDivided, ArePendingRecent}
+use Rattle.cv_core_machine.specs.Scans.{Trees}
+use Rattle.cv_serve_legal.specs.Replay.{Moment, beginning}
+use Rattle.cv_serve_legal.specs.Rounds.{Round}
+use Rattle.cv_serve_legal.specs.Complete.{AreAllIndexed, AreDivided, ArePendingRecent}
 
 -- the count of failures of no desk rose, and each can still rise
 abbrev pub AreQuiet : {D : Type 0} → (D → ℕ) → List D → List D → Type 0

@@ -3,11 +3,11 @@
 use Rattle.std.specs.Prelude.{◌≡◌, ⊤, ℕ, ◌≤◌, ◌^◌, true, List, Option, IfSome, length}
 use Rattle.std.specs.Io.KnownBytes.{Appends, Consumes}
 use Rattle.cv_io.specs.Lines.{Stop, Finished, LongLine, LongInput}
-use Rattle.cv_machine.specs.Scans.{Trees}
-use Rattle.cv_machine.specs.State.{State}
-use Rattle.cv_legal.specs.Legal.{IsLegal}
-use Rattle.cv_legal.specs.Rounds.{round_limits, rounds_of}
-use Rattle.cv_round_lines.specs.Round.{DesksCounted}
+use Rattle.cv_core_machine.specs.Scans.{Trees}
+use Rattle.cv_core_machine.specs.State.{State}
+use Rattle.cv_serve_legal.specs.Legal.{IsLegal}
+use Rattle.cv_serve_legal.specs.Rounds.{round_limits, rounds_of}
+use Rattle.cv_serve_round.specs.Round.{DesksCounted}
 use Rattle.cv_scan_input.specs.Request.{input_of}
 use Rattle.cv_serve.specs.Quiet.{AreQuiet, HasNoMemoryLine, IsComplete}
 use Rattle.cv_serve.specs.declared.end.ServeEnd.{ServeEnd}

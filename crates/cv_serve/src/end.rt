@@ -2,8 +2,8 @@ ghost use Rattle.std.specs.Prelude.{◌≡◌};
 ghost use Rattle.cv_serve.specs.code.Ends.{end_of, input_end};
 ghost use Rattle.cv_serve.specs.declared.end.Stop.TheVariants as stop;
 
+use cv_base::NoMemory;
 use cv_io::{LineError, WriteError};
-use cv_seq::NoMemory;
 use thiserror::Error;
 
 /// How a service ends.

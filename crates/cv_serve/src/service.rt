@@ -2,29 +2,29 @@ ghost use Rattle.std.specs.Prelude.{◌≡◌, ℕ, List, [], ◌+◌, ◌<◌, 
 ghost use Rattle.std.specs.Io.KnownBytes.{IsAtEnd};
 ghost use Rattle.std.specs.List.{AllByRecursion};
 ghost use Rattle.cv_seq.specs.Cause.{CausedBy, Rose};
-ghost use Rattle.cv_machine.specs.Scans.{IsKnown, trees_of};
-ghost use Rattle.cv_machine.specs.declared.limits.TheConstants.{MAX_FEEDS, MAX_IMAGES};
+ghost use Rattle.cv_core_machine.specs.Scans.{StatesEveryLayer, trees_of};
+ghost use Rattle.cv_core_machine.specs.declared.limits.TheConstants.{MAX_FEEDS, MAX_IMAGES};
 ghost use Rattle.cv_io.specs.Reader.{reading, room_of};
 ghost use Rattle.cv_io.specs.declared.line.LineError.TheVariants as line;
 ghost use Rattle.cv_scan_input.specs.Taken.{IsTaken, IsTakenWithin};
 ghost use Rattle.cv_scan_input.specs.code.TakenParts.{IsTakenFrom, IsTakenTo};
-ghost use Rattle.cv_round_lines.specs.Core.{opened};
-ghost use Rattle.cv_round_lines.specs.Round.{moment_of};
+ghost use Rattle.cv_serve_round.specs.Core.{opened};
+ghost use Rattle.cv_serve_round.specs.Round.{moment_of};
 ghost use Rattle.cv_serve.specs.code.Ends.{end_of, is_read_stop, is_write_stop};
 ghost use Rattle.cv_serve.specs.Served.{FitsInput, IsServed, TakesUpTo};
-ghost use Rattle.cv_round_lines.specs.Begun.{IsPrepared};
+ghost use Rattle.cv_serve_round.specs.Begun.{IsPrepared};
 ghost use Rattle.cv_serve.specs.code.Reading.{Done, HasReadAll, StopsLines};
 ghost use Rattle.cv_serve.specs.declared.end.Stop.TheVariants as stop;
 
 use crate::end::{ServeEnd, Stop, end_of};
-use cv_complete::completeness_laws;
 use cv_desk::Desk;
 use cv_io::{Line, LineReader, Sink, Source};
 use cv_request::MAX_LANES;
-use cv_round_lines::{
+use cv_scan_input::{MAX_INPUT, MAX_LINE};
+use cv_serve_legal::completeness_laws;
+use cv_serve_round::{
     Blank, Core, Identity, Round, Service, end_input, new_core, started, take_line,
 };
-use cv_scan_input::{MAX_INPUT, MAX_LINE};
 use std::alloc::Global;
 use std::marker::Brand;
 use std::sync::Wait;
@@ -44,7 +44,7 @@ pub fn serve<S: Source, K: Sink, D: Desk + Drop + Send + Sync, W: Threads + Wait
     requires at_most_one_for_each_desk { workers ≤ length desks.old.items }
     requires at_most_8_desks { length desks.old.items ≤ 8 }
     requires room { All (λ desk. D.listings desk < 2 ^ 62) desks.old.items }
-    ensures done { IsKnown D.tree → result ≡ ServeEnd.Done → IfSome (S.remaining input.old) (λ bytes.
+    ensures done { StatesEveryLayer D.tree → result ≡ ServeEnd.Done → IfSome (S.remaining input.old) (λ bytes.
         IsServed (trees_of D.tree) workers D.listings D.faults bytes (K.contents output.old) (K.contents output.new) (take workers desks.old.items) (take workers desks.new.items)) }
     ensures ended { result ≡ ServeEnd.Done → IsAtEnd (S.remaining input.new) }
     ensures input { FitsInput (S.remaining input.old) result }
@@ -70,7 +70,7 @@ fn serve_over<S: Source, K: Sink, D: Desk + Drop + Send + Sync, W: Threads + Wai
 ) -> Result<(), Stop>
     requires workers { (1 ≤ length desks.old) × (length desks.old ≤ 8) }
     requires room { AllByRecursion (λ desk. D.listings desk ≤ 2 ^ 62) desks.old }
-    ensures done { IsKnown D.tree → OnOk result (IfSome (S.remaining input.old) (λ bytes.
+    ensures done { StatesEveryLayer D.tree → OnOk result (IfSome (S.remaining input.old) (λ bytes.
         IsServed (trees_of D.tree) (length desks.old) D.listings D.faults bytes (K.contents output.old) (K.contents output.new) desks.old desks.new)) }
     ensures ended { OnOk result (IsAtEnd (S.remaining input.new)) }
     ensures input { FitsInput (S.remaining input.old) (end_of result) }
@@ -108,7 +108,7 @@ fn serve_with<
     requires core { core ≡ opened L.limits }
     requires workers { (1 ≤ length desks.old) × (length desks.old ≤ 8) }
     requires room { AllByRecursion (λ desk. D.listings desk ≤ 2 ^ 62) desks.old }
-    ensures done { IsKnown D.tree → OnOk result (IfSome (S.remaining input.old) (λ bytes.
+    ensures done { StatesEveryLayer D.tree → OnOk result (IfSome (S.remaining input.old) (λ bytes.
         IsServed (trees_of D.tree) (length desks.old) D.listings D.faults bytes (K.contents output.old) (K.contents output.new) desks.old desks.new)) }
     ensures ended { OnOk result (IsAtEnd (S.remaining input.new)) }
     ensures input { FitsInput (S.remaining input.old) (end_of result) }
@@ -140,7 +140,7 @@ fn serve_by<
     requires limits { L.limits ≡ record { images = MAX_IMAGES; feeds = MAX_FEEDS } }
     requires hub { service.old.hub ≡ [] }
     requires prepared { IsPrepared D.listings L.parts service.old.hub service.old.seats.items desks.old }
-    ensures done { IsKnown D.tree → OnOk result (IfSome (S.remaining input.old) (λ bytes.
+    ensures done { StatesEveryLayer D.tree → OnOk result (IfSome (S.remaining input.old) (λ bytes.
         IsServed (trees_of D.tree) (length desks.old) D.listings D.faults bytes (K.contents output.old) (K.contents output.new) desks.old desks.new)) }
     ensures ended { OnOk result (IsAtEnd (S.remaining input.new)) }
     ensures input { FitsInput (S.remaining input.old) (end_of result) }
@@ -182,7 +182,7 @@ fn read_lines<
     requires fresh { (reader.old.held ≡ []) × (reader.old.taken ≡ 0) }
     requires prepared { IsPrepared D.listings L.parts service.old.hub service.old.seats.items desks.old }
     ensures lines { OnOk result ((texts : List (List ℕ)) × HasReadAll (reading reader.old (S.remaining input.old)) texts
-        × (IsKnown D.tree → (workers : ℕ) → length desks.old ≡ workers
+        × (StatesEveryLayer D.tree → (workers : ℕ) → length desks.old ≡ workers
         → Done (trees_of D.tree) workers D.listings D.faults [] round.old.taken round.old.bytes (moment_of (trees_of D.tree) L.limits service.old.hub) (K.contents output.old) (K.contents output.old) desks.old desks.old
         → Done (trees_of D.tree) workers D.listings D.faults texts round.new.taken round.new.bytes (moment_of (trees_of D.tree) L.limits service.new.hub) (K.contents output.old) (K.contents output.new) desks.old desks.new)) }
     ensures stops { IfSome (reading reader.old (S.remaining input.old)) (λ whole. StopsLines whole.stop result) }

@@ -5,7 +5,7 @@ use Rattle.std.specs.Prelude.{IfErr, IfSome}
 use Rattle.std.specs.List.{AllByRecursion, flat_map, onto_first, slice_split}
 use Rattle.std.specs.Option.{option_map_or, option_or}
 use Rattle.cv_base.specs.Lines.{Line, numbered}
-use Rattle.cv_base.specs.Answer.{Yields}
+use Rattle.cv_base.specs.Answer.{MatchesUnlessOutOfMemory}
 use Rattle.cv_base.specs.Reading.{read_fault}
 use Rattle.cv_base.specs.Results.{or_first_fault}
 use Rattle.cv_base.specs.declared.fault.FileBad.{FileBad}
@@ -84,7 +84,7 @@ first_by rules lines None h = tt
 first_by rules lines (Some f) h = first_of 1 (all_faults rules lines) _ f (from_blocks rules 1 (slice_split is_gap (numbered 1 lines)) (blocks_ascend 1 lines)) h
 
 -- the fault that is answered is the first one
-pub is_first : {A X : Type 0} (rules : BlockRules A) (lines : List (List ℕ)) (view : X → List A) (r : Result X ReadBad) → Yields read_fault view r (read_blocks rules lines)
+pub is_first : {A X : Type 0} (rules : BlockRules A) (lines : List (List ℕ)) (view : X → List A) (r : Result X ReadBad) → MatchesUnlessOutOfMemory read_fault view r (read_blocks rules lines)
     → IfErr r (λ error. IfSome (read_fault error) (IsFirstBad rules lines))
 is_first rules lines view (Ok x) h = tt
 is_first rules lines view (Err e) h = first_by rules lines (read_fault e) h

@@ -1,6 +1,6 @@
 //! What a format has to say of its blocks.
 ghost use Rattle.std.specs.Prelude.{◌≡◌, ℕ, List};
-ghost use Rattle.cv_base.specs.Answer.{Yields};
+ghost use Rattle.cv_base.specs.Answer.{MatchesUnlessOutOfMemory};
 ghost use Rattle.cv_stanza.specs.Blocks.{BlockRules};
 ghost use Rattle.cv_stanza.specs.code.Steps.{Agrees, BlockSteps, closed, line_fault};
 
@@ -45,9 +45,9 @@ pub trait BlockFormat<'a> {
 
     /// Takes one more line, which is not empty.
     fn take(&self, block: &mut Self::Block, line: &'a [u8]) -> LineResult
-        ensures { Yields line_fault (λ _. state block.new) result ((steps self.now).step (state block.old) line.now) };
+        ensures { MatchesUnlessOutOfMemory line_fault (λ _. state block.new) result ((steps self.now).step (state block.old) line.now) };
 
     /// Ends a block of one line or more: adds what it is read into.
     fn close(&self, alloc: Global, block: &Self::Block, found: &mut Vec<Self::Item>) -> LineResult
-        ensures { Yields line_fault (λ _. found.new.items) result (closed (steps self.now) (state block.now) found.old.items) };
+        ensures { MatchesUnlessOutOfMemory line_fault (λ _. found.new.items) result (closed (steps self.now) (state block.now) found.old.items) };
 }

@@ -4,8 +4,7 @@ ghost use Rattle.cv_base.specs.Reading.{read_fault};
 ghost use Rattle.cv_stanza.specs.code.Steps.{line_fault};
 ghost use Rattle.cv_stanza.specs.declared.line_error.LineError.TheVariants as error;
 
-use cv_base::{ReadBad, What};
-use cv_seq::NoMemory;
+use cv_base::{NoMemory, ReadBad, What};
 use thiserror::Error;
 
 /// Why a line, or a block at its end, was refused. The reader of the file knows the number of the line.

@@ -2,7 +2,7 @@
 ghost use Rattle.std.specs.Prelude.{◌≡◌, ◌∷◌, ◌≤◌, IfErr, IfSome, Some, [], false, length, map};
 ghost use Rattle.std.specs.List.{slice_split};
 ghost use Rattle.std.specs.Option.{option_map};
-ghost use Rattle.cv_base.specs.Answer.{Yields};
+ghost use Rattle.cv_base.specs.Answer.{MatchesUnlessOutOfMemory};
 ghost use Rattle.cv_base.specs.Cuts.{is_lf};
 ghost use Rattle.cv_base.specs.code.Cuts.{remaining_len};
 ghost use Rattle.cv_base.specs.Reading.{read_fault};
@@ -22,7 +22,7 @@ pub fn read_blocks<'a, F: BlockFormat<'a>>(
     format: &F,
     bytes: &'a [u8],
 ) -> Result<Vec<F::Item>, ReadBad>
-    ensures answer { Yields read_fault (λ items. items.items) result (read_blocks (F.rules format.now) (map F.trimmed (slice_split is_lf bytes.now))) }
+    ensures answer { MatchesUnlessOutOfMemory read_fault (λ items. items.items) result (read_blocks (F.rules format.now) (map F.trimmed (slice_split is_lf bytes.now))) }
     ensures first { IfErr result (λ error. IfSome (read_fault error) (IsFirstBad (F.rules format.now) (map F.trimmed (slice_split is_lf bytes.now)))) }
 {
     read_all(alloc, format, bytes)
@@ -34,7 +34,7 @@ fn read_all<'a, F: BlockFormat<'a>>(
     format: &F,
     bytes: &'a [u8],
 ) -> Result<Vec<F::Item>, ReadBad>
-    ensures { Yields read_fault (λ items. items.items) result (read_on (F.steps format.now) 0 false (F.steps format.now).opening [] (trimmed_lines F.trimmed (Some bytes.now))) }
+    ensures { MatchesUnlessOutOfMemory read_fault (λ items. items.items) result (read_on (F.steps format.now) 0 false (F.steps format.now).opening [] (trimmed_lines F.trimmed (Some bytes.now))) }
 {
     let mut found = Vec::new(alloc);
     let mut block = format.open(alloc);
@@ -65,7 +65,7 @@ fn take_line<'a, F: BlockFormat<'a>>(
     line: &'a [u8],
     number: u64,
 ) -> Result<(), ReadBad>
-    ensures { Yields read_fault (λ _. F.state block.new) result (at_line number ((F.steps format.now).step (F.state block.old) line.now)) }
+    ensures { MatchesUnlessOutOfMemory read_fault (λ _. F.state block.new) result (at_line number ((F.steps format.now).step (F.state block.old) line.now)) }
 {
     format.take(block, line).map_err(|error| error.at(number))
 }
@@ -79,7 +79,7 @@ fn end_block<'a, F: BlockFormat<'a>>(
     block: &F::Block,
     found: &mut Vec<F::Item>,
 ) -> Result<(), ReadBad>
-    ensures { Yields read_fault (λ _. found.new.items) result (ended (F.steps format.now) number begun (F.state block.now) found.old.items) }
+    ensures { MatchesUnlessOutOfMemory read_fault (λ _. found.new.items) result (ended (F.steps format.now) number begun (F.state block.now) found.old.items) }
 {
     if !begun {
         return Ok(());

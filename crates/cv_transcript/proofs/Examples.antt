@@ -3,12 +3,12 @@ use Rattle.std.proofs.Common.{◌≡◌, ℕ, List, [], ◌∷◌, arith, inl, i
 use Rattle.std.specs.Prelude.{codes}
 use Rattle.serde_json.specs.Data.{member, no_members, number, object, string, unsigned}
 use Rattle.cv_base.specs.Digest.{digest_text}
-use Rattle.cv_records.specs.declared.event.Act.TheVariants as act
-use Rattle.cv_records.specs.declared.event.By.TheVariants as by
-use Rattle.cv_records.specs.declared.event.EventEntry.{EventEntry}
-use Rattle.cv_records.specs.declared.read.Answer.TheVariants as answer
-use Rattle.cv_records.specs.declared.read.ReadEntry.{ReadEntry}
-use Rattle.cv_records.specs.declared.reply.Reply.TheVariants as reply
+use Rattle.cv_core_records.specs.declared.event.Act.TheVariants as act
+use Rattle.cv_core_records.specs.declared.event.By.TheVariants as by
+use Rattle.cv_core_records.specs.declared.event.EventEntry.{EventEntry}
+use Rattle.cv_core_records.specs.declared.read.Answer.TheVariants as answer
+use Rattle.cv_core_records.specs.declared.read.ReadEntry.{ReadEntry}
+use Rattle.cv_core_records.specs.declared.reply.Reply.TheVariants as reply
 use Rattle.cv_transcript.specs.Event.{event_data}
 use Rattle.cv_transcript.specs.Order.{AreAscending, Precedes, reads_by, reads_of}
 use Rattle.cv_transcript.specs.Read.{read_data}

@@ -3,8 +3,8 @@ use Rattle.std.specs.Prelude.{◌≡◌, Bool, true, false, cond, List, [], ◌�
 use Rattle.std.specs.List.{AllByRecursion}
 use Rattle.std.proofs.Common.{ap, arith, inl, subst, sym, ◌∙◌}
 use Rattle.cv_base.proofs.AllItems.{all_kept}
-use Rattle.cv_records.specs.declared.event.EventEntry.{EventEntry}
-use Rattle.cv_records.specs.declared.read.ReadEntry.{ReadEntry}
+use Rattle.cv_core_records.specs.declared.event.EventEntry.{EventEntry}
+use Rattle.cv_core_records.specs.declared.read.ReadEntry.{ReadEntry}
 use Rattle.cv_transcript.specs.declared.entry.Entry.{Entry}
 use Rattle.cv_transcript.specs.declared.entry.Entry.TheVariants as entry
 use Rattle.cv_transcript.specs.Order.{AreAscending, Precedes, events_of, reads_of}

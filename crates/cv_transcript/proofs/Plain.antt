@@ -13,19 +13,19 @@ use Rattle.cv_overlay.specs.declared.fault.ImageFault.{ImageFault}
 use Rattle.cv_overlay.specs.declared.fault.ImageFault.TheVariants.{NoLayer, BadTree, BadFile, TooLarge}
 use Rattle.cv_overlay.specs.declared.fault.TreeFault.{TreeFault}
 use Rattle.cv_overlay.specs.declared.fault.TreeFault.TheVariants.{Unsorted, NoParent, BadMark, TooMany}
-use Rattle.cv_records.specs.declared.event.Act.{Act}
-use Rattle.cv_records.specs.declared.event.Act.TheVariants as act
-use Rattle.cv_records.specs.declared.event.By.{By}
-use Rattle.cv_records.specs.declared.event.By.TheVariants as by
-use Rattle.cv_records.specs.declared.read.Answer.{Answer}
-use Rattle.cv_records.specs.declared.read.Answer.TheVariants as answer
-use Rattle.cv_records.specs.declared.read.NoticeHead.{NoticeHead}
-use Rattle.cv_records.specs.declared.read.PageOutcome.{PageOutcome}
-use Rattle.cv_records.specs.declared.read.PageOutcome.TheVariants as page
-use Rattle.cv_records.specs.declared.read.ReportOutcome.{ReportOutcome}
-use Rattle.cv_records.specs.declared.read.ReportOutcome.TheVariants as report
-use Rattle.cv_records.specs.declared.reply.Reply.{Reply}
-use Rattle.cv_records.specs.declared.reply.Reply.TheVariants as reply
+use Rattle.cv_core_records.specs.declared.event.Act.{Act}
+use Rattle.cv_core_records.specs.declared.event.Act.TheVariants as act
+use Rattle.cv_core_records.specs.declared.event.By.{By}
+use Rattle.cv_core_records.specs.declared.event.By.TheVariants as by
+use Rattle.cv_core_records.specs.declared.read.Answer.{Answer}
+use Rattle.cv_core_records.specs.declared.read.Answer.TheVariants as answer
+use Rattle.cv_core_records.specs.declared.read.NoticeHead.{NoticeHead}
+use Rattle.cv_core_records.specs.declared.read.PageOutcome.{PageOutcome}
+use Rattle.cv_core_records.specs.declared.read.PageOutcome.TheVariants as page
+use Rattle.cv_core_records.specs.declared.read.ReportOutcome.{ReportOutcome}
+use Rattle.cv_core_records.specs.declared.read.ReportOutcome.TheVariants as report
+use Rattle.cv_core_records.specs.declared.reply.Reply.{Reply}
+use Rattle.cv_core_records.specs.declared.reply.Reply.TheVariants as reply
 use Rattle.cv_request.specs.declared.error.RequestError.{RequestError}
 use Rattle.cv_request.specs.declared.error.RequestError.TheVariants as error
 use Rattle.cv_request.specs.declared.error.RequestWhat.{RequestWhat}
@@ -37,10 +37,10 @@ use Rattle.cv_transcript.specs.Event.{put_by, put_details, put_subject}
 use Rattle.cv_scan_output.specs.Finding.{finding_data, fixed_data, items_of}
 use Rattle.cv_transcript.specs.Members.{digest_data, put_number, put_text}
 use Rattle.cv_transcript.specs.Read.{answer_members, head_data, list_members, page_members, reply_members, report_members}
-use Rattle.cv_refusal.specs.Refusal.{bad_request_data, refusal_data}
+use Rattle.cv_scan_output.specs.Refusal.{bad_request_data, refusal_data}
 use Rattle.cv_transcript.specs.Rows.{row_data, rows_data}
-use Rattle.cv_refusal.proofs.Floats.{refusal_has_none}
-use Rattle.cv_refusal.proofs.Requests.{each_request}
+use Rattle.cv_scan_output.proofs.RefusalFloats.{refusal_has_none}
+use Rattle.cv_scan_output.proofs.Requests.{each_request}
 
 -- no number has a point, and at most n deep
 abbrev pub IsPlain : ℕ → Data → Type 0

@@ -7,19 +7,19 @@ use Rattle.serde_json.specs.Find.{as_str, get_member}
 use Rattle.serde_json.specs.Read.{max_depth, read}
 use Rattle.serde_json.specs.Written.{compact_text}
 use Rattle.serde_json.proofs.Views.{get_member-put, get_member-put_other}
-use Rattle.cv_records.specs.declared.event.Act.{Act}
-use Rattle.cv_records.specs.declared.event.Act.TheVariants as act
-use Rattle.cv_records.specs.declared.event.By.{By}
-use Rattle.cv_records.specs.declared.event.By.TheVariants as by
-use Rattle.cv_records.specs.declared.event.EventEntry.{EventEntry}
-use Rattle.cv_records.specs.declared.read.Answer.{Answer}
-use Rattle.cv_records.specs.declared.read.Answer.TheVariants as answer
-use Rattle.cv_records.specs.declared.read.PageOutcome.{PageOutcome}
-use Rattle.cv_records.specs.declared.read.PageOutcome.TheVariants as page
-use Rattle.cv_records.specs.declared.read.ReportOutcome.{ReportOutcome}
-use Rattle.cv_records.specs.declared.read.ReportOutcome.TheVariants as report
-use Rattle.cv_records.specs.declared.reply.Reply.{Reply}
-use Rattle.cv_records.specs.declared.reply.Reply.TheVariants as reply
+use Rattle.cv_core_records.specs.declared.event.Act.{Act}
+use Rattle.cv_core_records.specs.declared.event.Act.TheVariants as act
+use Rattle.cv_core_records.specs.declared.event.By.{By}
+use Rattle.cv_core_records.specs.declared.event.By.TheVariants as by
+use Rattle.cv_core_records.specs.declared.event.EventEntry.{EventEntry}
+use Rattle.cv_core_records.specs.declared.read.Answer.{Answer}
+use Rattle.cv_core_records.specs.declared.read.Answer.TheVariants as answer
+use Rattle.cv_core_records.specs.declared.read.PageOutcome.{PageOutcome}
+use Rattle.cv_core_records.specs.declared.read.PageOutcome.TheVariants as page
+use Rattle.cv_core_records.specs.declared.read.ReportOutcome.{ReportOutcome}
+use Rattle.cv_core_records.specs.declared.read.ReportOutcome.TheVariants as report
+use Rattle.cv_core_records.specs.declared.reply.Reply.{Reply}
+use Rattle.cv_core_records.specs.declared.reply.Reply.TheVariants as reply
 use Rattle.cv_request.specs.declared.error.RequestError.{RequestError}
 use Rattle.cv_request.specs.declared.error.RequestError.TheVariants as error
 use Rattle.cv_request.specs.declared.error.RequestWhat.{RequestWhat}
@@ -29,9 +29,9 @@ use Rattle.cv_transcript.specs.Entry.{entry_data, entry_json}
 use Rattle.cv_transcript.specs.Event.{act_name, event_data, put_by, put_details, put_reply, put_subject}
 use Rattle.cv_transcript.specs.Members.{put_number, put_text}
 use Rattle.cv_transcript.specs.Read.{answer_members}
-use Rattle.cv_refusal.specs.Refusal.{bad_request_data, refusal_data}
+use Rattle.cv_scan_output.specs.Refusal.{bad_request_data, refusal_data}
 use Rattle.cv_transcript.specs.Tag.{Tag, RefusedLine, LaneEvent, WorkerEvent, LaneRead, entry_tag, event_tag, is_no_memory_answer, is_no_memory_error, layer_of, tag_of, tag_of_json}
-use Rattle.cv_refusal.proofs.Requests.{each_request}
+use Rattle.cv_scan_output.proofs.Requests.{each_request}
 use Rattle.cv_transcript.proofs.Plain.{entry_plain}
 
 -- ---- looking up a member

@@ -7,7 +7,7 @@ use Rattle.cv_transcript.specs.declared.entry.Entry.TheVariants.{Refused, Event,
 use Rattle.cv_transcript.specs.Event.{event_data}
 use Rattle.cv_scan_output.specs.Line.{line_text}
 use Rattle.cv_transcript.specs.Read.{read_data}
-use Rattle.cv_refusal.specs.Refusal.{refusal_data}
+use Rattle.cv_scan_output.specs.Refusal.{refusal_data}
 
 -- the JSON value of an entry
 abbrev pub entry_data : Entry → Data

@@ -2,13 +2,13 @@
 -- reply. Events and lines are numbered from 1, lanes and workers from 0.
 use Rattle.std.specs.Prelude.{ℕ, List, codes}
 use Rattle.serde_json.specs.Data.{Data, Members, no_members, object, put}
-use Rattle.cv_records.specs.declared.event.Act.{Act}
-use Rattle.cv_records.specs.declared.event.Act.TheVariants as act
-use Rattle.cv_records.specs.declared.event.By.{By}
-use Rattle.cv_records.specs.declared.event.By.TheVariants as by
-use Rattle.cv_records.specs.declared.event.EventEntry.{EventEntry}
-use Rattle.cv_records.specs.declared.reply.Reply.{Reply}
-use Rattle.cv_records.specs.declared.reply.Reply.TheVariants as reply
+use Rattle.cv_core_records.specs.declared.event.Act.{Act}
+use Rattle.cv_core_records.specs.declared.event.Act.TheVariants as act
+use Rattle.cv_core_records.specs.declared.event.By.{By}
+use Rattle.cv_core_records.specs.declared.event.By.TheVariants as by
+use Rattle.cv_core_records.specs.declared.event.EventEntry.{EventEntry}
+use Rattle.cv_core_records.specs.declared.reply.Reply.{Reply}
+use Rattle.cv_core_records.specs.declared.reply.Reply.TheVariants as reply
 use Rattle.cv_transcript.specs.Members.{digests_data, put_digest, put_number, put_text}
 
 -- an event by its word

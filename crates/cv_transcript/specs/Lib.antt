@@ -1,7 +1,7 @@
 pub use Rattle.cv_scan_output.specs.Bad
 pub use Rattle.cv_scan_output.specs.Finding
 pub use Rattle.cv_scan_output.specs.Line
-pub use Rattle.cv_refusal.specs.Refusal
+pub use Rattle.cv_scan_output.specs.Refusal
 pub use Rattle.cv_scan_output.specs.Scan
 pub mod Entry
 pub mod Event

@@ -2,8 +2,8 @@
 -- is its front, and before the next one; reads with one front by their lanes, and those of one lane by their lines.
 use Rattle.std.specs.Prelude.{◌≡◌, ⊤, ℕ, ◌==◌, ◌<◌, ◌≤◌, ◌⊎◌, List, [], ◌∷◌, ◌++◌, filter, get_or, map, Option, Some, None}
 use Rattle.std.specs.List.{AllByRecursion, filter_map, flat_map}
-use Rattle.cv_records.specs.declared.event.EventEntry.{EventEntry}
-use Rattle.cv_records.specs.declared.read.ReadEntry.{ReadEntry}
+use Rattle.cv_core_records.specs.declared.event.EventEntry.{EventEntry}
+use Rattle.cv_core_records.specs.declared.read.ReadEntry.{ReadEntry}
 use Rattle.cv_transcript.specs.declared.entry.Entry.{Entry}
 use Rattle.cv_transcript.specs.declared.entry.Entry.TheVariants as entry
 

@@ -2,14 +2,14 @@
 -- numbered from 1. A read that ran out of memory has neither its word nor its query.
 use Rattle.std.specs.Prelude.{ℕ, List, map, codes}
 use Rattle.serde_json.specs.Data.{Data, Members, no_members, array, object, put}
-use Rattle.cv_records.specs.declared.read.Answer.{Answer}
-use Rattle.cv_records.specs.declared.read.Answer.TheVariants as answer
-use Rattle.cv_records.specs.declared.read.NoticeHead.{NoticeHead}
-use Rattle.cv_records.specs.declared.read.PageOutcome.{PageOutcome}
-use Rattle.cv_records.specs.declared.read.PageOutcome.TheVariants as page
-use Rattle.cv_records.specs.declared.read.ReadEntry.{ReadEntry}
-use Rattle.cv_records.specs.declared.read.ReportOutcome.{ReportOutcome}
-use Rattle.cv_records.specs.declared.read.ReportOutcome.TheVariants as report
+use Rattle.cv_core_records.specs.declared.read.Answer.{Answer}
+use Rattle.cv_core_records.specs.declared.read.Answer.TheVariants as answer
+use Rattle.cv_core_records.specs.declared.read.NoticeHead.{NoticeHead}
+use Rattle.cv_core_records.specs.declared.read.PageOutcome.{PageOutcome}
+use Rattle.cv_core_records.specs.declared.read.PageOutcome.TheVariants as page
+use Rattle.cv_core_records.specs.declared.read.ReadEntry.{ReadEntry}
+use Rattle.cv_core_records.specs.declared.read.ReportOutcome.{ReportOutcome}
+use Rattle.cv_core_records.specs.declared.read.ReportOutcome.TheVariants as report
 use Rattle.cv_scan_output.specs.Bad.{bad_data}
 use Rattle.cv_scan_output.specs.Finding.{findings_data, items_of}
 use Rattle.cv_transcript.specs.Members.{put_digest, put_number, put_text}

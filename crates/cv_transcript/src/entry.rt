@@ -6,10 +6,9 @@ ghost use Rattle.cv_transcript.specs.Tag.{entry_tag, tag_of_json};
 use crate::event::event_value;
 use crate::read::read_value;
 use cv_base::NoMemory;
-use cv_records::{EventEntry, ReadEntry};
-use cv_refusal::refusal_value;
+use cv_core_records::{EventEntry, ReadEntry};
 use cv_request::RequestError;
-use cv_scan_output::{ended, json_of};
+use cv_scan_output::{ended, json_of, refusal_value};
 use serde_json::Value;
 use std::alloc::Global;
 

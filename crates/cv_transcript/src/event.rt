@@ -5,7 +5,7 @@ ghost use Rattle.cv_transcript.specs.Event.{act_name, event_data, put_by, put_de
 ghost use Rattle.cv_transcript.specs.Members.{digest_data, digests_data};
 
 use cv_base::{Digest, NoMemory};
-use cv_records::{Act, By, EventEntry, Reply};
+use cv_core_records::{Act, By, EventEntry, Reply};
 use cv_scan_output::Object;
 use serde_json::Value;
 use std::alloc::Global;

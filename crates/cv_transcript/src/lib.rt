@@ -12,9 +12,9 @@ mod read;
 mod rows;
 mod tag;
 
-pub use cv_refusal::{no_manifest_line, refusal_line};
 pub use cv_scan_output::{
     Object, bad_image_line, bad_value, desk_fault_line, findings_value, good_line, line_of,
+    no_manifest_line, refusal_line,
 };
 pub use entry::{Entry, entry_line};
 pub use event::reply_name;

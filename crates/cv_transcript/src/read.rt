@@ -4,7 +4,7 @@ ghost use Rattle.cv_transcript.specs.Read.{answer_members, head_data, heads_data
 
 use crate::rows::rows_value;
 use cv_base::NoMemory;
-use cv_records::{Answer, NoticeHead, PageOutcome, ReadEntry, ReportOutcome};
+use cv_core_records::{Answer, NoticeHead, PageOutcome, ReadEntry, ReportOutcome};
 use cv_scan_output::{Object, bad_value, findings_value};
 use serde_json::Value;
 use std::alloc::Global;

@@ -5,8 +5,8 @@ use Rattle.std.specs.declared.cmp.Ordering.{Ordering}
 use Rattle.std.specs.declared.cmp.Ordering.TheVariants.{Less, Equal, Greater}
 use Rattle.std.proofs.Common.{subst, sym, ◌∙◌}
 use Rattle.cv_tree.specs.Entries.{IsAscending, at, with_entry, without_key}
-use Rattle.cv_avl.specs.Nodes.{between}
-use Rattle.cv_avl.specs.declared.branch.Fork.{Fork}
+use Rattle.cv_tree.specs.Nodes.{between}
+use Rattle.cv_tree.specs.declared.branch.Fork.{Fork}
 use Rattle.cv_tree.proofs.EntryLemmas.{ascending_back, ascending_front, at_here, at_left, at_right, with_here, with_left, with_right, without_here, without_left, without_right}
 
 pub left_ascends : {K V : Type 0} (cmp : K → K → Ordering) (es : List (K × V)) (f : Fork K V) → es ≡ between f → IsAscending cmp es → IsAscending cmp f.left

@@ -3,8 +3,8 @@ use Rattle.std.specs.Prelude.{◌≡◌, ℕ, ◌+◌, List, [], ◌∷◌, ◌+
 use Rattle.std.specs.Map.{keys_of}
 use Rattle.std.proofs.Common.{ap, arith, append_assoc, sym, ◌∙◌}
 use Rattle.cv_tree.specs.Entries.{costs_of, remade_entries, rows_of}
-use Rattle.cv_avl.specs.Nodes.{between}
-use Rattle.cv_avl.specs.declared.branch.Fork.{Fork}
+use Rattle.cv_tree.specs.Nodes.{between}
+use Rattle.cv_tree.specs.declared.branch.Fork.{Fork}
 
 pub remade_append : {K V : Type 0} (f : K → V → V) (xs ys : List (K × V)) → remade_entries f (xs ++ ys) ≡ remade_entries f xs ++ remade_entries f ys
 remade_append f [] ys = refl

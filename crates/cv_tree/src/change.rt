@@ -1,9 +1,10 @@
 ghost use Rattle.std.specs.Prelude.{◌≡◌, ◌++◌, drop, IfOk};
 ghost use Rattle.cv_tree.specs.Entries.{IsAscending, with_entry, without_key};
 
+use crate::branch::Branch;
 use crate::search::first;
-use cv_avl::{Branch, Share};
-use cv_seq::NoMemory;
+use crate::share::Share;
+use cv_base::NoMemory;
 use std::alloc::Global;
 use std::cmp::Ordering;
 

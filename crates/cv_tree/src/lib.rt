@@ -9,14 +9,18 @@
 //! ```
 #![tactic(auto)]
 
+mod branch;
 mod change;
 mod laws;
 mod rebuild;
 mod remake;
+mod rotations;
 mod search;
+mod share;
 mod tree;
 
-pub use cv_avl::{Share, Shared};
+pub use branch::Branch;
 pub use laws::{change_laws, value_laws};
 pub use remake::Remake;
+pub use share::{Share, Shared};
 pub use tree::Tree;

@@ -1,10 +1,11 @@
 ghost use Rattle.std.specs.Prelude.{◌≡◌, ◌+◌, ◌≤◌, ◌∷◌, ◌++◌, unwrap_or, IfOk, OnOk};
 ghost use Rattle.cv_tree.specs.Entries.{costs_of, remade_entries, rows_of};
-ghost use Rattle.cv_avl.specs.Nodes.{between};
+ghost use Rattle.cv_tree.specs.Nodes.{between};
 
+use crate::branch::{Branch, Fork};
 use crate::remake::Remake;
-use cv_avl::{Branch, Fork, Share};
-use cv_seq::NoMemory;
+use crate::share::Share;
+use cv_base::NoMemory;
 use std::alloc::Global;
 
 /// The same branch with the values that a maker gives, or None if each stays as it is. A branch of which nothing changes

@@ -1,6 +1,6 @@
 ghost use Rattle.std.specs.Prelude.{◌≡◌, ◌+◌, ◌≤◌, ◌++◌, ℕ, List, unwrap_or, IfOk, OnOk};
 
-use cv_seq::NoMemory;
+use cv_base::NoMemory;
 use std::alloc::Global;
 
 /// What becomes of each value of a tree: a new value, rows that it adds to a list, and what it costs by a tally.

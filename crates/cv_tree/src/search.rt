@@ -3,8 +3,8 @@ ghost use Rattle.std.specs.Map.{keys_of};
 ghost use Rattle.std.specs.Option.{option_map};
 ghost use Rattle.cv_tree.specs.Entries.{IsAscending, at, first_entry};
 
-use cv_avl::Branch;
-use cv_seq::NoMemory;
+use crate::branch::Branch;
+use cv_base::NoMemory;
 use std::cmp::Ordering;
 
 /// The leftmost entry.

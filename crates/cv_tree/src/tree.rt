@@ -3,11 +3,12 @@ ghost use Rattle.std.specs.Map.{keys_of};
 ghost use Rattle.std.specs.Option.{option_map};
 ghost use Rattle.cv_tree.specs.Entries.{IsAscending, at, costs_of, first_entry, remade_entries, rows_of, with_entry, without_key};
 
+use crate::branch::Branch;
 use crate::rebuild::remade;
 use crate::remake::Remake;
+use crate::share::Share;
 use crate::{change, search};
-use cv_avl::{Branch, Share};
-use cv_seq::NoMemory;
+use cv_base::NoMemory;
 use std::alloc::Global;
 use std::marker::Model;
 

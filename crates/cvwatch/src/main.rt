@@ -10,7 +10,7 @@
 ghost use Rattle.std.specs.Prelude.{◌≡◌, ◌+◌, ◌^◌, ◌<◌, length, All, IfOk, OnOk};
 
 use cv_desk::Desk;
-use cv_folder_desk::FolderDesk;
+use cv_desk_folder::FolderDesk;
 use cv_io::{StdSink, StdSource};
 use cv_run::{Status, run};
 use std::env;

@@ -8,7 +8,7 @@ mod show;
 use crate::show::{show_listing, show_read, show_tree};
 use cv_base::{Digest, RelPath};
 use cv_desk::{Desk, load};
-use cv_folder_desk::FolderDesk;
+use cv_desk_folder::FolderDesk;
 use std::io;
 
 fn main(rt: HostRuntime) -> io::Result<()> {

@@ -1,6 +1,5 @@
-use cv_base::{Content, Kind, ListEntry, Node, Tree, TreeEntry};
+use cv_base::{Content, Kind, ListEntry, Node, Seq, Tree, TreeEntry};
 use cv_desk::FileRead;
-use cv_seq::Seq;
 use std::{io, str};
 
 /// Prints a listing, an entry a line.

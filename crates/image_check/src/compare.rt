@@ -1,8 +1,8 @@
 ghost use Rattle.std.specs.Prelude.{◌≤◌, length};
 
 use cv_base::{Advisory, Digest, Finding, MAX_LAYERS, NoMemory, Seq, Text};
-use cv_image::scan_layers;
 use cv_scan::{ImageError, scan_image};
+use cv_scan_image::scan_layers;
 use sample_data::SampleDesk;
 use std::alloc::Global;
 

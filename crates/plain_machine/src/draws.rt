@@ -3,7 +3,7 @@ ghost use Rattle.std.specs.Prelude.{◌<◌};
 use crate::letters::{IMAGES, LAYERS};
 use crate::machine::Machine;
 use crate::step::{Step, Work};
-use cv_machine::Status;
+use cv_core_machine::Status;
 use plain_findings::{CODES, FEEDS};
 
 /// An image that is registered, with the layers that it has mostly and others that it has sometimes: a letter each, the base first.

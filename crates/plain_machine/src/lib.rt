@@ -1,4 +1,4 @@
-//! The machine of `cv_machine` as it is defined, on plain lists: it does events by letters, and writes the reply to each and what it
+//! The machine of `cv_core_machine` as it is defined, on plain lists: it does events by letters, and writes the reply to each and what it
 //! leaves. It keeps no findings: each report looks at all packages of the image with all records anew. `core_check` compares the core
 //! of the service with it.
 //!

@@ -1,7 +1,7 @@
 use crate::letters::{IMAGES, LAYERS};
 use crate::step::{Step, Work};
 use cv_base::{NoMemory, Reason};
-use cv_machine::{Limits, Status};
+use cv_core_machine::{Limits, Status};
 use plain_findings::{Change, FEEDS, Fault, Feed, Found, Lines, changes_of, contents_of, fault_of};
 use std::alloc::Global;
 

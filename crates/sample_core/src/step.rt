@@ -1,6 +1,6 @@
 ghost use Rattle.std.specs.Prelude.{◌≡◌, ◌<◌, ◌≤◌, IsTrue};
 ghost use Rattle.cv_core.specs.Core.{IsSound, act_of};
-ghost use Rattle.cv_machine.specs.declared.limits.TheConstants.{MAX_FEEDS, MAX_IMAGES};
+ghost use Rattle.cv_core_machine.specs.declared.limits.TheConstants.{MAX_FEEDS, MAX_IMAGES};
 
 use crate::layers::{digest, layers_of};
 use cv_base::{Digest, MAX_LAYERS, Manifest, NoMemory, Seq, Steps, Text};

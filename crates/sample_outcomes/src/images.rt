@@ -1,7 +1,7 @@
 use crate::facts::facts;
 use cv_advdb::Feeds;
 use cv_base::{Digest, NoMemory, Steps};
-use cv_outcome::{Outcome, outcome_of};
+use cv_core_outcome::{Outcome, outcome_of};
 use cv_tree::Tree;
 use std::alloc::Global;
 use std::sync::ledger::Ledger;

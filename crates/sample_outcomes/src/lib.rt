@@ -1,4 +1,4 @@
-//! Outcomes of images whose layers are made in memory, and a feed that changes them, for the tests of `cv_outcome`.
+//! Outcomes of images whose layers are made in memory, and a feed that changes them, for the tests of `cv_core_outcome`.
 #![tactic(auto)]
 
 mod facts;

@@ -2,8 +2,8 @@ ghost use Rattle.cv_core.specs.Core.{IsSound, act_of};
 
 use cv_base::{Digest, NoMemory};
 use cv_core::{Event, Reply};
+use cv_core_records::By;
 use cv_hub::{Hub, Identity, Seat};
-use cv_records::By;
 use sample_data::{SampleDesk, hash};
 use std::alloc::Global;
 use std::sync::Wait;

@@ -1,6 +1,5 @@
 use super::*;
-use cv_base::{FileBad, What};
-use cv_seq::Text;
+use cv_base::{FileBad, Text, What};
 use std::test::Fail;
 
 fn sent<T: Send + Sync>(value: T) -> T {

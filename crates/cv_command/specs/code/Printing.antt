@@ -4,8 +4,8 @@ use Rattle.cv_base.specs.declared.advisory.Advisory.{Advisory}
 use Rattle.cv_base.specs.declared.manifest.Manifest.{Manifest}
 use Rattle.std.specs.Io.KnownBytes.{Appends}
 use Rattle.cv_scan.specs.Layers.{distinct}
-use Rattle.cv_layers.specs.declared.error.ImageError.{ImageError}
-use Rattle.cv_layers.specs.declared.error.ImageError.TheVariants as error
+use Rattle.cv_scan.specs.declared.layer_error.ImageError.{ImageError}
+use Rattle.cv_scan.specs.declared.layer_error.ImageError.TheVariants as error
 use Rattle.cv_scan_output.specs.Bad.{bad_image_text}
 use Rattle.cv_scan_output.specs.Scan.{desk_fault_text}
 use Rattle.cv_command.specs.Outcome.{SaysOutcome}

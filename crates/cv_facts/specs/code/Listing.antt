@@ -20,7 +20,7 @@ use Rattle.cv_overlay.specs.Lay.{is_plain}
 use Rattle.cv_overlay.specs.Mark.{listed, mark_of}
 use Rattle.cv_overlay.specs.declared.fault.TreeFault.{TreeFault}
 use Rattle.cv_packages.specs.Files.{file_of}
-use Rattle.cv_package_files.specs.declared.found.FileFound.{FileFound}
+use Rattle.cv_packages.specs.declared.found.FileFound.{FileFound}
 use Rattle.cv_facts.specs.Cover.{covers, is_place, opaque_dirs, place_dirs, targets}
 use Rattle.cv_facts.specs.declared.reduction.Reduction.{Reduction}
 use Rattle.cv_facts.specs.declared.reduction.Shape.{Shape}

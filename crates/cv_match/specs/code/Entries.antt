@@ -3,7 +3,7 @@ use Rattle.std.specs.Prelude.{ℕ, List, map}
 use Rattle.cv_base.specs.declared.«package».PackageKind.{PackageKind}
 use Rattle.cv_base.specs.declared.advisory.Affected.{Affected}
 use Rattle.cv_match.specs.declared.entry.PreparedEntry.{PreparedEntry}
-use Rattle.cv_range.specs.ReadRange.{events_of, range_text}
+use Rattle.cv_match_range.specs.ReadRange.{events_of, range_text}
 
 -- an entry by the texts of its versions
 abbrev pub entry_text : {V : Type 0} → (V → List ℕ) → PreparedEntry V → PreparedEntry (List ℕ)

@@ -12,10 +12,10 @@ use Rattle.cv_match.specs.declared.answer.Hit.{Hit}
 use Rattle.cv_match.specs.declared.answer.Hit.TheVariants.{No, Yes}
 use Rattle.cv_match.specs.declared.entry.PreparedEntry.{PreparedEntry}
 use Rattle.cv_match.specs.declared.key.PackageKey.{PackageKey}
-use Rattle.cv_range.specs.declared.placed.Placed.{Placed}
+use Rattle.cv_match_range.specs.declared.placed.Placed.{Placed}
 use Rattle.cv_match.specs.Affects.{key_name, matched_version, matches_ecosystem}
-use Rattle.cv_range.specs.Order.{version_cmp_of}
-use Rattle.cv_range.specs.ReadRange.{fix_in, range_holds}
+use Rattle.cv_match_range.specs.Order.{version_cmp_of}
+use Rattle.cv_match_range.specs.ReadRange.{fix_in, range_holds}
 
 -- what is compared with a record
 abbrev pub key_of : Package → PackageKey

@@ -8,7 +8,7 @@ use Rattle.std.specs.Ordering.{is_eq, nat_cmp}
 use Rattle.cv_base.specs.Results.{◌>>=◌}
 use Rattle.cv_base.specs.Texts.{same}
 use Rattle.cv_base.specs.declared.advisory.Advisory.{Advisory}
-use Rattle.cv_osv_record.specs.Record.{advisory_of}
+use Rattle.cv_osv.specs.Record.{advisory_of}
 use Rattle.cv_osv.specs.Records.{ListFault, BadAdvisory, DuplicateId, RecordRead, appended}
 use Rattle.serde_json.specs.Data.{Data}
 

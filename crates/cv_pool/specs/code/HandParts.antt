@@ -3,7 +3,7 @@ use Rattle.std.specs.Prelude.{◌≡◌, ℕ, ◌+◌, ◌<◌, ◌≤◌, not, 
 use Rattle.std.specs.Global.{Global, Vec}
 use Rattle.std.specs.List.{AllByRecursion}
 use Rattle.std.specs.Vec.{vec_capacity}
-use Rattle.cv_pool.specs.declared.chest.Chest.{Chest}
+use Rattle.cv_pool.specs.declared.queue_owners.QueueOwners.{QueueOwners}
 use Rattle.cv_pool.specs.declared.seat.Seat.{Seat}
 use Rattle.cv_pool.specs.Jobs.{weigh, weigh_below}
 use Rattle.cv_pool.specs.Hands.{HandState}
@@ -14,8 +14,8 @@ use Rattle.cv_pool.specs.code.Owners.{owner_deque, IsOwner, owners_dealt}
 abbrev pub hand_state : ℕ → ℕ → List Seat → List ℕ → HandState
 hand_state jobs index seats list = record { fill = record { deques = map seat_deque seats; jobs = jobs; dealt = map seat_jobs seats }; index = index; list = list; done = not (any_more seats) }
 
--- a chest has the owners of the deques, each with the shares that no hand has, and an empty list with room for all lists
-pub record IsChest (jobs : ℕ) (deques : List ((ℕ × ℕ) × Global)) (kept : ℕ) (c : Chest) : Type 0 where
+-- a queue_owners has the owners of the deques, each with the shares that no hand has, and an empty list with room for all lists
+pub record AreQueueOwners (jobs : ℕ) (deques : List ((ℕ × ℕ) × Global)) (kept : ℕ) (c : QueueOwners) : Type 0 where
   pub deques_of : map owner_deque c.owners.items ≡ deques
   pub keeps_a_share : 0 < kept
   pub shares : kept + length deques ≡ 9
@@ -24,16 +24,16 @@ pub record IsChest (jobs : ℕ) (deques : List ((ℕ × ℕ) × Global)) (kept :
   pub empty : c.lists.items ≡ []
   pub room : length deques ≤ vec_capacity c.lists
 
--- the chest holds these deques, if there is one
-abbrev pub HasChest : ℕ → List ((ℕ × ℕ) × Global) → Option Chest → Type 0
-HasChest jobs deques None = ⊥
-HasChest jobs deques (Some c) = (kept : ℕ) × IsChest jobs deques kept c
+-- the queue_owners holds these deques, if there is one
+abbrev pub HasQueueOwners : ℕ → List ((ℕ × ℕ) × Global) → Option QueueOwners → Type 0
+HasQueueOwners jobs deques None = ⊥
+HasQueueOwners jobs deques (Some c) = (kept : ℕ) × AreQueueOwners jobs deques kept c
 
--- a hand: its list has the jobs that it took at its seats, and room for all jobs; the first hand has the chest
-pub record IsHand (jobs index : ℕ) (seats : List Seat) (list : Vec ℕ) (chest : Option Chest) : Type 0 where
+-- a hand: its list has the jobs that it took at its seats, and room for all jobs; the first hand has the queue_owners
+pub record IsHand (jobs index : ℕ) (seats : List Seat) (list : Vec ℕ) (queue_owners : Option QueueOwners) : Type 0 where
   pub place : index < length seats
   pub seated : AllByRecursion IsSeated seats
   pub weights : (h : ℕ → ℕ) → weigh h list.items ≡ seats_weigh h seats
   pub dealt : (h : ℕ → ℕ) → seats_dealt h seats ≡ weigh_below h jobs
   pub room : jobs ≤ vec_capacity list
-  pub first : index ≡ 0 → HasChest jobs (map seat_deque seats) chest
+  pub first : index ≡ 0 → HasQueueOwners jobs (map seat_deque seats) queue_owners

@@ -6,8 +6,8 @@ use Rattle.cv_base.specs.declared.tree.TreeEntry.{TreeEntry}
 use Rattle.cv_desk.specs.Loaded.{loaded}
 use Rattle.cv_desk.specs.Stored.{Stored}
 use Rattle.cv_overlay.specs.declared.fault.ImageFault.{ImageFault}
-use Rattle.cv_layers.specs.declared.error.ImageError.{ImageError}
-use Rattle.cv_layers.specs.declared.error.ImageError.TheVariants as error
+use Rattle.cv_scan.specs.declared.layer_error.ImageError.{ImageError}
+use Rattle.cv_scan.specs.declared.layer_error.ImageError.TheVariants as error
 use Rattle.cv_scan.specs.declared.loader.LoadedLayer.{LoadedLayer}
 
 -- a layer was loaded as the desk's type names it, if it does

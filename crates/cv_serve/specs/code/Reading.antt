@@ -8,11 +8,11 @@ use Rattle.cv_io.specs.code.Lines.{lines_then}
 use Rattle.cv_io.specs.Reader.{Reader}
 use Rattle.cv_io.specs.declared.line.LineError.TheVariants as line
 use Rattle.cv_scan_input.specs.Unrefused.{IsPiece, ended_lines}
-use Rattle.cv_machine.specs.Scans.{Trees}
-use Rattle.cv_legal.specs.Replay.{Moment}
-use Rattle.cv_legal.specs.Rounds.{cut_lines, round_limits}
-use Rattle.cv_legal.specs.declared.taken.Taken.{Taken}
-use Rattle.cv_round_lines.specs.Further.{Further}
+use Rattle.cv_core_machine.specs.Scans.{Trees}
+use Rattle.cv_serve_legal.specs.Replay.{Moment}
+use Rattle.cv_serve_legal.specs.Rounds.{cut_lines, round_limits}
+use Rattle.cv_serve_legal.specs.declared.parsed_line.ParsedLine.{ParsedLine}
+use Rattle.cv_serve_round.specs.Further.{Further}
 use Rattle.cv_serve.specs.declared.end.Stop.{Stop as Stopped}
 use Rattle.cv_serve.specs.declared.end.Stop.TheVariants as stop
 
@@ -43,6 +43,6 @@ abbrev pub AreTaken : Reader → Option (List ℕ) → Option (List ℕ) → Typ
 AreTaken now before rest = IsTakenLines now before rest ⊎ ((now.held ≡ []) × (now.ended ≡ true))
 
 -- what was done with these lines
-abbrev pub Done : {D : Type 0} → Trees → ℕ → (D → ℕ) → (D → ℕ) → List (List ℕ) → List Taken → ℕ → Moment → Option (List ℕ) → Option (List ℕ) → List D → List D → Type 0
+abbrev pub Done : {D : Type 0} → Trees → ℕ → (D → ℕ) → (D → ℕ) → List (List ℕ) → List ParsedLine → ℕ → Moment → Option (List ℕ) → Option (List ℕ) → List D → List D → Type 0
 Done trees workers listings faults texts taken bytes now written written_now desks desks_now =
     Further trees workers listings faults (cut_lines round_limits (numbered 1 texts)) (length texts) taken bytes [] now written written_now desks desks_now

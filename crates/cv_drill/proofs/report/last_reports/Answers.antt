@@ -1,9 +1,9 @@
 use Rattle.std.proofs.Common.{◌∙◌, ap}
 use Rattle.std.proofs.lemmas.Result.{IfOk-weaker}
 use Rattle.cv_base.specs.Digest.{digest_text}
-use Rattle.cv_drill_input.specs.Images.{image}
-use Rattle.cv_drill_input.specs.Lines.{lines_text, numbers}
-use Rattle.cv_drill_input.proofs.Lists.{found_same}
+use Rattle.cv_drill.specs.Images.{image}
+use Rattle.cv_drill.specs.Lines.{lines_text, numbers}
+use Rattle.cv_drill.proofs.Lists.{found_same}
 use Rattle.cv_drill.proofs.report.last_reports.Goals as goal
 
 pub returns : goal.returns

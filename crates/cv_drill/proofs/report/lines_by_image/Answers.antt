@@ -3,8 +3,8 @@ use Rattle.std.specs.BTreeMap.{get}
 use Rattle.std.specs.Cmp.Lexicographic.{slice_cmp}
 use Rattle.std.specs.Ordering.{nat_cmp}
 use Rattle.cv_base.specs.Digest.{digest_text}
-use Rattle.cv_drill_input.specs.Images.{image}
-use Rattle.cv_drill_input.proofs.Lists.{found_pushed}
+use Rattle.cv_drill.specs.Images.{image}
+use Rattle.cv_drill.proofs.Lists.{found_pushed}
 use Rattle.cv_drill.proofs.report.lines_by_image.Goals as goal
 
 pub loop-index-preserved : goal.loop-index-preserved

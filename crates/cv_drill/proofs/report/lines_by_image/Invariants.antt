@@ -4,8 +4,8 @@ use Rattle.std.specs.Cmp.Lexicographic.{slice_cmp}
 use Rattle.std.specs.List.{filter_map}
 use Rattle.std.specs.Ordering.{nat_cmp}
 use Rattle.cv_base.specs.Digest.{digest_text}
-use Rattle.cv_drill_input.specs.Images.{image}
-use Rattle.cv_drill_input.specs.Lines.{lines_text, numbers}
+use Rattle.cv_drill.specs.Images.{image}
+use Rattle.cv_drill.specs.Lines.{lines_text, numbers}
 use Rattle.cv_drill.proofs.report.lines_by_image.Given as goal
 
 -- the text has the lines of the images so far

@@ -1,5 +1,5 @@
 use Rattle.std.proofs.Common.{◌∙◌, sym}
-use Rattle.cv_range.specs.Order.{version_cmp_of}
+use Rattle.cv_match_range.specs.Order.{version_cmp_of}
 use Rattle.cv_match.proofs.Mapped.{any_ranges}
 use Rattle.cv_match.proofs.matching.some_range_holds.Goals as goal
 

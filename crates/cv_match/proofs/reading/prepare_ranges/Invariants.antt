@@ -1,5 +1,5 @@
 use Rattle.std.proofs.Common.{◌≡◌, map, take}
-use Rattle.cv_range.specs.ReadRange.{events_of, range_text}
+use Rattle.cv_match_range.specs.ReadRange.{events_of, range_text}
 use Rattle.cv_match.proofs.reading.prepare_ranges.Given as goal
 
 abbrev pub invariant-loop-range : goal.invariant-loop-range

@@ -3,12 +3,12 @@ use Rattle.std.proofs.Common.{ap, arith, length-append, subst, sym, ◌∙◌}
 use Rattle.std.proofs.lemmas.Bool.{false≢true}
 use Rattle.cv_base.specs.Lines.{numbered}
 use Rattle.cv_io.specs.Reader.{Narrows, Reads, Step, reading}
-use Rattle.cv_scan_input.proofs.Taken.{taken_first, taken_from, taken_more}
-use Rattle.cv_machine.specs.Scans.{trees_of}
-use Rattle.cv_legal.specs.Rounds.{Cut, cut_line, cut_lines, round_limits}
-use Rattle.cv_legal.proofs.Serving.{cut_more, numbered_more}
-use Rattle.cv_round_lines.specs.Begun.{line_at}
-use Rattle.cv_round_lines.proofs.Further.{further}
+use Rattle.cv_scan_input.proofs.ParsedLine.{taken_first, taken_from, taken_more}
+use Rattle.cv_core_machine.specs.Scans.{trees_of}
+use Rattle.cv_serve_legal.specs.Rounds.{Cut, cut_line, cut_lines, round_limits}
+use Rattle.cv_serve_legal.proofs.Serving.{cut_more, numbered_more}
+use Rattle.cv_serve_round.specs.Begun.{line_at}
+use Rattle.cv_serve_round.proofs.Further.{further}
 use Rattle.cv_serve.proofs.Input.{reads_more, reads_none, taken_stop}
 use Rattle.cv_serve.proofs.UpTo.{none_given, one_given, stop_given}
 use Rattle.cv_serve.proofs.service.read_lines.Goals as goal

@@ -4,17 +4,17 @@ use Rattle.cv_io.specs.Lines.{Finished}
 use Rattle.cv_io.specs.Reader.{reading}
 use Rattle.cv_scan_input.specs.code.TakenParts.{IsTakenTo}
 use Rattle.cv_base.specs.Lines.{numbered}
-use Rattle.cv_machine.specs.Scans.{trees_of}
-use Rattle.cv_legal.specs.Replay.{beginning}
-use Rattle.cv_legal.specs.Rounds.{cut_lines, round_limits}
-use Rattle.cv_legal.specs.Served.{Served}
-use Rattle.cv_legal.proofs.Serving.{begins}
-use Rattle.cv_round_lines.specs.Begun.{RoundView}
-use Rattle.cv_round_lines.specs.Round.{moment_of}
+use Rattle.cv_core_machine.specs.Scans.{trees_of}
+use Rattle.cv_serve_legal.specs.Replay.{beginning}
+use Rattle.cv_serve_legal.specs.Rounds.{cut_lines, round_limits}
+use Rattle.cv_serve_legal.specs.Served.{Served}
+use Rattle.cv_serve_legal.proofs.Serving.{begins}
+use Rattle.cv_serve_round.specs.Begun.{RoundView}
+use Rattle.cv_serve_round.specs.Round.{moment_of}
 use Rattle.cv_serve.specs.Served.{IsServed}
 use Rattle.cv_serve.specs.code.Reading.{Done, HasReadAll}
 use Rattle.cv_serve.proofs.Ending.{all_served}
-use Rattle.cv_round_lines.proofs.Further.{stays}
+use Rattle.cv_serve_round.proofs.Further.{stays}
 use Rattle.cv_serve.proofs.Input.{all_taken_up, fits_all, handed_on, reads_input}
 use Rattle.cv_serve.proofs.Quiet.{Laws}
 use Rattle.cv_serve.proofs.service.serve_by.Goals as goal

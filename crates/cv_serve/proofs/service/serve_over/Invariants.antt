@@ -1,4 +1,4 @@
-use Rattle.cv_machine.specs.declared.limits.TheConstants.{MAX_FEEDS, MAX_IMAGES}
+use Rattle.cv_core_machine.specs.declared.limits.TheConstants.{MAX_FEEDS, MAX_IMAGES}
 use Rattle.cv_serve.proofs.service.serve_over.Given as goal
 
 -- the ledger, the list and the limits of the hub of the service

@@ -1,5 +1,0 @@
-use Rattle.cv_arguments.proofs.OrderForm.{any_place, comparison_form, comparison_taken}
-use Rattle.cv_arguments.proofs.laws.order_laws.Goals as goal
-
-pub returns : goal.returns
-returns c = record { place = any_place; taken = comparison_taken; form = comparison_form }

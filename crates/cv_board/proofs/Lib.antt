@@ -1,2 +1,0 @@
-pub mod BoardLemmas
-mod Examples

@@ -1,0 +1,10 @@
+use Rattle.std.proofs.Common.{◌∙◌}
+use Rattle.cv_core_machine.specs.Scans.{trees_of}
+use Rattle.cv_core.proofs.ReadLemmas.{board_core}
+use Rattle.cv_core.proofs.core_machine.Core.board.Goals as goal
+
+pub returns : goal.returns
+returns g c known =
+    board_core (trees_of g.D.Desk.tree) c.self.inside.machine c.args.self.now c.inventory.result.now c.generation.result c.in_ok-outcomes.outcomes
+    c.in_ok-notices.notices c.of.result c.self.view_is c.inventory.ensures c.generation.ensures (c.in_ok-notices.ensures ∙ c.notices.ensures)
+    (c.in_ok-outcomes.ensures known) c.of.ensures

@@ -1,0 +1,51 @@
+-- The definitions on worked examples.
+use Rattle.std.specs.Prelude.{◌≡◌, ℕ, List, [], ◌∷◌, None, refl}
+use Rattle.cv_facts.specs.Reduction.{Known}
+use Rattle.cv_facts.specs.declared.reduction.Shape.TheVariants.{NoLayer}
+use Rattle.cv_core_machine.specs.State.{Images}
+use Rattle.cv_core_machine.specs.declared.status.Status.TheVariants as status
+use Rattle.cv_core_machine.proofs.Examples.{a, b, c}
+use Rattle.cv_core_outcome.specs.Outcome.{outcome_at}
+use Rattle.cv_core_outcome.specs.declared.outcome.Outcome.TheVariants.{Pending}
+use Rattle.cv_core_records.specs.declared.read.ReportOutcome.TheVariants as report
+use Rattle.cv_core_inventory.specs.Changes.{all_renewed, image_dropped, layer_indexed, remaining_facts}
+use Rattle.cv_core_inventory.specs.Knowledge.{KnowledgeView, nothing_known, report_by}
+
+-- the facts of a digest that names no layer
+abbrev known : List ℕ → Known
+known digest = record { digest = digest; shape = NoLayer }
+
+-- one image, which waits for two layers
+abbrev images : Images
+images = (c, a ∷ b ∷ []) ∷ []
+
+-- its outcome before it has facts of a layer, and after: only an image that waits for the layer has another outcome
+waits : outcome_at [] [] (a ∷ b ∷ []) ≡ Pending a
+waits = refl
+
+renewed_one : all_renewed (outcome_at ((a, known a) ∷ []) []) images a ((c, Pending a) ∷ []) (c ∷ []) ≡ (c, Pending b) ∷ []
+renewed_one = refl
+
+others_stay : all_renewed (outcome_at ((b, known b) ∷ []) []) images b ((c, Pending a) ∷ []) (c ∷ []) ≡ (c, Pending a) ∷ []
+others_stay = refl
+
+-- facts go with the layers that the table does not have any more
+facts_go : remaining_facts ((a, known a) ∷ (b, known b) ∷ []) (a ∷ b ∷ []) ((b, status.Indexed) ∷ []) ≡ (b, known b) ∷ []
+facts_go = refl
+
+-- the image waits for the second layer once the first one is indexed, and has no outcome once it is dropped
+waiting : KnowledgeView
+waiting = record { facts = []; outcomes = (c, Pending a) ∷ []; feeds = record { feeds = []; limit = 1 } }
+
+indexed : layer_indexed waiting (known a) images
+    ≡ record { facts = (a, known a) ∷ []; outcomes = (c, Pending b) ∷ []; feeds = record { feeds = []; limit = 1 } }
+unfolding waiting
+indexed = refl
+
+dropped : image_dropped waiting c (a ∷ b ∷ []) [] ≡ nothing_known 1
+unfolding waiting
+dropped = refl
+
+-- the report of an image that is not registered
+no_image : report_by 7 None ≡ report.NotRegistered
+no_image = refl

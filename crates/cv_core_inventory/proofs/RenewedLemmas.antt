@@ -1,0 +1,191 @@
+-- The outcomes after a layer has its first facts: those that wait for it are made anew.
+use Rattle.std.specs.Prelude.{◌≡◌, ℕ, Bool, true, false, ◌||◌, ◌&&◌, cond, List, [], ◌∷◌, filter, map, Option, Some, None, refl}
+use Rattle.std.specs.Cmp.Lexicographic.{nat_list_cmp_total, nat_list_eq_equiv, texts_ties}
+use Rattle.std.specs.List.Sorted.{IsStrictlySortedBy}
+use Rattle.std.specs.Map.{keys_of}
+use Rattle.std.specs.Option.{option_map}
+use Rattle.std.specs.Ordering.{is_eq}
+use Rattle.std.proofs.Common.{ap, subst, sym, ◌∙◌}
+use Rattle.std.proofs.lemmas.Map.Lookups.{exact_bytes}
+use Rattle.std.proofs.lemmas.Option.{same_Some}
+use Rattle.std.proofs.lemmas.Bool.{or_left, or_right}
+use Rattle.cv_base.specs.Texts.{has_text, same}
+use Rattle.cv_base.proofs.Same.{same_is}
+use Rattle.cv_facts.specs.Reduction.{Known}
+use Rattle.cv_match.specs.Findings.{text_cmp}
+use Rattle.cv_core_machine.specs.State.{Feeds, Images, value_at, with_value}
+use Rattle.cv_core_machine.proofs.Entries.{sorted_put}
+use Rattle.cv_core_machine.proofs.LayerTables.{value_put}
+use Rattle.cv_core_outcome.specs.Facts.{waits_for}
+use Rattle.cv_core_outcome.specs.Outcome.{FactTable, has_facts, outcome_at}
+use Rattle.cv_core_outcome.specs.declared.outcome.Outcome.{Outcome}
+use Rattle.cv_core_outcome.proofs.FactLemmas.{fresh, unnamed}
+use Rattle.cv_core_registry.specs.Registrations.{users_of}
+use Rattle.cv_core_registry.proofs.ListLemmas.{same_entries}
+use Rattle.cv_tree.specs.Entries.{map_values}
+use Rattle.cv_tree.proofs.ValueLemmas.{mapped_at, mapped_keys}
+use Rattle.cv_core_inventory.specs.Changes.{all_renewed, is_waiting, renewed, with_outcome}
+use Rattle.cv_core_inventory.specs.Knowledge.{Outcomes}
+
+-- ---- image by image
+
+-- the outcome of an image that is not the one made anew
+other_image : (made : List (List ℕ) → Outcome) (outcomes : Outcomes) (image : List ℕ) (found : Option (List (List ℕ))) (q : List ℕ) → same image q ≡ false
+    → value_at (with_outcome made outcomes image found) q ≡ value_at outcomes q
+other_image made outcomes image None q key = refl
+other_image made outcomes image (Some layers) q key =
+    value_put outcomes image (made layers) q ∙ ap (λ b. cond b (Some (made layers)) (value_at outcomes q)) key
+
+-- and of the one made anew
+this_image : (made : List (List ℕ) → Outcome) (outcomes : Outcomes) (image : List ℕ) (found : Option (List (List ℕ))) (q : List ℕ) (layers : List (List ℕ)) → same image q ≡ true
+    → found ≡ Some layers → value_at (with_outcome made outcomes image found) q ≡ Some (made layers)
+this_image made outcomes image None q layers key is = absurd (cc is)
+this_image made outcomes image (Some kept) q layers key is =
+    value_put outcomes image (made kept) q ∙ ap (λ b. cond b (Some (made kept)) (value_at outcomes q)) key ∙ ap (λ ls. Some (made ls)) (same_Some kept layers is)
+
+one_at : (made : List (List ℕ) → Outcome) (images : Images) (layer : List ℕ) (outcomes : Outcomes) (image q : List ℕ) (layers : List (List ℕ)) → value_at images q ≡ Some layers
+    → value_at (renewed made images layer outcomes image) q
+    ≡ cond (same image q && is_waiting layer (value_at outcomes q)) (Some (made layers)) (value_at outcomes q)
+one_at made images layer outcomes image q layers found = by_tests (is_waiting layer (value_at outcomes image)) (same image q) refl refl where
+  at_key : same image q ≡ true → is_waiting layer (value_at outcomes image) ≡ is_waiting layer (value_at outcomes q)
+  at_key key = ap (λ k. is_waiting layer (value_at outcomes k)) (same_is image q key)
+
+  by_tests : (w t : Bool) → is_waiting layer (value_at outcomes image) ≡ w → same image q ≡ t
+      → value_at (cond w (with_outcome made outcomes image (value_at images image)) outcomes) q
+      ≡ cond (t && is_waiting layer (value_at outcomes q)) (Some (made layers)) (value_at outcomes q)
+  by_tests true true waits key =
+      this_image made outcomes image (value_at images image) q layers key (ap (value_at images) (same_is image q key) ∙ found)
+      ∙ sym (ap (λ b. cond b (Some (made layers)) (value_at outcomes q)) (sym (at_key key) ∙ waits))
+  by_tests true false waits key = other_image made outcomes image (value_at images image) q key
+  by_tests false true waits key = sym (ap (λ b. cond b (Some (made layers)) (value_at outcomes q)) (sym (at_key key) ∙ waits))
+  by_tests false false waits key = refl
+
+both : (layer : List ℕ) (a b w : Bool) (new : Outcome) (old : Option Outcome) → is_waiting layer old ≡ w
+    → cond (b && is_waiting layer (cond (a && w) (Some new) old)) (Some new) (cond (a && w) (Some new) old) ≡ cond ((a || b) && w) (Some new) old
+both layer true b true new old waits = alike (b && waits_for layer new) where
+  alike : (c : Bool) → cond c (Some new) (Some new) ≡ Some new
+  alike true = refl
+  alike false = refl
+both layer true true false new old waits = ap (λ c. cond c (Some new) old) waits
+both layer true false false new old waits = refl
+both layer false true w new old waits = ap (λ c. cond c (Some new) old) waits
+both layer false false w new old waits = refl
+
+all_at : (made : List (List ℕ) → Outcome) (images : Images) (layer : List ℕ) (outcomes : Outcomes) (users : List (List ℕ)) (q : List ℕ) (layers : List (List ℕ))
+    → value_at images q ≡ Some layers
+    → value_at (all_renewed made images layer outcomes users) q
+    ≡ cond (has_text users q && is_waiting layer (value_at outcomes q)) (Some (made layers)) (value_at outcomes q)
+all_at made images layer outcomes [] q layers found = refl
+all_at made images layer outcomes (image ∷ users) q layers found =
+    all_at made images layer (renewed made images layer outcomes image) users q layers found
+    ∙ ap (λ (o : Option Outcome). cond (has_text users q && is_waiting layer o) (Some (made layers)) o) (one_at made images layer outcomes image q layers found)
+    ∙ both layer (same image q) (has_text users q) (is_waiting layer (value_at outcomes q)) (made layers) (value_at outcomes q) refl
+
+-- an image that has no outcome gets none
+one_none : (made : List (List ℕ) → Outcome) (images : Images) (layer : List ℕ) (outcomes : Outcomes) (image q : List ℕ) → value_at outcomes q ≡ None
+    → value_at (renewed made images layer outcomes image) q ≡ None
+one_none made images layer outcomes image q none = by_tests (is_waiting layer (value_at outcomes image)) (same image q) refl refl where
+  by_tests : (w t : Bool) → is_waiting layer (value_at outcomes image) ≡ w → same image q ≡ t
+      → value_at (cond w (with_outcome made outcomes image (value_at images image)) outcomes) q ≡ None
+  by_tests true true waits key =
+      absurd (cc (sym waits ∙ ap (λ k. is_waiting layer (value_at outcomes k)) (same_is image q key) ∙ ap (is_waiting layer) none))
+  by_tests true false waits key = other_image made outcomes image (value_at images image) q key ∙ none
+  by_tests false t waits key = none
+
+all_none : (made : List (List ℕ) → Outcome) (images : Images) (layer : List ℕ) (outcomes : Outcomes) (users : List (List ℕ)) (q : List ℕ) → value_at outcomes q ≡ None
+    → value_at (all_renewed made images layer outcomes users) q ≡ None
+all_none made images layer outcomes [] q none = none
+all_none made images layer outcomes (image ∷ users) q none =
+    all_none made images layer (renewed made images layer outcomes image) users q (one_none made images layer outcomes image q none)
+
+-- and the order stays
+one_sorted : (made : List (List ℕ) → Outcome) (outcomes : Outcomes) (image : List ℕ) (found : Option (List (List ℕ))) (b : Bool)
+    → IsStrictlySortedBy text_cmp (keys_of outcomes) → IsStrictlySortedBy text_cmp (keys_of (cond b (with_outcome made outcomes image found) outcomes))
+one_sorted made outcomes image None true sorted = sorted
+one_sorted made outcomes image (Some layers) true sorted = sorted_put nat_list_cmp_total outcomes image (made layers) sorted
+one_sorted made outcomes image found false sorted = sorted
+
+all_sorted : (made : List (List ℕ) → Outcome) (images : Images) (layer : List ℕ) (outcomes : Outcomes) (users : List (List ℕ))
+    → IsStrictlySortedBy text_cmp (keys_of outcomes) → IsStrictlySortedBy text_cmp (keys_of (all_renewed made images layer outcomes users))
+all_sorted made images layer outcomes [] sorted = sorted
+all_sorted made images layer outcomes (image ∷ users) sorted =
+    all_sorted made images layer (renewed made images layer outcomes image) users
+    (one_sorted made outcomes image (value_at images image) (is_waiting layer (value_at outcomes image)) sorted)
+
+-- ---- the images that name the layer
+
+-- an image with these layers, which name the layer, is one of them
+is_user : (images : Images) (layer q : List ℕ) (layers : List (List ℕ)) → value_at images q ≡ Some layers → has_text layers layer ≡ true → has_text (users_of images layer) q ≡ true
+is_user [] layer q layers found has = absurd (cc found)
+is_user (e ∷ es) layer q layers found has =
+    by_tests (is_eq (text_cmp q e.0)) (has_text e.1 layer) refl refl found (λ (later : value_at es q ≡ Some layers). is_user es layer q layers later has) where
+      others : Images
+      others = filter (λ (image : List ℕ × List (List ℕ)). has_text image.1 layer) es
+
+      by_tests : (t p : Bool) → is_eq (text_cmp q e.0) ≡ t → has_text e.1 layer ≡ p → cond t (Some e.1) (value_at es q) ≡ Some layers
+          → (value_at es q ≡ Some layers → has_text (users_of es layer) q ≡ true)
+          → has_text (map (λ (image : List ℕ × List (List ℕ)). image.0) (cond p (e ∷ others) others)) q ≡ true
+      by_tests true true key named is rest = or_left (same e.0 q) (has_text (users_of es layer) q) (nat_list_eq_equiv.symm e.0 q ∙ texts_ties q e.0 ∙ key)
+      by_tests true false key named is rest = absurd (cc (sym named ∙ ap (λ ls. has_text ls layer) (same_Some e.1 layers is) ∙ has))
+      by_tests false true key named is rest = or_right (same e.0 q) (has_text (users_of es layer) q) (rest is)
+      by_tests false false key named is rest = rest is
+
+-- one of two that are the same
+either : (c : Bool) (x y : Option Outcome) → x ≡ y → cond c x y ≡ x
+either true x y h = refl
+either false x y h = sym h
+
+-- the outcome of an image after the layer has its first facts
+known_anew : (facts : FactTable) (layer : List ℕ) (known : Known) (feeds : Feeds) (images : Images) (q : List ℕ) (layers : List (List ℕ)) → has_facts facts layer ≡ false
+    → value_at images q ≡ Some layers
+    → cond (has_text (users_of images layer) q && waits_for layer (outcome_at facts feeds layers)) (Some (outcome_at (with_value facts layer known) feeds layers))
+    (Some (outcome_at facts feeds layers))
+    ≡ Some (outcome_at (with_value facts layer known) feeds layers)
+known_anew facts layer known feeds images q layers new found = by_named (has_text layers layer) refl where
+  user : Bool
+  user = has_text (users_of images layer) q
+
+  before : Outcome
+  before = outcome_at facts feeds layers
+
+  after : Outcome
+  after = outcome_at (with_value facts layer known) feeds layers
+
+  by_waits : (w : Bool) → waits_for layer before ≡ w → user ≡ true → cond (user && waits_for layer before) (Some after) (Some before) ≡ Some after
+  by_waits true waits is = ap (λ b. cond (b && waits_for layer before) (Some after) (Some before)) is ∙ ap (λ b. cond b (Some after) (Some before)) waits
+  by_waits false waits is = either (user && waits_for layer before) (Some after) (Some before) (ap Some (fresh facts layer known feeds layers new waits))
+
+  by_named : (b : Bool) → has_text layers layer ≡ b → cond (user && waits_for layer before) (Some after) (Some before) ≡ Some after
+  by_named true named = by_waits (waits_for layer before) refl (is_user images layer q layers found named)
+  by_named false named = either (user && waits_for layer before) (Some after) (Some before) (ap Some (unnamed facts layer known feeds layers named))
+
+-- the outcomes made anew are those with the new facts
+pub all_known : (facts : FactTable) (layer : List ℕ) (known : Known) (feeds : Feeds) (images : Images) (outcomes : Outcomes) → IsStrictlySortedBy text_cmp (keys_of images)
+    → has_facts facts layer ≡ false → outcomes ≡ map_values (outcome_at facts feeds) images
+    → all_renewed (outcome_at (with_value facts layer known) feeds) images layer outcomes (users_of images layer)
+    ≡ map_values (outcome_at (with_value facts layer known) feeds) images
+all_known facts layer known feeds images outcomes sorted new shown =
+    same_entries nat_list_cmp_total exact_bytes after (map_values made images)
+    (all_sorted made images layer outcomes (users_of images layer) (subst (IsStrictlySortedBy text_cmp) (sym same_before) sorted))
+    (subst (IsStrictlySortedBy text_cmp) (sym (mapped_keys made images)) sorted) (λ q. by_found q (value_at images q) refl) where
+      made : List (List ℕ) → Outcome
+      made = outcome_at (with_value facts layer known) feeds
+
+      after : Outcomes
+      after = all_renewed made images layer outcomes (users_of images layer)
+
+      same_before : keys_of outcomes ≡ keys_of images
+      same_before = ap (λ (o : Outcomes). keys_of o) shown ∙ mapped_keys (outcome_at facts feeds) images
+
+      had : (q : List ℕ) → value_at outcomes q ≡ option_map (outcome_at facts feeds) (value_at images q)
+      had q = ap (λ (o : Outcomes). value_at o q) shown ∙ mapped_at text_cmp (outcome_at facts feeds) images q
+
+      by_found : (q : List ℕ) (found : Option (List (List ℕ))) → value_at images q ≡ found → value_at after q ≡ value_at (map_values made images) q
+      by_found q None is =
+          all_none made images layer outcomes (users_of images layer) q (had q ∙ ap (option_map (outcome_at facts feeds)) is)
+          ∙ sym (mapped_at text_cmp made images q ∙ ap (option_map made) is)
+      by_found q (Some layers) is =
+          all_at made images layer outcomes (users_of images layer) q layers is
+          ∙ ap (λ (o : Option Outcome). cond (has_text (users_of images layer) q && is_waiting layer o) (Some (made layers)) o)
+          (had q ∙ ap (option_map (outcome_at facts feeds)) is)
+          ∙ known_anew facts layer known feeds images q layers new is ∙ sym (mapped_at text_cmp made images q ∙ ap (option_map made) is)

@@ -1,0 +1,16 @@
+use Rattle.std.proofs.Common.{sym}
+use Rattle.cv_core_inventory.proofs.KeptLemmas.{alike_now, with_image_now}
+use Rattle.cv_core_inventory.proofs.LeadLemmas.{register_adds, register_stays}
+use Rattle.cv_core_inventory.proofs.inventory.Inventory.register.Goals as goal
+
+pub added-requires-clause-registered : goal.added-requires-clause-registered
+added-requires-clause-registered g c =
+    let inside = c.self.inside in let after = c.in_ok-registry.registry in
+    with_image_now inside.registry after inside.knowledge.feeds c.args.self.now c.args.manifest.now.hash c.args.manifest.now.layers c.self.view_is
+    (register_adds inside.registry after c.args.manifest.now c.in_ok-registry.reply c.in_ok-registry.ensures (sym c.if-is_registered.ensures))
+
+pub with_registry-requires : goal.with_registry-requires
+with_registry-requires g c =
+    let inside = c.self.inside in let after = c.in_ok-registry.registry in
+    alike_now inside.registry after inside.knowledge.feeds c.args.self.now c.self.view_is
+    (register_stays inside.registry after c.args.manifest.now c.in_ok-registry.reply c.in_ok-registry.ensures (sym c.if-is_registered.ensures))

@@ -1,0 +1,63 @@
+-- How knowledge changes when an image is registered or dropped, a layer is indexed, or a feed is updated (defined by this project).
+use Rattle.std.specs.Prelude.{ℕ, Bool, false, if◌then◌else◌, List, [], ◌∷◌, Option, Some, None}
+use Rattle.std.specs.Option.{is_some}
+use Rattle.cv_advdb.specs.Feeds.{FeedTable}
+use Rattle.cv_facts.specs.Reduction.{Known}
+use Rattle.cv_core_machine.specs.State.{Images, Layers, value_at, with_value, without_value}
+use Rattle.cv_core_outcome.specs.Facts.{waits_for}
+use Rattle.cv_core_outcome.specs.Outcome.{FactTable, outcome_at}
+use Rattle.cv_core_outcome.specs.Update.{rematched}
+use Rattle.cv_core_outcome.specs.declared.outcome.Outcome.{Outcome}
+use Rattle.cv_core_registry.specs.Registrations.{users_of}
+use Rattle.cv_tree.specs.Entries.{remade_entries}
+use Rattle.cv_core_inventory.specs.Knowledge.{KnowledgeView, Outcomes}
+
+-- the facts without that of a layer, if it is not in the table
+abbrev pub remaining_after : FactTable → List ℕ → Layers → FactTable
+remaining_after facts layer table = if is_some (value_at table layer) then facts else without_value facts layer
+
+-- the same for several layers
+abbrev pub remaining_facts : FactTable → List (List ℕ) → Layers → FactTable
+remaining_facts facts [] table = facts
+remaining_facts facts (layer ∷ layers) table = remaining_facts (remaining_after facts layer table) layers table
+
+-- there is an outcome, and it waits for a layer
+abbrev pub is_waiting : List ℕ → Option Outcome → Bool
+is_waiting layer None = false
+is_waiting layer (Some outcome) = waits_for layer outcome
+
+-- the outcomes with that of an image of these layers, if it is registered
+abbrev pub with_outcome : (List (List ℕ) → Outcome) → Outcomes → List ℕ → Option (List (List ℕ)) → Outcomes
+with_outcome made outcomes image None = outcomes
+with_outcome made outcomes image (Some layers) = with_value outcomes image (made layers)
+
+-- the outcomes with that of an image made anew, if it waits for a layer
+abbrev pub renewed : (List (List ℕ) → Outcome) → Images → List ℕ → Outcomes → List ℕ → Outcomes
+renewed made images layer outcomes image =
+    if is_waiting layer (value_at outcomes image) then with_outcome made outcomes image (value_at images image) else outcomes
+
+-- the same for several images
+abbrev pub all_renewed : (List (List ℕ) → Outcome) → Images → List ℕ → Outcomes → List (List ℕ) → Outcomes
+all_renewed made images layer outcomes [] = outcomes
+all_renewed made images layer outcomes (image ∷ users) = all_renewed made images layer (renewed made images layer outcomes image) users
+
+-- a new image of these layers has its outcome
+abbrev pub image_added : KnowledgeView → List ℕ → List (List ℕ) → KnowledgeView
+image_added k image layers = record k { outcomes = with_value k.outcomes image (outcome_at k.facts k.feeds.feeds layers) }
+
+-- an image of these layers has no outcome any more, and those of its layers that are not in the table have no facts
+abbrev pub image_dropped : KnowledgeView → List ℕ → List (List ℕ) → Layers → KnowledgeView
+image_dropped k image layers table = record k { facts = remaining_facts k.facts layers table; outcomes = without_value k.outcomes image }
+
+-- a layer has these facts, and of the images those that wait for it have their outcomes made anew
+abbrev pub layer_indexed : KnowledgeView → Known → Images → KnowledgeView
+layer_indexed k known images =
+    let facts : FactTable = with_value k.facts known.digest known in
+    record k {
+      facts = facts;
+      outcomes = all_renewed (outcome_at facts k.feeds.feeds) images known.digest k.outcomes (users_of images known.digest);
+    }
+
+-- the outcomes are those with other feeds
+abbrev pub feeds_replaced : KnowledgeView → FeedTable → KnowledgeView
+feeds_replaced k feeds = record k { outcomes = remade_entries (λ _. rematched feeds.feeds) k.outcomes; feeds = feeds }

@@ -1,0 +1,85 @@
+ghost use Rattle.std.specs.Prelude.{◌≡◌, ◌≤◌, length, IfOk};
+ghost use Rattle.cv_base.specs.declared.limits.TheConstants.{MAX_LAYERS};
+ghost use Rattle.cv_core_machine.specs.Step.{drop_image, register};
+ghost use Rattle.cv_core_inventory.specs.Holdings.{Leads, feed_table};
+ghost use Rattle.cv_core_inventory.specs.code.Kept.{holdings_of, registrations, with_image, without_image};
+
+use crate::inventory::Inventory;
+use crate::replies::is_registered;
+use cv_base::{Digest, Manifest, NoMemory, Steps};
+use cv_core_records::Replied;
+use cv_core_registry::Registry;
+use cv_desk::Desk;
+use std::alloc::Global;
+use std::sync::ledger::Ledger;
+
+impl<D: Desk + Drop> Inventory<D> {
+    /// Registers an image: `Already` if it is registered with these layers, `Conflict` with its layers if with others,
+    /// `TooManyImages` if there are as many images as may be. After `Registered` its layers that were not known wait for a worker.
+    /// The time is that of its layers and of matching its packages, whatever else is registered.
+    pub fn register<L: Ledger>(
+        &self,
+        alloc: Global,
+        manifest: &Manifest,
+        steps: &mut Steps<L>,
+    ) -> Replied<Inventory<D>>
+        requires at_most_128_layers { length manifest.now.layers ≤ MAX_LAYERS }
+        ensures { IfOk result (Leads (λ state. register state manifest.now) self.now) }
+    {
+        let (registry, reply) = self.registry.register(alloc, manifest)?;
+        if is_registered(&reply) {
+            return Ok((self.added(alloc, registry, manifest, steps)?, reply));
+        }
+        Ok((self.with_registry(registry)?, reply))
+    }
+
+    /// Drops an image: `NotRegistered` if it is not registered, or else `Dropped`. Its layers that no other image names go, but
+    /// for those that are claimed. The time is that of its layers, whatever else is registered.
+    pub fn drop_image(&self, alloc: Global, image: &Digest) -> Replied<Inventory<D>>
+        ensures { IfOk result (Leads (λ state. drop_image state image.now) self.now) }
+    {
+        let (registry, reply) = self.registry.drop_image(alloc, image)?;
+        match self.registry.layers_of(image) {
+            None => Ok((self.with_registry(registry)?, reply)),
+            Some(layers) => Ok((self.dropped(alloc, registry, image, layers)?, reply)),
+        }
+    }
+
+    /// The inventory with a new image, which the registry has.
+    fn added<L: Ledger>(
+        &self,
+        alloc: Global,
+        registry: Registry,
+        manifest: &Manifest,
+        steps: &mut Steps<L>,
+    ) -> Result<Inventory<D>, NoMemory>
+        requires at_most_128_layers { length manifest.now.layers ≤ MAX_LAYERS }
+        requires registered { registry ≡ with_image (registrations self.now) manifest.now.hash manifest.now.layers }
+        ensures { IfOk result (λ after. after ≡ holdings_of registry (feed_table self.now)) }
+    {
+        let layers = manifest.layers.as_slice();
+        let knowledge = self
+            .knowledge
+            .with_image(alloc, &manifest.hash, layers, steps)?;
+        Ok(Inventory::of(registry, knowledge))
+    }
+
+    /// The inventory without an image of these layers, which the registry does not have.
+    fn dropped(
+        &self,
+        alloc: Global,
+        registry: Registry,
+        image: &Digest,
+        layers: &[Digest],
+    ) -> Result<Inventory<D>, NoMemory>
+        requires { registry ≡ without_image (registrations self.now) image.now layers.now }
+        ensures { IfOk result (λ after. after ≡ holdings_of registry (feed_table self.now)) }
+    {
+        self.registry.regular_law();
+        self.knowledge.sorted_law();
+        let knowledge = self
+            .knowledge
+            .without_image(alloc, image, layers, &registry)?;
+        Ok(Inventory::of(registry, knowledge))
+    }
+}

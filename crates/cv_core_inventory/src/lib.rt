@@ -1,0 +1,26 @@
+//! The images of a service with their layers and the feeds, and the outcome of each image, which is kept: a report is read without
+//! matching. An event makes a new inventory that shares the rest with the old one, which stays as it was. `specs/Holdings.antt` says
+//! what an inventory holds, and each event is proved to be that of the machine in `cv_core_machine`.
+//!
+//! ```text
+//! let (inventory, reply) = inventory.register(alloc, &manifest, &mut steps)?;
+//! let (inventory, reply) = inventory.claim(alloc, &layer, worker)?;
+//! let (inventory, reply) = inventory.index(alloc, facts, worker, &mut steps)?;
+//! ```
+#![tactic(auto)]
+
+mod images;
+mod inventory;
+mod knowledge;
+mod known_images;
+mod known_layers;
+mod known_update;
+mod layers;
+mod parts;
+mod reads;
+mod renew;
+mod replies;
+mod update;
+
+pub use inventory::Inventory;
+pub use knowledge::Outcomes;

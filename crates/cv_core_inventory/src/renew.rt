@@ -1,0 +1,100 @@
+ghost use Rattle.std.specs.Prelude.{◌≡◌, IfOk};
+ghost use Rattle.cv_core_machine.specs.State.{value_at};
+ghost use Rattle.cv_core_outcome.specs.Facts.{waits_for};
+ghost use Rattle.cv_core_outcome.specs.Outcome.{outcome_at};
+ghost use Rattle.cv_core_inventory.specs.Changes.{all_renewed, is_waiting, renewed, with_outcome};
+ghost use Rattle.cv_core_inventory.specs.Knowledge.{HaveAtMost128Layers};
+
+use crate::knowledge::{Facts, Knowledge, Outcomes};
+use cv_base::{Digest, NoMemory, Steps};
+use cv_core_outcome::{Outcome, outcome_of};
+use cv_core_registry::Registry;
+use cv_desk::Desk;
+use cv_tree::Share;
+use std::alloc::Global;
+use std::sync::ledger::Ledger;
+
+impl<D: Desk + Drop> Knowledge<D> {
+    /// The outcomes, with those of these images made anew from facts where they wait for a layer.
+    pub(crate) fn all_renewed<L: Ledger>(
+        &self,
+        alloc: Global,
+        facts: &Facts<D>,
+        registry: &Registry,
+        images: &[Digest],
+        layer: &Digest,
+        steps: &mut Steps<L>,
+    ) -> Result<Outcomes, NoMemory>
+        requires at_most_128_layers { HaveAtMost128Layers registry.now.images }
+        ensures { IfOk result (λ after. after ≡ all_renewed (outcome_at facts.now self.now.feeds.feeds) registry.now.images layer.now self.now.outcomes images.now) }
+    {
+        let mut outcomes = self.outcomes.share()?;
+        for image in images {
+            let next = self.renewed(alloc, facts, registry, &outcomes, image, layer, steps)?;
+            outcomes = next;
+        }
+        Ok(outcomes)
+    }
+
+    /// The outcomes, with that of an image made anew if it waits for a layer.
+    fn renewed<L: Ledger>(
+        &self,
+        alloc: Global,
+        facts: &Facts<D>,
+        registry: &Registry,
+        outcomes: &Outcomes,
+        image: &Digest,
+        layer: &Digest,
+        steps: &mut Steps<L>,
+    ) -> Result<Outcomes, NoMemory>
+        requires at_most_128_layers { HaveAtMost128Layers registry.now.images }
+        ensures { IfOk result (λ after. after ≡ renewed (outcome_at facts.now self.now.feeds.feeds) registry.now.images layer.now outcomes.now image.now) }
+    {
+        if !is_waiting(outcomes, image, layer) {
+            return outcomes.share();
+        }
+        self.with_outcome(alloc, facts, registry, outcomes, image, steps)
+    }
+
+    /// The outcomes, with that of an image made anew if it is registered.
+    fn with_outcome<L: Ledger>(
+        &self,
+        alloc: Global,
+        facts: &Facts<D>,
+        registry: &Registry,
+        outcomes: &Outcomes,
+        image: &Digest,
+        steps: &mut Steps<L>,
+    ) -> Result<Outcomes, NoMemory>
+        requires at_most_128_layers { HaveAtMost128Layers registry.now.images }
+        ensures { IfOk result (λ after. after ≡ with_outcome (outcome_at facts.now self.now.feeds.feeds) outcomes.now image.now (value_at registry.now.images image.now)) }
+    {
+        match registry.layers_of(image) {
+            None => outcomes.share(),
+            Some(layers) => {
+                let outcome = outcome_of(alloc, facts, self.feeds.value(), layers, steps)?;
+                outcomes.set(alloc, *image, outcome)
+            }
+        }
+    }
+}
+
+/// Whether an image has an outcome that waits for a layer.
+fn is_waiting(outcomes: &Outcomes, image: &Digest, layer: &Digest) -> bool
+    ensures { result ≡ is_waiting layer.now (value_at outcomes.now image.now) }
+{
+    match outcomes.get(image) {
+        None => false,
+        Some(outcome) => waits_for(outcome, layer),
+    }
+}
+
+/// Whether an outcome waits for a layer.
+fn waits_for(outcome: &Outcome, layer: &Digest) -> bool
+    ensures { result ≡ waits_for layer.now outcome.now }
+{
+    match outcome {
+        Outcome::Pending(other) => *other == *layer,
+        _ => false,
+    }
+}

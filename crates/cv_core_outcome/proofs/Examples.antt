@@ -1,0 +1,63 @@
+-- Worked examples of outcomes.
+use Rattle.std.specs.Prelude.{◌≡◌, ℕ, true, false, List, [], ◌∷◌, Some, None, refl}
+use Rattle.cv_facts.specs.Reduction.{Known}
+use Rattle.cv_facts.specs.declared.reduction.Shape.TheVariants.{NoLayer}
+use Rattle.cv_match.specs.Findings.{findings}
+use Rattle.cv_overlay.specs.declared.fault.ImageFault.TheVariants as fault
+use Rattle.cv_core_records.specs.declared.read.ReportOutcome.TheVariants as report
+use Rattle.cv_core_outcome.specs.Facts.{pending_layer, waits_for}
+use Rattle.cv_core_outcome.specs.Outcome.{FactTable, first_unknown, known_layers, outcome_at}
+use Rattle.cv_core_outcome.specs.Truth.{report_with}
+use Rattle.cv_core_outcome.specs.Update.{rematched, update_rows}
+use Rattle.cv_core_outcome.specs.declared.outcome.Outcome.TheVariants.{Bad, Good, Pending}
+
+-- digests
+one : List ℕ
+one = 1 ∷ []
+
+two : List ℕ
+two = 2 ∷ []
+
+three : List ℕ
+three = 3 ∷ []
+
+missing : Known
+missing = record { digest = 2 ∷ []; shape = NoLayer }
+
+-- the facts of one layer
+facts : FactTable
+facts = (2 ∷ [], missing) ∷ []
+
+-- the first layer without facts is named, and facts are taken layer by layer
+first : first_unknown facts (two ∷ three ∷ one ∷ []) ≡ Some three
+unfolding facts one two three
+first = refl
+
+twice : known_layers facts (two ∷ one ∷ two ∷ []) ≡ missing ∷ missing ∷ []
+unfolding facts one two
+twice = refl
+
+-- such an image waits for this layer, whatever comes after it
+pending : outcome_at facts [] (two ∷ three ∷ one ∷ []) ≡ Pending three
+unfolding facts one two three
+pending = refl
+
+waiting : (waits_for three (Pending three) ≡ true) × (waits_for one (Pending three) ≡ false)
+unfolding one three
+waiting = (refl, refl)
+
+-- an image that has a fault or packages waits for no layer
+waiting_for : (pending_layer (Pending three) ≡ Some three) × (pending_layer (Bad (fault.NoLayer 1)) ≡ None) × (pending_layer (Good [] []) ≡ None)
+waiting_for = (refl, refl, refl)
+
+-- an update leaves an image without packages as it is, and adds no row about it
+unchanged : (rematched [] (Bad (fault.NoLayer 1)) ≡ Bad (fault.NoLayer 1)) × (update_rows [] one (Pending three) ≡ [])
+unchanged = (refl, refl)
+
+-- an image without packages has no findings before and after it
+empty : rematched [] (Good [] []) ≡ Good [] (findings [] [])
+empty = refl
+
+-- the generation is that of the report
+reported : (report_with 7 (Good [] []) ≡ report.Good 7 []) × (report_with 7 (Pending one) ≡ report.Pending one)
+reported = (refl, refl)

@@ -1,0 +1,5 @@
+pub mod EventLemmas
+mod Examples
+pub mod ListLemmas
+pub mod TableLemmas
+pub mod UserLemmas

@@ -1,0 +1,45 @@
+-- Parts of a walk through real folders, and what the desk answers, counts and keeps after it.
+use Rattle.std.specs.Prelude.{ℕ, ◌≤◌, Bool, true, false, List, [], ◌∷◌, ◌++◌, length, Option, Some, Result, Ok, Err}
+use Rattle.cv_seq.specs.Cause.{next_count}
+use Rattle.cv_desk.specs.declared.desk.DeskFault.{DeskFault}
+use Rattle.cv_desk.specs.declared.desk.DeskFault.TheVariants as desk
+use Rattle.cv_desk.specs.declared.desk.FileRead.{FileRead}
+use Rattle.cv_desk.specs.declared.desk.FileRead.TheVariants.{Bytes, TooLarge, NotFile}
+use Rattle.cv_desk_folder.specs.declared.failure.FolderError.{FolderError}
+use Rattle.cv_desk_folder.specs.declared.failure.FolderError.TheVariants as error
+use Rattle.cv_desk_folder.specs.declared.failure.FolderFailure.{FolderFailure}
+
+-- two parts of a path with a slash between them; an empty part adds nothing
+abbrev pub joined : List ℕ → List ℕ → List ℕ
+joined [] back = back
+joined (f ∷ front) [] = f ∷ front
+joined (f ∷ front) (b ∷ back) = (f ∷ front) ++ 47 ∷ b ∷ back
+
+-- the folders failed, and not only memory
+abbrev pub is_failure : FolderError → Bool
+is_failure (error.Failed failure) = true
+is_failure error.NoMemory = false
+
+-- the desk's answer to what its folders gave
+abbrev pub desk_answer : {X : Type 0} → Result X FolderError → Result X DeskFault
+desk_answer (Ok found) = Ok found
+desk_answer (Err (error.Failed failure)) = Err desk.Failed
+desk_answer (Err error.NoMemory) = Err desk.NoMemory
+
+-- how often the folders failed, after an answer
+abbrev pub faults_after : {X : Type 0} → ℕ → Result X FolderError → ℕ
+faults_after faults (Ok found) = faults
+faults_after faults (Err (error.Failed failure)) = next_count faults
+faults_after faults (Err error.NoMemory) = faults
+
+-- the last failure, after an answer
+abbrev pub failure_after : {X : Type 0} → Option FolderFailure → Result X FolderError → Option FolderFailure
+failure_after last (Ok found) = last
+failure_after last (Err (error.Failed failure)) = Some failure
+failure_after last (Err error.NoMemory) = last
+
+-- at most so many bytes were read
+abbrev pub IsWithin : ℕ → FileRead → Type 0
+IsWithin limit (Bytes bytes) = length bytes ≤ limit
+IsWithin limit TooLarge = Unit {0}
+IsWithin limit NotFile = Unit {0}

@@ -1,0 +1,369 @@
+ghost use Rattle.std.specs.Prelude.{◌≡◌, ◌≢◌, ◌≤◌, ◌<◌, ◌+◌, ◌++◌, ◌∷◌, [], true, false, is_some, length, string_bytes, IfOk, IfErr, IfSome, IsErr, OnOk, Ok, Some, None};
+ghost use Rattle.std.specs.Fs.{IsDir, IsFile, dir_entry_name, file_type, metadata_len};
+ghost use Rattle.std.specs.List.Sorted.{IsPermutation, IsSortedByKey};
+ghost use Rattle.std.specs.IoError.{error_kind};
+ghost use Rattle.cv_base.specs.Path.{path_cmp, path_of, path_text};
+ghost use Rattle.cv_desk_folder.specs.Folder.{folder_text, most_entries};
+ghost use Rattle.cv_desk.specs.Stored.{File, file_read};
+ghost use Rattle.cv_desk_folder.specs.code.Walked.{IsWithin, is_failure, joined};
+
+use crate::failure::{FolderError, FolderFailure};
+use cv_base::{Digest, Kind, ListEntry, MAX_ENTRIES, NoMemory, PathError, RelPath, Seq};
+use cv_desk::FileRead;
+use std::alloc::Global;
+use std::fs::{self, DirEntry, Metadata, ReadDir};
+use std::io::{self, ErrorKind};
+use std::rt::Files;
+
+/// A walk ends after so many entries: one more than a layer may have.
+const MOST_ENTRIES: usize = MAX_ENTRIES + 1;
+
+/// Lists the entries below a layer's folder in the order of their paths, or says that there is no such folder.
+pub fn list_folder<R: Files + AllocGlobal + Clone + Drop>(
+    rt: &R,
+    alloc: Global,
+    layer: &Digest,
+) -> Result<Option<Seq<ListEntry>>, FolderError>
+    ensures sorted { IfOk result (λ found. IfSome found (λ entries. IsSortedByKey (λ entry. entry.path) path_cmp entries)) }
+    ensures at_most { IfOk result (λ found. IfSome found (λ entries. length entries ≤ most_entries)) }
+{
+    let folder = folder_of(alloc, layer)?;
+    let found = rt.symlink_metadata(folder.as_str());
+    list_found(rt, alloc, folder.as_str(), found)
+}
+
+/// Lists the entries below a layer's folder, by the system's answer about it.
+fn list_found<R: Files + AllocGlobal + Clone + Drop>(
+    rt: &R,
+    alloc: Global,
+    folder: &str,
+    found: io::Result<Metadata>,
+) -> Result<Option<Seq<ListEntry>>, FolderError>
+    ensures folder { IfOk found (λ at. IsDir (file_type at) → IfOk result (λ entries. is_some entries ≡ true)) }
+    ensures no_folder { IfOk found (λ at. ¬ IsDir (file_type at) → IsErr result) }
+    ensures absent { IfErr found (λ error. error_kind error ≡ ErrorKind.NotFound → result ≡ Ok None) }
+    ensures error { IfErr found (λ error. error_kind error ≢ ErrorKind.NotFound → IsErr result) }
+    ensures sorted { IfOk result (λ found. IfSome found (λ entries. IsSortedByKey (λ entry. entry.path) path_cmp entries)) }
+    ensures at_most { IfOk result (λ found. IfSome found (λ entries. length entries ≤ most_entries)) }
+{
+    if !is_layer(alloc, folder, found)? {
+        return Ok(None);
+    }
+    let mut entries = walk(rt, alloc, folder)?;
+    sort(&mut entries);
+    Ok(Some(Seq::of(entries)))
+}
+
+/// Whether there is a layer, by the system's answer about its folder.
+fn is_layer(alloc: Global, folder: &str, found: io::Result<Metadata>) -> Result<bool, FolderError>
+    ensures folder { IfOk found (λ at. IsDir (file_type at) → result ≡ Ok true) }
+    ensures no_folder { IfOk found (λ at. ¬ IsDir (file_type at) → IsErr result) }
+    ensures absent { IfErr found (λ error. error_kind error ≡ ErrorKind.NotFound → result ≡ Ok false) }
+    ensures error { IfErr found (λ error. error_kind error ≢ ErrorKind.NotFound → IsErr result) }
+{
+    match found {
+        Ok(found) => {
+            if found.is_dir() {
+                return Ok(true);
+            }
+            let reason = io::Error::from(ErrorKind::NotADirectory);
+            Err(failure(alloc, folder, reason))
+        }
+        Err(error) => {
+            if error.kind() == ErrorKind::NotFound {
+                return Ok(false);
+            }
+            Err(failure(alloc, folder, error))
+        }
+    }
+}
+
+/// The folder of a layer.
+fn folder_of(alloc: Global, layer: &Digest) -> Result<String, NoMemory>
+    ensures { IfOk result (λ folder. string_bytes folder ≡ folder_text layer.now) }
+{
+    let mut folder = String::from_str(alloc, "layers/sha256/")?;
+    folder.push_str(hex::encode(alloc, layer.bytes())?.as_str())?;
+    Ok(folder)
+}
+
+/// Sorts entries by their paths.
+#[tactic(auto, using(crate::proofs::Walks::sorted_by_key))]
+fn sort(entries: &mut Vec<ListEntry>)
+    ensures sorted { IsSortedByKey (λ entry. entry.path) path_cmp entries.new.items }
+    ensures permutation { IsPermutation entries.old.items entries.new.items }
+    ensures count { length entries.new.items ≡ length entries.old.items }
+{
+    entries.sort_unstable();
+}
+
+/// The entries below a folder, in no order.
+fn walk<R: Files + AllocGlobal + Clone + Drop>(
+    rt: &R,
+    alloc: Global,
+    folder: &str,
+) -> Result<Vec<ListEntry>, FolderError>
+    ensures { IfOk result (λ entries. length entries.items ≤ most_entries) }
+{
+    let mut entries = Vec::new(alloc);
+    let mut folders = Vec::new(alloc);
+    folders.push(RelPath::top())?;
+    list_all(rt, alloc, folder, &mut entries, &mut folders)?;
+    Ok(entries)
+}
+
+/// Lists folders and the folders in them, until none remains or the walk has as many entries as it may have.
+fn list_all<R: Files + AllocGlobal + Clone + Drop>(
+    rt: &R,
+    alloc: Global,
+    folder: &str,
+    entries: &mut Vec<ListEntry>,
+    folders: &mut Vec<RelPath>,
+) -> Result<(), FolderError>
+    requires room { length entries.old.items < most_entries }
+    ensures at_most { OnOk result (length entries.new.items ≤ most_entries) }
+    ensures whole { OnOk result (length entries.new.items < most_entries → folders.new.items ≡ []) }
+{
+    while let Some(path) = folders.pop() {
+        if !list_one(rt, alloc, folder, &path, entries, folders)? {
+            break;
+        }
+    }
+    Ok(())
+}
+
+/// Adds the entries directly in one folder of a layer, and its folders to those that remain to be listed. Returns whether the walk goes
+/// on; else it has as many entries as it may have.
+fn list_one<R: Files + AllocGlobal + Clone + Drop>(
+    rt: &R,
+    alloc: Global,
+    folder: &str,
+    path: &RelPath,
+    entries: &mut Vec<ListEntry>,
+    folders: &mut Vec<RelPath>,
+) -> Result<bool, FolderError>
+    requires room { length entries.old.items < most_entries }
+    ensures at_most { OnOk result (length entries.new.items ≤ most_entries) }
+    ensures more { OnOk result (length entries.old.items ≤ length entries.new.items) }
+    ensures folders { OnOk result (length folders.new.items + length entries.old.items ≤ length folders.old.items + length entries.new.items) }
+    ensures full { IfOk result (λ goes_on. goes_on ≡ false → length entries.new.items ≡ most_entries) }
+    ensures room { IfOk result (λ goes_on. goes_on ≡ true → length entries.new.items < most_entries) }
+{
+    let place = joined(alloc, folder, path.text())?;
+    let found = fs::read_dir(rt, place.as_str());
+    add_found(alloc, place.as_str(), path, found, entries, folders)
+}
+
+/// Adds the entries that the system found in the folder at `place`, which is `path` in the layer, as `list_one` does.
+fn add_found<R: Files + Clone + Drop>(
+    alloc: Global,
+    place: &str,
+    path: &RelPath,
+    found: io::Result<ReadDir<R>>,
+    entries: &mut Vec<ListEntry>,
+    folders: &mut Vec<RelPath>,
+) -> Result<bool, FolderError>
+    requires room { length entries.old.items < most_entries }
+    ensures error { IfErr found (λ error. IsErr result) }
+    ensures at_most { OnOk result (length entries.new.items ≤ most_entries) }
+    ensures more { OnOk result (length entries.old.items ≤ length entries.new.items) }
+    ensures folders { OnOk result (length folders.new.items + length entries.old.items ≤ length folders.old.items + length entries.new.items) }
+    ensures full { IfOk result (λ goes_on. goes_on ≡ false → length entries.new.items ≡ most_entries) }
+    ensures room { IfOk result (λ goes_on. goes_on ≡ true → length entries.new.items < most_entries) }
+{
+    for entry in answer_at(alloc, place, found)? {
+        let entry = read_entry(alloc, place, path, entry)?;
+        add(entries, folders, entry)?;
+        if entries.len() >= MOST_ENTRIES {
+            return Ok(false);
+        }
+    }
+    Ok(true)
+}
+
+/// Adds an entry, and its path to the folders if it is one.
+fn add(
+    entries: &mut Vec<ListEntry>,
+    folders: &mut Vec<RelPath>,
+    entry: ListEntry,
+) -> Result<(), FolderError>
+    ensures entries { OnOk result (entries.new.items ≡ entries.old.items ++ entry ∷ []) }
+    ensures folder { OnOk result (entry.kind ≡ Kind.Dir → folders.new.items ≡ folders.old.items ++ entry.path ∷ []) }
+    ensures other { OnOk result (entry.kind ≢ Kind.Dir → folders.new.items ≡ folders.old.items) }
+    ensures count { OnOk result (length entries.new.items ≡ length entries.old.items + 1) }
+    ensures at_most { OnOk result (length folders.new.items ≤ length folders.old.items + 1) }
+{
+    if entry.kind == Kind::Dir {
+        folders.push(entry.path.clone()?)?;
+    }
+    entries.push(entry)?;
+    Ok(())
+}
+
+/// The layer's entry for what the system found in the folder at `path`. `place` names the folder in a failure.
+fn read_entry<R: Files + Drop>(
+    alloc: Global,
+    place: &str,
+    path: &RelPath,
+    found: io::Result<DirEntry<R>>,
+) -> Result<ListEntry, FolderError>
+    ensures path { IfOk found (λ entry. IfOk result (λ listed. path_of (joined (path_text path.now) (dir_entry_name entry)) ≡ Ok listed.path)) }
+    ensures error { IfErr found (λ error. IsErr result) }
+{
+    let entry = answer_at(alloc, place, found)?;
+    let name = joined(alloc, path.text(), entry.file_name())?;
+    let found = entry.metadata();
+    listed(alloc, entry.path().as_str(), name.as_str(), found)
+}
+
+/// The entry at a path of a layer, by the system's answer about it. `place` names it in a failure.
+fn listed(
+    alloc: Global,
+    place: &str,
+    name: &str,
+    found: io::Result<Metadata>,
+) -> Result<ListEntry, FolderError>
+    ensures error { IfErr found (λ error. IsErr result) }
+    ensures path { IfOk result (λ entry. path_of name.now ≡ Ok entry.path) }
+    ensures dir { IfOk found (λ at. IfOk result (λ entry. IsDir (file_type at) → (entry.kind ≡ Kind.Dir) × (entry.size ≡ 0))) }
+    ensures file { IfOk found (λ at. IfOk result (λ entry. IsFile (file_type at) → (entry.kind ≡ Kind.File) × (entry.size ≡ metadata_len at))) }
+    ensures other { IfOk found (λ at. IfOk result (λ entry. ¬ IsDir (file_type at) → ¬ IsFile (file_type at) → (entry.kind ≡ Kind.Other) × (entry.size ≡ 0))) }
+    ensures refused { IfOk found (λ at. IfErr result (λ error. is_failure error ≡ true → IsErr (path_of name.now))) }
+{
+    let metadata = answer_at(alloc, place, found)?;
+    let path = match RelPath::read(alloc, name) {
+        Ok(path) => path,
+        Err(PathError::NoMemory) => return Err(FolderError::NoMemory),
+        Err(PathError::Empty | PathError::TooLong | PathError::BadComponent) => {
+            let reason = io::Error::from(ErrorKind::InvalidFilename);
+            return Err(failure(alloc, place, reason));
+        }
+    };
+    let (kind, size) = if metadata.is_dir() {
+        (Kind::Dir, 0)
+    } else if metadata.is_file() {
+        (Kind::File, metadata.len())
+    } else {
+        (Kind::Other, 0)
+    };
+    Ok(ListEntry { path, kind, size })
+}
+
+/// Reads a file of a layer, if it has at most `limit` bytes.
+pub fn read_file<R: Files + AllocGlobal + Clone + Drop>(
+    rt: &R,
+    alloc: Global,
+    layer: &Digest,
+    path: &RelPath,
+    limit: u32,
+) -> Result<FileRead, FolderError>
+    ensures { IfOk result (λ read. IsWithin limit read) }
+{
+    let place = place_of(alloc, layer, path)?;
+    let found = rt.symlink_metadata(place.as_str());
+    read_at(rt, alloc, place.as_str(), found, limit)
+}
+
+/// Reads the file at `place`, by the system's answer about it, if it has at most `limit` bytes.
+fn read_at<R: Files + AllocGlobal + Clone + Drop>(
+    rt: &R,
+    alloc: Global,
+    place: &str,
+    found: io::Result<Metadata>,
+    limit: u32,
+) -> Result<FileRead, FolderError>
+    ensures error { IfErr found (λ error. IsErr result) }
+    ensures not_file { IfOk found (λ at. ¬ IsFile (file_type at) → result ≡ Ok FileRead.NotFile) }
+    ensures too_large { IfOk found (λ at. IsFile (file_type at) → limit < metadata_len at → result ≡ Ok FileRead.TooLarge) }
+    ensures within { IfOk result (λ read. IsWithin limit read) }
+{
+    if let Some(refused) = refused(alloc, place, found, limit)? {
+        return Ok(refused);
+    }
+    let found = fs::read(rt, place);
+    read_found(alloc, place, found, limit)
+}
+
+/// The path of a layer's entry below the working directory.
+fn place_of(alloc: Global, layer: &Digest, path: &RelPath) -> Result<String, NoMemory>
+    ensures { IfOk result (λ place. string_bytes place ≡ joined (folder_text layer.now) (path_text path.now)) }
+{
+    let folder = folder_of(alloc, layer)?;
+    joined(alloc, folder.as_str(), path.text())
+}
+
+/// Why the file at `place` is not read, by the system's answer about it, if it is not.
+fn refused(
+    alloc: Global,
+    place: &str,
+    found: io::Result<Metadata>,
+    limit: u32,
+) -> Result<Option<FileRead>, FolderError>
+    ensures error { IfErr found (λ error. IsErr result) }
+    ensures not_file { IfOk found (λ at. ¬ IsFile (file_type at) → result ≡ Ok (Some FileRead.NotFile)) }
+    ensures too_large { IfOk found (λ at. IsFile (file_type at) → limit < metadata_len at → result ≡ Ok (Some FileRead.TooLarge)) }
+    ensures none { IfOk found (λ at. IsFile (file_type at) → metadata_len at ≤ limit → result ≡ Ok None) }
+{
+    let at = answer_at(alloc, place, found)?;
+    if !at.is_file() {
+        return Ok(Some(FileRead::NotFile));
+    }
+    if at.len() > u64::from(limit) {
+        return Ok(Some(FileRead::TooLarge));
+    }
+    Ok(None)
+}
+
+/// The bytes that were read of the file at `place`, if they are at most `limit`: it may have grown since its metadata was read.
+fn read_found(
+    alloc: Global,
+    place: &str,
+    found: io::Result<Vec<u8>>,
+    limit: u32,
+) -> Result<FileRead, FolderError>
+    ensures error { IfErr found (λ error. IsErr result) }
+    ensures value { IfOk found (λ bytes. result ≡ Ok (file_read (Some (File bytes.items)) limit)) }
+    ensures within { IfOk result (λ read. IsWithin limit read) }
+{
+    let bytes = answer_at(alloc, place, found)?;
+    if bytes.len() > limit as usize {
+        return Ok(FileRead::TooLarge);
+    }
+    Ok(FileRead::Bytes(Seq::of(bytes)))
+}
+
+/// Two parts of a path with a slash between them; an empty part adds nothing.
+fn joined(alloc: Global, front: &str, back: &str) -> Result<String, NoMemory>
+    ensures { IfOk result (λ path. string_bytes path ≡ joined front.now back.now) }
+{
+    let mut path = String::from_str(alloc, front)?;
+    if !front.is_empty() && !back.is_empty() {
+        path.push('/')?;
+    }
+    path.push_str(back)?;
+    Ok(path)
+}
+
+/// The system's answer about a path, with its error made one of this crate.
+fn answer_at<X>(alloc: Global, path: &str, found: io::Result<X>) -> Result<X, FolderError>
+    ensures ok { IfOk found (λ x. result ≡ Ok x) }
+    ensures error { IfErr found (λ error. IsErr result) }
+{
+    match found {
+        Ok(found) => Ok(found),
+        Err(error) => Err(failure(alloc, path, error)),
+    }
+}
+
+/// The error that an error of the system at a path makes.
+fn failure(alloc: Global, path: &str, reason: io::Error) -> FolderError
+    ensures { error_kind reason ≡ ErrorKind.OutOfMemory → is_failure result ≡ false }
+{
+    if reason.kind() == ErrorKind::OutOfMemory {
+        return FolderError::NoMemory;
+    }
+    match String::from_str(alloc, path) {
+        Ok(path) => FolderError::Failed(FolderFailure { path, reason }),
+        Err(_) => FolderError::NoMemory,
+    }
+}

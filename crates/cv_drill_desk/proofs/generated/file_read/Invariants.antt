@@ -1,8 +1,0 @@
-use Rattle.std.proofs.Common.{◌≡◌, map, drop}
-use Rattle.cv_desk.specs.Stored.{item_at}
-use Rattle.cv_drill_desk.specs.code.GeneratedEntry.{made}
-use Rattle.cv_drill_desk.proofs.generated.file_read.Given as goal
-
--- the first entry of the path is the first among those that remain
-abbrev pub invariant-loop-entry : goal.invariant-loop-entry
-invariant-loop-entry l = item_at (map made (drop l.entry-index l.entries)) l.path ≡ item_at (map made l.entries) l.path

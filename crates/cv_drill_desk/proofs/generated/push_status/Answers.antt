@@ -1,6 +1,0 @@
-use Rattle.cv_drill_desk.specs.code.GeneratedLaws.{four_more}
-use Rattle.cv_drill_desk.proofs.generated.push_status.Goals as goal
-
-pub returns : goal.returns
-returns c =
-    rw (c.in_ok-push_file.ensures, c.in_ok-push_directory-3.ensures, c.in_ok-push_directory-2.ensures, c.in_ok-push_directory.ensures) (four_more _ _ _ _ _)

@@ -1,4 +1,0 @@
-pub use Rattle.cv_drill_records.proofs.Lists
-mod Examples
-mod Floats
-mod Sizes

@@ -1,3 +1,0 @@
-mod Examples
-pub mod Floats
-pub mod Lists

@@ -1,6 +1,0 @@
-pub mod FindLemmas
-pub mod Indices
-pub mod Lookup
-pub mod Merged
-pub mod PutLemmas
-pub mod SlotLemmas

@@ -1,4 +1,0 @@
-use Rattle.cv_findings_tests.proofs.tests.matched.Given as goal
-
-abbrev pub ghosts-match_counted : goal.ghosts-match_counted
-ghosts-match_counted a = record { name = a.blank.name; parts = a.blank.parts }

@@ -1,5 +1,0 @@
-//! Tests of `cv_hub` that look at what one seat sees.
-#![tactic(auto)]
-
-#[cfg(test)]
-mod tests;

@@ -1,3 +1,0 @@
-mod Examples
-pub mod KeptLemmas
-pub mod LeadLemmas

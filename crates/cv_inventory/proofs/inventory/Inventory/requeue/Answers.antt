@@ -1,9 +1,0 @@
-use Rattle.cv_inventory.proofs.KeptLemmas.{alike_now}
-use Rattle.cv_inventory.proofs.LeadLemmas.{requeue_alike}
-use Rattle.cv_inventory.proofs.inventory.Inventory.requeue.Goals as goal
-
-pub with_registry-requires : goal.with_registry-requires
-with_registry-requires g c =
-    let inside = c.self.inside in let after = c.in_ok-registry.registry in
-    alike_now inside.registry after inside.knowledge.feeds c.args.self.now c.self.view_is
-    (requeue_alike inside.registry after c.args.layer.now c.args.worker c.in_ok-registry.reply c.regular.ensures.layers c.in_ok-registry.ensures)

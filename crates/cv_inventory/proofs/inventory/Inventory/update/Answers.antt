@@ -1,6 +1,0 @@
-use Rattle.cv_inventory.proofs.KeptLemmas.{replaced_within_limit}
-use Rattle.cv_inventory.proofs.inventory.Inventory.update.Goals as goal
-
-pub with_feeds-requires : goal.with_feeds-requires
-with_feeds-requires g c =
-    replaced_within_limit c.args.self.now c.args.feed c.args.records c.in_ok-feeds.feeds c.regular.ensures c.in_ok-feeds.ensures.room c.in_ok-feeds.ensures.value

@@ -1,3 +1,0 @@
-mod Examples
-pub mod FactTables
-pub mod RenewedLemmas

@@ -1,9 +1,0 @@
-pub use Rattle.cv_hub.proofs.Crossing
-pub use Rattle.cv_hub.proofs.Made
-pub use Rattle.cv_hub.proofs.Prefixes
-pub use Rattle.cv_hub.proofs.Replays
-pub mod LaneLemmas
-pub mod OwnLemmas
-pub mod RequestLemmas
-pub mod TeamCrossing
-pub mod TeamLemmas

@@ -1,2 +1,0 @@
--- An event as a seat submitted it, and as the list of a hub has it (defined by this project).
-pub use Rattle.cv_seats.specs.declared.submission.Submission.{Submission}

@@ -1,4 +1,0 @@
-pub mod Lane
-pub mod Own
-pub mod Place
-pub mod Refreshed

@@ -1,3 +1,0 @@
-pub mod DistinctLemmas
-pub mod Failed
-pub mod Seen

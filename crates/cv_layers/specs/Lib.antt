@@ -1,3 +1,0 @@
-pub mod Distinct
-pub mod Failed
-pub mod code

@@ -1,3 +1,0 @@
--- Definitions for the clauses of private functions.
-pub mod Distinct
-pub mod Failed

@@ -1,5 +1,0 @@
-use Rattle.cv_legal.proofs.Generations.{never_fall}
-use Rattle.cv_legal.proofs.laws.generation_law.Goals as goal
-
-pub returns : goal.returns
-returns c = never_fall c.step_laws.ensures.generation

@@ -1,5 +1,0 @@
-use Rattle.cv_legal.proofs.History.{one_history}
-use Rattle.cv_legal.proofs.laws.history_law.Goals as goal
-
-pub returns : goal.returns
-returns c = one_history

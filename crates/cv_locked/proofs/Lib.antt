@@ -1,4 +1,0 @@
-pub mod Crossing
-pub mod Listed
-pub mod Receipts
-pub mod Replays

@@ -1,3 +1,0 @@
-pub use Rattle.cv_core.specs.Core
-pub use Rattle.cv_core.specs.Reports
-pub mod code

@@ -1,5 +1,0 @@
-use Rattle.cv_machine.proofs.Boards.{same_answers}
-use Rattle.cv_machine.proofs.laws.board_law.Goals as goal
-
-pub returns : goal.returns
-returns c = same_answers

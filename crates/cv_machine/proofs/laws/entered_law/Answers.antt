@@ -1,5 +1,0 @@
-use Rattle.cv_machine.proofs.LayerTables.{entered_found}
-use Rattle.cv_machine.proofs.laws.entered_law.Goals as goal
-
-pub returns : goal.returns
-returns c = entered_found

@@ -1,5 +1,0 @@
-use Rattle.cv_machine.proofs.Stepped.{all_known}
-use Rattle.cv_machine.proofs.laws.scan_law.Goals as goal
-
-pub returns : goal.returns
-returns c = all_known

@@ -1,0 +1,5 @@
+pub mod EventsRead
+mod Examples
+pub mod Fixes
+pub mod Introductions
+pub mod Mapped

@@ -1,3 +1,0 @@
-mod Examples
-pub mod FirstFault
-pub mod Onto

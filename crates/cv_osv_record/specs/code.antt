@@ -1,2 +1,0 @@
--- Words that only retell private functions.
-pub mod Member

@@ -1,5 +1,0 @@
-use Rattle.cv_outcome.proofs.TruthLemmas.{all_rematched, rematched_is, rows_machine}
-use Rattle.cv_outcome.proofs.laws.update_laws.Goals as goal
-
-pub returns : goal.returns
-returns c = record { image = rematched_is; images = all_rematched; rows = rows_machine }

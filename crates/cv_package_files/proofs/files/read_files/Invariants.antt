@@ -1,7 +1,0 @@
-use Rattle.std.proofs.Common.{◌≡◌, drop, ◌++◌}
-use Rattle.cv_package_files.specs.Files.{files_found}
-use Rattle.cv_package_files.proofs.files.read_files.Given as goal
-
--- the files so far, with those among the remaining entries, are all
-abbrev pub invariant-loop-entry : goal.invariant-loop-entry
-invariant-loop-entry l = l.files.items ++ files_found (drop l.entry-index l.entries) ≡ files_found l.entries

@@ -1,5 +1,0 @@
-use Rattle.cv_refusal.proofs.Floats.{refusal_has_none}
-use Rattle.cv_refusal.proofs.refusal.refusal_line.Goals as goal
-
-pub line_of-requires : goal.line_of-requires
-line_of-requires c = rw c.in_ok-value.ensures (refusal_has_none c.args.line c.args.error.now)

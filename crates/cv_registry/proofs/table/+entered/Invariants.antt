@@ -1,5 +1,0 @@
-use Rattle.std.proofs.Common.{length}
-use Rattle.cv_registry.proofs.table.+entered.Given as goal
-
-abbrev pub decreases-entered : goal.decreases-entered
-decreases-entered l = length l.layers.now

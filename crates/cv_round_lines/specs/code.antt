@@ -1,2 +1,0 @@
--- Definitions that only restate private functions.
-pub mod Parts

@@ -1,0 +1,20 @@
+//! What a round does without a hub: it divides its lines into the refused ones and the requests of eight lanes, each in their order, copies
+//! what reads show, and gathers the reads of the lanes.
+//!
+//! ```text
+//! let (refused, requests) = divide(alloc, taken)?;
+//! let lanes = lanes_of(alloc, requests)?;
+//! ```
+#![tactic(auto)]
+
+mod copies;
+mod dealing;
+mod gathering;
+mod lane;
+mod merging;
+
+pub use copies::{copy_findings, copy_rows};
+pub use dealing::{divide, lanes_of};
+pub use gathering::{joined, reads_of};
+pub use lane::Lane;
+pub use merging::merge;

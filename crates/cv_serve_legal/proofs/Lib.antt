@@ -1,0 +1,17 @@
+pub mod Assembled
+mod CompleteExamples
+mod Divided
+mod Ended
+mod Examples
+mod Generations
+pub mod History
+pub mod Joined
+pub mod Order
+mod Pending
+pub mod Segments
+pub mod Serving
+mod Settled
+mod Steps
+mod Stood
+mod Unique
+mod Work

@@ -1,0 +1,12 @@
+pub mod Complete
+pub mod Division
+pub mod Laws
+pub mod Legal
+pub mod Parts
+pub mod Replay
+pub mod Round
+pub mod Rounds
+pub mod Served
+pub mod ParsedLine
+pub mod Turns
+pub mod code

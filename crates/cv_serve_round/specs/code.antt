@@ -1,0 +1,4 @@
+pub mod Begun
+pub mod LineParts
+pub mod Parts
+pub mod Ran

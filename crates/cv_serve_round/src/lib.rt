@@ -1,0 +1,24 @@
+//! The rounds of a service: it takes lines into the round that has begun, has `cv_serve_round` carry out each round that ends, and writes the
+//! round's lines. It owns the hub of `cv_hub` and the seats of a service.
+//!
+//! ```text
+//! let core = new_core(alloc)?;
+//! let mut service = started::<D, L>(alloc, blank, core, desks.len())?;
+//! let mut round = Round::new(alloc);
+//! take_line(rt, alloc, &mut service, desks, output, &mut round, number, text)?;
+//! end_input(rt, alloc, &mut service, desks, output, round)?;
+//! ```
+#![tactic(auto)]
+
+mod begun;
+mod print;
+mod round;
+mod rounds;
+mod start;
+mod whole;
+
+pub use begun::Round;
+pub use cv_core::Core;
+pub use cv_hub::{Blank, Identity};
+pub use rounds::{end_input, take_line};
+pub use start::{Service, new_core, started};

@@ -1,0 +1,223 @@
+ghost use Rattle.std.specs.List.{AllByRecursion, AllZip};
+ghost use Rattle.std.specs.Prelude.{if◌then◌else◌, ◌+◌, ◌≡◌, IfOk, List, OnOk, length, map, string_bytes, ℕ};
+ghost use Rattle.cv_base.specs.Texts.{is_cons, is_nil};
+ghost use Rattle.cv_hub.specs.Events.{state_of};
+ghost use Rattle.cv_io.specs.Fault.{is_write_fault};
+ghost use Rattle.cv_serve_legal.specs.Rounds.{Cut, Round as Lines, cut_line, end_round, round_limits};
+ghost use Rattle.cv_serve_legal.specs.Served.{LinesAscend, Served};
+ghost use Rattle.cv_serve_legal.specs.ParsedLine.{IsTaken};
+ghost use Rattle.cv_core_machine.specs.Layers.{queued};
+ghost use Rattle.cv_core_machine.specs.Scans.{StatesEveryLayer, trees_of};
+ghost use Rattle.cv_serve_round.specs.Round.{IsSoundTaken, moment_of};
+ghost use Rattle.cv_seq.specs.Cause.{CausedBy};
+ghost use Rattle.cv_transcript.specs.declared.entry.Entry.{Entry};
+ghost use Rattle.cv_serve_round.specs.Begun.{IsPrepared, line_at, no_lines};
+ghost use Rattle.cv_serve_round.specs.Further.{Further, ServedToEnd};
+ghost use Rattle.cv_serve_round.specs.code.LineParts.{LastRun, LegalTexts, RoundRun};
+
+use crate::begun::Round;
+use crate::print::{lines_of, write_lines};
+use crate::start::Service;
+use crate::whole::run_round;
+use cv_base::NoMemory;
+use cv_desk::Desk;
+use cv_hub::{Hub, Identity};
+use cv_io::{Sink, WriteError};
+use cv_request::read_request;
+use cv_serve_legal::ParsedLine;
+use std::alloc::Global;
+use std::sync::Wait;
+use std::thread::Threads;
+
+/// Takes a line of the input. An empty one ends the round that has begun; any other line is added to it. If it would make the
+/// round too long, that round is run first; a full round is run at once.
+pub fn take_line<
+    K: Sink,
+    D: Desk + Drop + Send + Sync,
+    L: Identity + Send + Sync,
+    W: Threads + Wait + Sync,
+>(
+    rt: &W,
+    alloc: Global,
+    service: &mut Service<D, L>,
+    desks: &mut [D],
+    output: &mut K,
+    round: &mut Round,
+    number: u64,
+    text: &[u8],
+) -> Result<(), WriteError>
+    requires prepared { IsPrepared D.listings L.parts service.old.hub service.old.seats.items desks.old }
+    ensures further { StatesEveryLayer D.tree → (workers : ℕ) → length desks.old ≡ workers → (cut : Cut) (last : ℕ) (entries : List Entry) → number ≡ last + 1
+        → Served (trees_of D.tree) workers cut last round.old.taken round.old.bytes entries (moment_of (trees_of D.tree) L.limits service.old.hub)
+        → OnOk result (Further (trees_of D.tree) workers D.listings D.faults (cut_line round_limits cut (line_at number text.now)) number round.new.taken round.new.bytes entries (moment_of (trees_of D.tree) L.limits service.new.hub)
+        (K.contents output.old) (K.contents output.new) desks.old desks.new) }
+    ensures prepared { OnOk result (IsPrepared D.listings L.parts service.new.hub service.new.seats.items desks.new) }
+    ensures cause { CausedBy (K.faults output.old) (K.faults output.new) (is_write_fault result) }
+{
+    if is_blank(text) {
+        return write_round(rt, alloc, service, desks, output, round);
+    }
+    let bytes = text.len();
+    let long = round.is_too_long(bytes);
+    end_if(rt, alloc, service, desks, output, round, long)?;
+    round.put(take(alloc, number, text), bytes)?;
+    let full = round.is_full();
+    end_if(rt, alloc, service, desks, output, round, full)
+}
+
+/// Whether a line is empty.
+fn is_blank(text: &[u8]) -> bool
+    ensures { result ≡ is_nil text.now }
+{
+    text.is_empty()
+}
+
+/// What becomes of the line of this number.
+fn take(alloc: Global, number: u64, text: &[u8]) -> ParsedLine
+    ensures taken { IsTaken (line_at number text.now) result }
+    ensures sound { IsSoundTaken result }
+{
+    ParsedLine {
+        line: number,
+        answer: read_request(alloc, text),
+    }
+}
+
+/// Runs the round that has begun, if it ends here.
+fn end_if<
+    K: Sink,
+    D: Desk + Drop + Send + Sync,
+    L: Identity + Send + Sync,
+    W: Threads + Wait + Sync,
+>(
+    rt: &W,
+    alloc: Global,
+    service: &mut Service<D, L>,
+    desks: &mut [D],
+    output: &mut K,
+    round: &mut Round,
+    ends: bool,
+) -> Result<(), WriteError>
+    requires prepared { IsPrepared D.listings L.parts service.old.hub service.old.seats.items desks.old }
+    ensures further { StatesEveryLayer D.tree → (workers : ℕ) → length desks.old ≡ workers → (cut : Cut) (last : ℕ) (entries : List Entry)
+        → Served (trees_of D.tree) workers cut last round.old.taken round.old.bytes entries (moment_of (trees_of D.tree) L.limits service.old.hub)
+        → OnOk result (Further (trees_of D.tree) workers D.listings D.faults (if ends then end_round cut else cut) last round.new.taken round.new.bytes entries (moment_of (trees_of D.tree) L.limits service.new.hub)
+        (K.contents output.old) (K.contents output.new) desks.old desks.new) }
+    ensures begun { OnOk result (round.new ≡ (if ends then no_lines else round.old)) }
+    ensures prepared { OnOk result (IsPrepared D.listings L.parts service.new.hub service.new.seats.items desks.new) }
+    ensures cause { CausedBy (K.faults output.old) (K.faults output.new) (is_write_fault result) }
+{
+    if ends {
+        return write_round(rt, alloc, service, desks, output, round);
+    }
+    Ok(())
+}
+
+/// Runs the round that has begun, and writes its lines. The next round has no lines yet.
+fn write_round<
+    K: Sink,
+    D: Desk + Drop + Send + Sync,
+    L: Identity + Send + Sync,
+    W: Threads + Wait + Sync,
+>(
+    rt: &W,
+    alloc: Global,
+    service: &mut Service<D, L>,
+    desks: &mut [D],
+    output: &mut K,
+    round: &mut Round,
+) -> Result<(), WriteError>
+    requires prepared { IsPrepared D.listings L.parts service.old.hub service.old.seats.items desks.old }
+    ensures ran { StatesEveryLayer D.tree → (workers : ℕ) → length desks.old ≡ workers → (lines : Lines) (last : ℕ) → AllZip IsTaken lines round.old.taken → LinesAscend lines last
+        → OnOk result (RoundRun (trees_of D.tree) workers D.listings D.faults lines (moment_of (trees_of D.tree) L.limits service.old.hub) (moment_of (trees_of D.tree) L.limits service.new.hub)
+        (K.contents output.old) (K.contents output.new) desks.old desks.new) }
+    ensures begins { round.new ≡ no_lines }
+    ensures prepared { OnOk result (IsPrepared D.listings L.parts service.new.hub service.new.seats.items desks.new) }
+    ensures cause { CausedBy (K.faults output.old) (K.faults output.new) (is_write_fault result) }
+{
+    let taken = round.take_all(alloc);
+    let lines = round_lines(rt, alloc, service, desks, taken)?;
+    write_lines(output, lines.as_slice())
+}
+
+/// The lines of a round that is carried out.
+fn round_lines<D: Desk + Drop + Send + Sync, L: Identity + Send + Sync, W: Threads + Wait + Sync>(
+    rt: &W,
+    alloc: Global,
+    service: &mut Service<D, L>,
+    desks: &mut [D],
+    taken: Vec<ParsedLine>,
+) -> Result<Vec<String>, NoMemory>
+    requires sound { AllByRecursion IsSoundTaken taken.items }
+    requires prepared { IsPrepared D.listings L.parts service.old.hub service.old.seats.items desks.old }
+    ensures legal { StatesEveryLayer D.tree → (workers : ℕ) → length desks.old ≡ workers → (lines : Lines) (last : ℕ) → AllZip IsTaken lines taken.items → LinesAscend lines last
+        → IfOk result (λ texts. LegalTexts (trees_of D.tree) workers D.listings D.faults lines (moment_of (trees_of D.tree) L.limits service.old.hub) desks.old (map (λ text. string_bytes text) texts.items) (moment_of (trees_of D.tree) L.limits service.new.hub) desks.new) }
+    ensures prepared { OnOk result (IsPrepared D.listings L.parts service.new.hub service.new.seats.items desks.new) }
+{
+    let seats = service.seats.as_mut_slice();
+    let entries = run_round(rt, alloc, &mut service.hub, seats, desks, taken)?;
+    lines_of(alloc, entries.as_slice())
+}
+
+/// Ends the input. The round that has begun is run, if it has a line, and then one more without requests, if a layer is queued.
+pub fn end_input<
+    K: Sink,
+    D: Desk + Drop + Send + Sync,
+    L: Identity + Send + Sync,
+    W: Threads + Wait + Sync,
+>(
+    rt: &W,
+    alloc: Global,
+    service: &mut Service<D, L>,
+    desks: &mut [D],
+    output: &mut K,
+    mut round: Round,
+) -> Result<(), WriteError>
+    requires prepared { IsPrepared D.listings L.parts service.old.hub service.old.seats.items desks.old }
+    ensures legal { StatesEveryLayer D.tree → (workers : ℕ) → length desks.old ≡ workers → (cut : Cut) (last : ℕ) (entries : List Entry)
+        → Served (trees_of D.tree) workers cut last round.taken round.bytes entries (moment_of (trees_of D.tree) L.limits service.old.hub)
+        → OnOk result (ServedToEnd (trees_of D.tree) workers D.listings D.faults cut entries (moment_of (trees_of D.tree) L.limits service.new.hub)
+        (K.contents output.old) (K.contents output.new) desks.old desks.new) }
+    ensures cause { CausedBy (K.faults output.old) (K.faults output.new) (is_write_fault result) }
+{
+    let begun = round.has_lines();
+    end_if(rt, alloc, service, desks, output, &mut round, begun)?;
+    end_queued(rt, alloc, service, desks, output)
+}
+
+/// Runs one more round without requests, if a layer is queued.
+fn end_queued<
+    K: Sink,
+    D: Desk + Drop + Send + Sync,
+    L: Identity + Send + Sync,
+    W: Threads + Wait + Sync,
+>(
+    rt: &W,
+    alloc: Global,
+    service: &mut Service<D, L>,
+    desks: &mut [D],
+    output: &mut K,
+) -> Result<(), WriteError>
+    requires prepared { IsPrepared D.listings L.parts service.old.hub service.old.seats.items desks.old }
+    ensures further { StatesEveryLayer D.tree → (workers : ℕ) → length desks.old ≡ workers → OnOk result (LastRun (trees_of D.tree) workers D.listings D.faults (moment_of (trees_of D.tree) L.limits service.old.hub) (moment_of (trees_of D.tree) L.limits service.new.hub)
+        (K.contents output.old) (K.contents output.new) desks.old desks.new) }
+    ensures cause { CausedBy (K.faults output.old) (K.faults output.new) (is_write_fault result) }
+{
+    if !is_some_queued(rt, alloc, &service.hub)? {
+        return Ok(());
+    }
+    let mut none = Round::new(alloc);
+    write_round(rt, alloc, service, desks, output, &mut none)
+}
+
+/// Whether a layer is queued.
+fn is_some_queued<D: Desk + Drop, L: Identity, W: Wait>(
+    rt: &W,
+    alloc: Global,
+    hub: &Hub<D, L>,
+) -> Result<bool, NoMemory>
+    ensures { StatesEveryLayer D.tree → IfOk result (λ found. found ≡ is_cons (queued (state_of (trees_of D.tree) L.limits hub.now).layers)) }
+{
+    let layers = hub.queued(rt, alloc)?;
+    Ok(!layers.as_slice().is_empty())
+}

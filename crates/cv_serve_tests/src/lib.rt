@@ -1,5 +1,0 @@
-//! Tests of `cv_serve`: what its workers do at once.
-#![tactic(auto)]
-
-#[cfg(test)]
-mod tests;

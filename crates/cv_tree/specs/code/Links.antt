@@ -1,0 +1,12 @@
+-- The link to a node, which may have several owners.
+use Rattle.std.specs.Prelude.{List, [], Option, Some, None}
+use Rattle.std.specs.Arc.{arc_value}
+use Rattle.std.specs.declared.sync.Arc.{Arc}
+use Rattle.std.specs.declared.alloc.Global.{Global}
+use Rattle.cv_tree.specs.Nodes.{between}
+use Rattle.cv_tree.specs.declared.branch.Fork.{Fork}
+
+-- the entries below a link
+abbrev pub entries : {K V : Type 0} → Option (Arc (Fork K V) Global) → List (K × V)
+entries None = []
+entries (Some a) = between (arc_value a)

@@ -1,0 +1,109 @@
+use cv_base::Seq;
+use cv_io::{CalmSource, MemSource};
+use cv_osv::RecordWhat;
+use cv_request::{RequestFault, RequestWhat};
+use cv_scan_input::{InputError, read_scan_input};
+use std::alloc::Global;
+use std::test::Fail;
+
+const MANIFEST: &str =
+    "{\"hash\":\"sha256:1111111111111111111111111111111111111111111111111111111111111111\",\"layers\":[{\"hash\":\"sha256:2222222222222222222222222222222222222222222222222222222222222222\"}]}";
+
+const FIRST: &str = "{\"id\":\"X-1\",\"modified\":\"m\"}";
+
+const SECOND: &str = "{\"id\":\"X-2\",\"modified\":\"m\",\"withdrawn\":\"w\"}";
+
+/// The lines as an input.
+fn input_of(alloc: Global, lines: &[&str]) -> Result<Seq<u8>, Fail> {
+    let mut text = String::new(alloc);
+    for line in lines {
+        text.push_str(*line)?;
+        text.push('\n')?;
+    }
+    Ok(Seq::of(text.as_bytes().to_vec(alloc)?))
+}
+
+/// Why an input is refused, if it is.
+fn refusal_of(alloc: Global, lines: &[&str]) -> Result<Option<InputError>, Fail> {
+    let mut input = CalmSource::new(input_of(alloc, lines)?, 7);
+    match read_scan_input(alloc, &mut input) {
+        Ok(_) => Ok(None),
+        Err(InputError::NoMemory) => Err(Fail::from(InputError::NoMemory)),
+        Err(error) => Ok(Some(error)),
+    }
+}
+
+#[test]
+fn empty_lines_are_ignored(rt: HostRuntime) -> Result<(), Fail> {
+    let alloc = rt.alloc();
+    let bytes = input_of(alloc, &[MANIFEST, "", FIRST, "\r", "", SECOND])?;
+    let mut input = CalmSource::new(bytes, 7);
+    let request = read_scan_input(alloc, &mut input)?;
+    assert_eq!(rt; request.manifest.layers.as_slice().len(), 1);
+    let [first, second] = request.records.as_slice() else {
+        return Err(Fail::from("there are two records"));
+    };
+    assert_eq!(rt; first.id.as_str(), "X-1");
+    assert_eq!(rt; second.id.as_str(), "X-2");
+    assert!(rt; second.withdrawn && !first.withdrawn);
+    shared(request);
+    shared(InputError::NoManifest);
+    Ok(())
+}
+
+#[test]
+fn the_first_refused_line_is_the_answer(rt: HostRuntime) -> Result<(), Fail> {
+    let no_id = RequestFault::BadAdvisory {
+        index: 1,
+        what: RecordWhat::NoId,
+    };
+    let same_id = RequestFault::DuplicateId {
+        first: 1,
+        second: 2,
+    };
+    let table: [(&[&str], u64, RequestFault); 6] = [
+        (&["", MANIFEST], 1, RequestFault::BadJson),
+        (
+            &["[]", FIRST, FIRST],
+            1,
+            RequestFault::BadRequest(RequestWhat::BadManifest),
+        ),
+        (
+            &[FIRST, MANIFEST],
+            1,
+            RequestFault::BadRequest(RequestWhat::BadHash),
+        ),
+        (&[MANIFEST, FIRST, "", "X", "{}"], 4, RequestFault::BadJson),
+        (&[MANIFEST, "", FIRST, "", "", "{}", FIRST], 6, no_id),
+        (&[MANIFEST, SECOND, FIRST, "", FIRST, "X"], 5, same_id),
+    ];
+    for (lines, line, fault) in table {
+        assert_eq!(rt;
+            refusal_of(rt.alloc(), lines)?,
+            Some(InputError::Refused { line, fault })
+        );
+    }
+    assert_eq!(rt; refusal_of(rt.alloc(), &[])?, Some(InputError::NoManifest));
+    assert_eq!(rt; refusal_of(rt.alloc(), &[MANIFEST])?, None);
+    Ok(())
+}
+
+#[test]
+fn a_failing_source_is_blamed(rt: HostRuntime) -> Result<(), Fail> {
+    let alloc = rt.alloc();
+    for call in 1..4 {
+        let fails = Seq::of(vec![in alloc; call]?);
+        let mut input = MemSource::new(input_of(alloc, &[MANIFEST, FIRST])?, 100, fails);
+        assert!(rt;
+            matches!(
+                read_scan_input(alloc, &mut input),
+                Err(InputError::ReadFault)
+            ),
+            "call {call} fails"
+        );
+    }
+    Ok(())
+}
+
+/// Takes what may go to another thread and be shared.
+fn shared<T: Send + Sync + Drop>(_value: T) {}
