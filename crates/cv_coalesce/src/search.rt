@@ -1,7 +1,7 @@
 ghost use Rattle.std.specs.Prelude.{◌≡◌, IsSorted, slice_get};
 ghost use Rattle.std.specs.List.{list_any};
 ghost use Rattle.cv_base.specs.Path.{is_above, path_cmp, same_path};
-ghost use Rattle.cv_coalesce.specs.code.Search.{IsListPrefix, is_lower};
+ghost use Rattle.cv_coalesce.specs.code.Search.{IsFront, is_lower};
 ghost use Rattle.cv_overlay.specs.Mark.{at_or_above};
 
 use cv_base::RelPath;
@@ -27,7 +27,7 @@ pub fn has(list: &[RelPath], path: &RelPath) -> bool
 /// and the path, it has no longer front of the path.
 pub fn search_front(list: &[RelPath], path: &RelPath, depth: usize) -> Front
     requires { IsSorted path_cmp list.now }
-    ensures { IsListPrefix list.now path.now depth result }
+    ensures { IsFront list.now path.now depth result }
 {
     match list.binary_search_by(|item| item.compare_front(path, depth)) {
         Ok(_) => Front::Found,

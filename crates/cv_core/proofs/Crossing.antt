@@ -24,7 +24,6 @@ use Rattle.cv_core_registry.specs.contracts.registry.Registry as registry
 use Rattle.cv_core_inventory.specs.contracts.knowledge.Knowledge as knowledge
 use Rattle.cv_core_inventory.specs.contracts.inventory.Inventory as inventory
 use Rattle.cv_core.specs.contracts.board.Board as board
-use Rattle.cv_core.specs.contracts.machine.Machine as machine
 use Rattle.cv_core.specs.contracts.machine.Core as core
 use Rattle.cv_core.specs.contracts.plan.Planned as planned
 
@@ -80,17 +79,11 @@ module _ (D : RattleType) (g : desk.Ghosts D.Denot) where
   inventory_sync : IsSend D → IsSync D → IsSync (inventory.the_row D g)
   inventory_sync s y = search (registry_sync, knowledge_sync, sendable, declared_sync) depth 30 fits 5000
 
-  machine_send : IsSend D → IsSync D → IsSend (machine.the_row D g)
-  machine_send s y = search (inventory_send, parts, sendable, declared_send) depth 30 fits 5000
-
-  machine_sync : IsSend D → IsSync D → IsSync (machine.the_row D g)
-  machine_sync s y = search (inventory_sync, parts, sendable, declared_sync) depth 30 fits 5000
-
   pub core_send : IsSend D → IsSync D → IsSend (core.the_row D g)
-  core_send s y = search (machine_send, sendable, declared_send) depth 30 fits 5000
+  core_send s y = search (inventory_send, parts, sendable, declared_send) depth 30 fits 5000
 
   pub core_sync : IsSend D → IsSync D → IsSync (core.the_row D g)
-  core_sync s y = search (machine_sync, sendable, declared_sync) depth 30 fits 5000
+  core_sync s y = search (inventory_sync, parts, sendable, declared_sync) depth 30 fits 5000
 
   pub planned_send : IsSend D → IsSync D → IsSend (planned.the_row D g)
   planned_send s y = search (core_send, reply.the_send, sendable, declared_send) depth 30 fits 5000

@@ -15,23 +15,22 @@ use Rattle.cv_core.specs.Boards.{board_view}
 use Rattle.cv_core.specs.Core.{CoreView}
 
 -- the report of an image
-pub report_core : (trees : Trees) (inside core : CoreView) (h : Holdings) (generation : ℕ) (image : List ℕ) (found : Option Outcome) (shows : ReportOutcome) → inside ≡ core
-    → holding inside.state h ≡ inside.state → generation ≡ inside.state.generation
+pub report_core : (trees : Trees) (core : CoreView) (h : Holdings) (generation : ℕ) (image : List ℕ) (found : Option Outcome) (shows : ReportOutcome)
+    → holding core.state h ≡ core.state → generation ≡ core.state.generation
     → ((state : State) → report_by state.generation found ≡ report_of trees (holding state h) image) → shows ≡ report_by generation found
     → shows ≡ report_of trees core.state image
-report_core trees inside core h generation image found shows was same last known is =
-    is ∙ ap (λ n. report_by n found) last ∙ known inside.state ∙ ap (λ (s : State). report_of trees s image) same
-    ∙ ap (λ (c : CoreView). report_of trees c.state image) was
+report_core trees core h generation image found shows same last known is =
+    is ∙ ap (λ n. report_by n found) last ∙ known core.state ∙ ap (λ (s : State). report_of trees s image) same
 
 abbrev with_parts : List (List ℕ × ReportOutcome) → Notifications → BoardView
 with_parts reports notices = record { reports = reports; notifications = notices }
 
 -- the board
-pub board_core : (trees : Trees) (inside core : CoreView) (h : Holdings) (generation : ℕ) (outcomes : Outcomes) (notices : Notifications) (board : BoardView) → inside ≡ core
-    → holding inside.state h ≡ inside.state → generation ≡ inside.state.generation → notices ≡ inside.state.notifications
+pub board_core : (trees : Trees) (core : CoreView) (h : Holdings) (generation : ℕ) (outcomes : Outcomes) (notices : Notifications) (board : BoardView)
+    → holding core.state h ≡ core.state → generation ≡ core.state.generation → notices ≡ core.state.notifications
     → ((state : State) → map_values (report_with state.generation) outcomes ≡ (board_of trees (holding state h)).reports) → board ≡ board_view outcomes notices generation
     → board ≡ board_of trees core.state
-board_core trees inside core h generation outcomes notices board was same last shared known is =
+board_core trees core h generation outcomes notices board same last shared known is =
     is ∙ ap (λ n. board_view outcomes notices n) last
-    ∙ ap (λ (reports : List (List ℕ × ReportOutcome)). with_parts reports notices) (known inside.state ∙ ap (λ (s : State). (board_of trees s).reports) same)
-    ∙ ap (with_parts (board_of trees inside.state).reports) shared ∙ ap (λ (c : CoreView). board_of trees c.state) was
+    ∙ ap (λ (reports : List (List ℕ × ReportOutcome)). with_parts reports notices) (known core.state ∙ ap (λ (s : State). (board_of trees s).reports) same)
+    ∙ ap (with_parts (board_of trees core.state).reports) shared

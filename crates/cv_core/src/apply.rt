@@ -3,8 +3,8 @@ ghost use Rattle.cv_core_machine.specs.Scans.{StatesEveryLayer, Trees, trees_of}
 ghost use Rattle.cv_core_machine.specs.Step.{step};
 ghost use Rattle.cv_core.specs.Core.{IsSound, act_of, counted, is_update};
 
-use crate::core_machine::Core;
 use crate::event::Event;
+use crate::machine::Core;
 use cv_base::{NoMemory, Steps};
 use cv_core_records::Reply;
 use cv_desk::Desk;
@@ -27,8 +27,8 @@ impl<D: Desk + Drop> Core<D> {
         ensures count { IfOk result (λ _. self.new.count ≡ self.old.count + 1) }
         ensures err { OnErr result (self.new ≡ self.old) }
     {
-        let (machine, reply) = event.after(alloc, &self.machine, steps)?;
-        *self = Core { machine };
+        let (core, reply) = event.after(alloc, self, steps)?;
+        *self = core;
         Ok(reply)
     }
 }

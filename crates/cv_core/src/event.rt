@@ -4,7 +4,7 @@ ghost use Rattle.cv_core_machine.specs.Scans.{StatesEveryLayer, Trees, trees_of}
 ghost use Rattle.cv_core_machine.specs.Step.{step};
 ghost use Rattle.cv_core.specs.Core.{IsSound, act_of, counted, is_update};
 
-use crate::machine::Machine;
+use crate::machine::Core;
 use cv_base::{Advisory, Digest, Manifest, NoMemory, Seq, Steps, Text};
 use cv_core_records::{Act, Reply};
 use cv_desk::Desk;
@@ -67,29 +67,29 @@ impl<D: Desk> Event<D> {
 }
 
 impl<D: Desk + Drop> Event<D> {
-    /// The machine after this event, with its reply. The machine before it stays as it is, also if memory runs out. What an update
+    /// The core after this event, with its reply. The core before it stays as it is, also if memory runs out. What an update
     /// does is stated if the type of the desks says of each layer what it has; the other events do not depend on that.
     pub fn after<L: Ledger>(
         self,
         alloc: Global,
-        machine: &Machine<D>,
+        core: &Core<D>,
         steps: &mut Steps<L>,
-    ) -> Result<(Machine<D>, Reply), NoMemory>
-        requires room { machine.now.count < 2 ^ 63 }
+    ) -> Result<(Core<D>, Reply), NoMemory>
+        requires room { core.now.count < 2 ^ 63 }
         requires sound { IsSound (act_of self) }
-        ensures stepped { StatesEveryLayer D.tree → IfOk result (λ after. after ≡ counted machine.now (step (trees_of D.tree) machine.now.state (act_of self))) }
-        ensures others { (trees : Trees) → is_update (act_of self) ≡ false → IfOk result (λ after. after ≡ counted machine.now (step trees machine.now.state (act_of self))) }
-        ensures count { IfOk result (λ after. after.0.count ≡ machine.now.count + 1) }
+        ensures stepped { StatesEveryLayer D.tree → IfOk result (λ after. after ≡ counted core.now (step (trees_of D.tree) core.now.state (act_of self))) }
+        ensures others { (trees : Trees) → is_update (act_of self) ≡ false → IfOk result (λ after. after ≡ counted core.now (step trees core.now.state (act_of self))) }
+        ensures count { IfOk result (λ after. after.0.count ≡ core.now.count + 1) }
     {
         match self {
-            Event::Register(manifest) => machine.register(alloc, &manifest, steps),
-            Event::DropImage(image) => machine.drop_image(alloc, &image),
-            Event::Claim(layer, worker) => machine.claim(alloc, &layer, worker),
-            Event::Indexed(facts, worker) => machine.index(alloc, facts, worker, steps),
-            Event::Fault(layer, worker) => machine.requeue(alloc, &layer, worker),
-            Event::Memory(layer, worker) => machine.requeue(alloc, &layer, worker),
-            Event::Update(feed, records) => machine.update(alloc, feed, records, steps),
-            Event::Ack(number) => machine.ack(alloc, number),
+            Event::Register(manifest) => core.register(alloc, &manifest, steps),
+            Event::DropImage(image) => core.drop_image(alloc, &image),
+            Event::Claim(layer, worker) => core.claim(alloc, &layer, worker),
+            Event::Indexed(facts, worker) => core.index(alloc, facts, worker, steps),
+            Event::Fault(layer, worker) => core.requeue(alloc, &layer, worker),
+            Event::Memory(layer, worker) => core.requeue(alloc, &layer, worker),
+            Event::Update(feed, records) => core.update(alloc, feed, records, steps),
+            Event::Ack(number) => core.ack(alloc, number),
         }
     }
 }

@@ -3,20 +3,20 @@ ghost use Rattle.cv_base.specs.declared.limits.TheConstants.{MAX_LAYERS};
 ghost use Rattle.cv_core_machine.specs.Step.{drop_image, register};
 ghost use Rattle.cv_core.specs.Core.{counted};
 
-use crate::machine::Machine;
+use crate::machine::Core;
 use cv_base::{Digest, Manifest, Steps};
 use cv_core_records::Replied;
 use cv_desk::Desk;
 use std::alloc::Global;
 use std::sync::ledger::Ledger;
 
-impl<D: Desk + Drop> Machine<D> {
+impl<D: Desk + Drop> Core<D> {
     pub(crate) fn register<L: Ledger>(
         &self,
         alloc: Global,
         manifest: &Manifest,
         steps: &mut Steps<L>,
-    ) -> Replied<Machine<D>>
+    ) -> Replied<Core<D>>
         requires room { self.now.count < 2 ^ 63 }
         requires at_most_128_layers { length manifest.now.layers ≤ MAX_LAYERS }
         ensures { IfOk result (λ after. after ≡ counted self.now (register self.now.state manifest.now)) }
@@ -25,7 +25,7 @@ impl<D: Desk + Drop> Machine<D> {
         self.with_inventory(inventory, reply)
     }
 
-    pub(crate) fn drop_image(&self, alloc: Global, image: &Digest) -> Replied<Machine<D>>
+    pub(crate) fn drop_image(&self, alloc: Global, image: &Digest) -> Replied<Core<D>>
         requires room { self.now.count < 2 ^ 63 }
         ensures { IfOk result (λ after. after ≡ counted self.now (drop_image self.now.state image.now)) }
     {

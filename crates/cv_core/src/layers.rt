@@ -2,7 +2,7 @@ ghost use Rattle.std.specs.Prelude.{◌<◌, ◌^◌, ◌≡◌, IfOk};
 ghost use Rattle.cv_core_machine.specs.Step.{claim, finish};
 ghost use Rattle.cv_core.specs.Core.{counted};
 
-use crate::machine::Machine;
+use crate::machine::Core;
 use cv_base::{Digest, Steps};
 use cv_core_machine::Status;
 use cv_core_records::{Replied, Reply};
@@ -11,8 +11,8 @@ use cv_facts::LayerFacts;
 use std::alloc::Global;
 use std::sync::ledger::Ledger;
 
-impl<D: Desk + Drop> Machine<D> {
-    pub(crate) fn claim(&self, alloc: Global, layer: &Digest, worker: u32) -> Replied<Machine<D>>
+impl<D: Desk + Drop> Core<D> {
+    pub(crate) fn claim(&self, alloc: Global, layer: &Digest, worker: u32) -> Replied<Core<D>>
         requires room { self.now.count < 2 ^ 63 }
         ensures { IfOk result (λ after. after ≡ counted self.now (claim self.now.state layer.now worker)) }
     {
@@ -27,7 +27,7 @@ impl<D: Desk + Drop> Machine<D> {
         facts: LayerFacts<D>,
         worker: u32,
         steps: &mut Steps<L>,
-    ) -> Replied<Machine<D>>
+    ) -> Replied<Core<D>>
         requires room { self.now.count < 2 ^ 63 }
         ensures { IfOk result (λ after. after ≡ counted self.now (finish self.now.state facts.digest worker Status.Indexed Reply.Entered)) }
     {
@@ -36,7 +36,7 @@ impl<D: Desk + Drop> Machine<D> {
     }
 
     /// A worker gives a layer back.
-    pub(crate) fn requeue(&self, alloc: Global, layer: &Digest, worker: u32) -> Replied<Machine<D>>
+    pub(crate) fn requeue(&self, alloc: Global, layer: &Digest, worker: u32) -> Replied<Core<D>>
         requires room { self.now.count < 2 ^ 63 }
         ensures { IfOk result (λ after. after ≡ counted self.now (finish self.now.state layer.now worker Status.Queued Reply.Requeued)) }
     {

@@ -15,7 +15,6 @@
 mod ack;
 mod apply;
 mod board;
-mod core_machine;
 mod event;
 mod images;
 mod layers;
@@ -27,12 +26,12 @@ mod report;
 mod update;
 
 pub use board::Board;
-pub use core_machine::Core;
 pub use cv_core_machine::{Limits, MAX_FEEDS, MAX_IMAGES};
 pub use cv_core_records::{
     Act, Answer, By, EventEntry, NoticeHead, PageOutcome, ReadEntry, Reply, ReportOutcome,
 };
 pub use cv_notice::{Notices, Page, PageError};
 pub use event::Event;
+pub use machine::Core;
 pub use plan::Planned;
 pub use report::{Report, ReportRefusal};

@@ -15,7 +15,7 @@ use std::marker::Model;
 
 /// The machine of the service. Contracts see its state, and how many events it replied to. The outcome of each image is kept, so
 /// that reports are read without matching.
-pub struct Machine<D: Desk> {
+pub struct Core<D: Desk> {
     pub(crate) inventory: Inventory<D>,
     pub(crate) notices: Shared<Notices>,
     pub(crate) generation: u64,
@@ -23,9 +23,9 @@ pub struct Machine<D: Desk> {
 }
 
 /// Written out, so that the crates above call it, and do not prove anew how each part is dropped.
-impl<D: Desk + Drop> Drop for Machine<D> {
+impl<D: Desk + Drop> Drop for Core<D> {
     fn drop(self) {
-        let Machine {
+        let Core {
             inventory: _,
             notices: _,
             generation: _,
@@ -34,7 +34,7 @@ impl<D: Desk + Drop> Drop for Machine<D> {
     }
 }
 
-impl<D: Desk> Model for Machine<D> {
+impl<D: Desk> Model for Core<D> {
     ghost use Rattle.cv_core.specs.Core.{CoreView, IsRegular};
     ghost use Rattle.cv_core.specs.code.Parts.{core_of};
 
@@ -45,16 +45,16 @@ impl<D: Desk> Model for Machine<D> {
     ghost invariant = { λ m. IsRegular (core_of m.inventory m.notices m.generation m.count) };
 }
 
-impl<D: Desk + Drop> Machine<D> {
-    /// The machine before all events. There may be as many images and feeds as the limits say.
-    pub fn new(alloc: Global, limits: Limits) -> Result<Machine<D>, NoMemory>
+impl<D: Desk + Drop> Core<D> {
+    /// The core before all events. There may be as many images and feeds as the limits say.
+    pub fn new(alloc: Global, limits: Limits) -> Result<Core<D>, NoMemory>
         requires images { (1 ≤ limits.images) × (limits.images ≤ MAX_IMAGES) }
         requires feeds { (1 ≤ limits.feeds) × (limits.feeds ≤ MAX_FEEDS) }
-        ensures { IfOk result (λ machine. machine ≡ opened limits) }
+        ensures { IfOk result (λ core. core ≡ opened limits) }
     {
         let notices = Shared::of(alloc, Notices::new(alloc))?;
         let inventory = Inventory::new(alloc, limits)?;
-        Ok(Machine::of(inventory, notices, 0, 0))
+        Ok(Core::of(inventory, notices, 0, 0))
     }
 
     /// How many events it replied to. It takes no memory.
@@ -72,14 +72,21 @@ impl<D: Desk + Drop> Machine<D> {
     }
 
     /// The images, layers and feeds. It takes no memory.
-    pub fn inventory(&self) -> &Inventory<D>
+    pub(crate) fn inventory(&self) -> &Inventory<D>
         ensures { holding self.now.state result.now ≡ self.now.state }
     {
         &self.inventory
     }
 
     /// The notifications that are not acknowledged. It takes no memory.
-    pub fn notices(&self) -> &Shared<Notices>
+    pub fn notices(&self) -> &Notices
+        ensures { result.now ≡ self.now.state.notifications }
+    {
+        self.notices.value()
+    }
+
+    /// The notifications, as they are shared. It takes no memory.
+    pub(crate) fn shared_notices(&self) -> &Shared<Notices>
         ensures { result.now ≡ self.now.state.notifications }
     {
         &self.notices

@@ -6,8 +6,8 @@ ghost use Rattle.cv_core.specs.Core.{IsSound, act_of, counted, is_update};
 ghost use Rattle.cv_core.specs.Planned.{plan_of};
 
 use crate::board::Board;
-use crate::core_machine::Core;
 use crate::event::Event;
+use crate::machine::Core;
 use cv_base::{NoMemory, Steps};
 use cv_core_records::Reply;
 use cv_desk::Desk;
@@ -59,10 +59,10 @@ impl<D: Desk + Drop> Core<D> {
         ensures before { IfOk result (λ planned. planned.before ≡ self) }
         ensures err { IfErr result (λ refused. refused.0 ≡ self) }
     {
-        match event.after(alloc, &self.machine, steps) {
-            Ok((machine, reply)) => Ok(Planned {
+        match event.after(alloc, &self, steps) {
+            Ok((core, reply)) => Ok(Planned {
                 before: self,
-                after: Core { machine },
+                after: core,
                 reply,
             }),
             Err(NoMemory) => Err((self, NoMemory)),

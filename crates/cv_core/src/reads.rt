@@ -5,7 +5,7 @@ ghost use Rattle.cv_core_machine.specs.Scans.{StatesEveryLayer, trees_of};
 ghost use Rattle.cv_core.specs.Reports.{shown};
 
 use crate::board::Board;
-use crate::core_machine::Core;
+use crate::machine::Core;
 use crate::report::{Report, ReportRefusal, report_by};
 use cv_base::{Digest, NoMemory};
 use cv_desk::Desk;
@@ -16,16 +16,16 @@ impl<D: Desk + Drop> Core<D> {
     pub fn report(&self, image: &Digest) -> Result<Report<'_>, ReportRefusal<'_>>
         ensures { StatesEveryLayer D.tree → shown result ≡ report_of (trees_of D.tree) self.now.state image.now }
     {
-        let outcome = self.machine.inventory().outcome(image);
-        report_by(self.machine.generation(), outcome)
+        let outcome = self.inventory().outcome(image);
+        report_by(self.generation(), outcome)
     }
 
     /// The board of the core as it is. It takes no memory, and fails only if a count of owners is at its last value.
     pub fn board(&self) -> Result<Board, NoMemory>
         ensures { StatesEveryLayer D.tree → IfOk result (λ board. board ≡ board_of (trees_of D.tree) self.now.state) }
     {
-        let outcomes = self.machine.inventory().outcomes()?;
-        let notices = self.machine.notices().share()?;
-        Ok(Board::of(outcomes, notices, self.machine.generation()))
+        let outcomes = self.inventory().outcomes()?;
+        let notices = self.shared_notices().share()?;
+        Ok(Board::of(outcomes, notices, self.generation()))
     }
 }

@@ -5,7 +5,7 @@ ghost use Rattle.cv_core_machine.specs.Scans.{StatesEveryLayer, trees_of};
 ghost use Rattle.cv_core_machine.specs.Step.{notified, update, updated};
 ghost use Rattle.cv_core.specs.Core.{counted};
 
-use crate::machine::Machine;
+use crate::machine::Core;
 use cv_advdb::AdvError;
 use cv_base::{Advisory, NoMemory, Row, Seq, Steps, Text};
 use cv_core_inventory::Inventory;
@@ -16,14 +16,14 @@ use cv_tree::{Share, Shared};
 use std::alloc::Global;
 use std::sync::ledger::Ledger;
 
-impl<D: Desk + Drop> Machine<D> {
+impl<D: Desk + Drop> Core<D> {
     pub(crate) fn update<L: Ledger>(
         &self,
         alloc: Global,
         feed: Text,
         records: Seq<Advisory>,
         steps: &mut Steps<L>,
-    ) -> Replied<Machine<D>>
+    ) -> Replied<Core<D>>
         requires room { self.now.count < 2 ^ 63 }
         ensures stepped { StatesEveryLayer D.tree → IfOk result (λ after. after ≡ counted self.now (update (trees_of D.tree) self.now.state feed records)) }
         ensures count { IfOk result (λ after. after.0.count ≡ self.now.count + 1) }
@@ -35,8 +35,8 @@ impl<D: Desk + Drop> Machine<D> {
         }
     }
 
-    /// The machine after an update that leaves this inventory and has these rows.
-    fn updated(&self, alloc: Global, inventory: Inventory<D>, rows: Seq<Row>) -> Replied<Machine<D>>
+    /// The core after an update that leaves this inventory and has these rows.
+    fn updated(&self, alloc: Global, inventory: Inventory<D>, rows: Seq<Row>) -> Replied<Core<D>>
         requires room { self.now.count < 2 ^ 63 }
         ensures { IfOk result (λ after. after ≡ counted self.now (updated (holding self.now.state inventory) inventory.feeds rows)) }
     {
@@ -48,8 +48,8 @@ impl<D: Desk + Drop> Machine<D> {
             rows: rows.as_slice().len() as u64,
         };
         let notices = self.notified(alloc, generation, rows)?;
-        let machine = Machine::of(inventory, notices, generation, self.count + 1);
-        Ok((machine, reply))
+        let core = Core::of(inventory, notices, generation, self.count + 1);
+        Ok((core, reply))
     }
 
     /// The notifications with one more of this number, if it has rows.

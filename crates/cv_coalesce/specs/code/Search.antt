@@ -11,10 +11,10 @@ abbrev pub has_front : List Path → Path → ℕ → Bool
 has_front ts p depth = list_any (λ (t : Path). same_path t (take depth p)) ts
 
 -- a front of this depth was found, or is missing, or it and all longer ones are
-abbrev pub IsListPrefix : List Path → Path → ℕ → Front → Type 0
-IsListPrefix ts p depth Found = has_front ts p depth ≡ true
-IsListPrefix ts p depth Missing = has_front ts p depth ≡ false
-IsListPrefix ts p depth Last = (k : ℕ) → depth ≤ k → k < length p → has_front ts p k ≡ false
+abbrev pub IsFront : List Path → Path → ℕ → Front → Type 0
+IsFront ts p depth Found = has_front ts p depth ≡ true
+IsFront ts p depth Missing = has_front ts p depth ≡ false
+IsFront ts p depth Last = (k : ℕ) → depth ≤ k → k < length p → has_front ts p k ≡ false
 
 -- a path, if there is one, comes before another one
 abbrev pub is_lower : Option Path → Path → Bool

@@ -2,7 +2,7 @@ use Rattle.std.proofs.Common.{ap, ◌∙◌}
 use Rattle.cv_core_machine.specs.State.{Notifications, without_notification}
 use Rattle.cv_core.specs.Core.{CoreView}
 use Rattle.cv_core.proofs.CoreLemmas.{regular_acked}
-use Rattle.cv_core.proofs.machine.Machine.ack.Goals as goal
+use Rattle.cv_core.proofs.machine.Core.ack.Goals as goal
 
 pub with_notices-requires-clause-regular : goal.with_notices-requires-clause-regular
 with_notices-requires-clause-regular g c =

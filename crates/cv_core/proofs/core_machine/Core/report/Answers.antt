@@ -1,8 +1,0 @@
-use Rattle.cv_core_machine.specs.Scans.{trees_of}
-use Rattle.cv_core.proofs.ReadLemmas.{report_core}
-use Rattle.cv_core.proofs.core_machine.Core.report.Goals as goal
-
-pub returns : goal.returns
-returns g c known =
-    report_core (trees_of g.D.Desk.tree) c.self.inside.machine c.args.self.now c.inventory.result.now c.generation.result c.args.image.now _ _ c.self.view_is
-    c.inventory.ensures c.generation.ensures (c.outcome-outcome.ensures known) c.report_by.ensures

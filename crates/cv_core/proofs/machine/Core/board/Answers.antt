@@ -1,0 +1,9 @@
+use Rattle.std.proofs.Common.{◌∙◌}
+use Rattle.cv_core_machine.specs.Scans.{trees_of}
+use Rattle.cv_core.proofs.ReadLemmas.{board_core}
+use Rattle.cv_core.proofs.machine.Core.board.Goals as goal
+
+pub returns : goal.returns
+returns g c known =
+    board_core (trees_of g.D.Desk.tree) c.args.self.now c.inventory.result.now c.generation.result c.in_ok-outcomes.outcomes c.in_ok-notices.notices c.of.result
+    c.inventory.ensures c.generation.ensures (c.in_ok-notices.ensures ∙ c.shared_notices.ensures) (c.in_ok-outcomes.ensures known) c.of.ensures
