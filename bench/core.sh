@@ -1,18 +1,19 @@
 #!/usr/bin/env bash
 # Times the core of the service with 64, 512 and 4,096 images of ten layers, half of which eight images share, and a feed of 10,000
-# records: registering and indexing all of them, one further event of each kind, and updates in which 1, 1,000 or all records
-# differ. An event other than an update should not take longer with more images.
+# records: registering and indexing all of them, one further event of each kind, and updates in which one, a tenth or all of the
+# records differ. An event other than an update should not take longer with more images.
 set -euo pipefail
 # shellcheck source=bench/common.sh
 . "$(dirname "$0")/common.sh"
 data=$(data_folder core)
-program=$(build bench_core)
+program=$(build bench)
 sizes=(64 512 4096)
 times=1000
 updates=3
+records=10000
 
 # core IMAGES TIMES UPDATES, where the one image that comes and goes counts
-core() { measure /dev/null "$data/$1" "$program" "$(($1 - 1))" "$2" "$3"; }
+core() { measure /dev/null "$data/$1" "$program" events "$(($1 - 1))" "$2" "$3" $records; }
 
 # value WORK FIELD: what the last run of each size says of a kind of work
 value() {
@@ -46,7 +47,7 @@ for work in register claim fault indexed drop register-indexed drop-indexed ack;
     mapfile -t each < <(value $work 5 | awk '{ printf "%.1f\n", $1 / 1e3 }')
     row "$work, µs" "${each[@]}"
 done
-for work in update-1 update-1000 update-10000; do
+for work in update-one update-tenth update-all; do
     mapfile -t each < <(value $work 5 | awk '{ printf "%.1f\n", $1 / 1e6 }')
     row "$work, ms" "${each[@]}"
     mapfile -t rows < <(value $work 4 | awk -v updates=$updates '{ print $1 / updates }')

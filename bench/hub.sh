@@ -6,7 +6,7 @@ set -euo pipefail
 # shellcheck source=bench/common.sh
 . "$(dirname "$0")/common.sh"
 data=$(data_folder hub)
-program=$(build bench_hub)
+program=$(build bench)
 sizes=(10 4000)
 times=100000
 
@@ -23,7 +23,7 @@ row() { printf '%-34s %12s %12s\n' "$@"; }
 row images "${sizes[@]}"
 all=() peaks=()
 for images in "${sizes[@]}"; do
-    measure /dev/null "$data/$images" "$program" "$images" "$times"
+    measure /dev/null "$data/$images" "$program" hub "$images" "$times"
     all+=("$seconds") peaks+=("$peak")
 done
 for work in submit report; do

@@ -1,11 +1,13 @@
 #!/usr/bin/env bash
-# Times the scan of an image by its root and by the reductions of its layers: 128 layers of 10,000 entries each, and one layer of
-# 1,000,000 entries. Of each it prints the seconds and the peak of memory. The folders take some minutes to make and to remove.
+# Times the scan of an image by its root, and by the reductions of its layers as `cvwatch scan` does it: 128 layers of 10,000 entries
+# each, and one layer of 1,000,000 entries. Of each it prints the seconds and the peak of memory. The folders take some minutes to make
+# and to remove.
 set -euo pipefail
 # shellcheck source=bench/common.sh
 . "$(dirname "$0")/common.sh"
 data=$(data_folder layers)
-program=$(build bench)
+program=$(build cvwatch)
+bench=$(build bench)
 trap 'rm -rf "$data"' EXIT
 
 # the folder of the layer of a word
@@ -24,16 +26,23 @@ layer() {
 
 # scans the image of these layers in both ways
 scan() {
-    local name=$1 way word words=()
+    local name=$1 word words=()
     shift
     for word in "$@"; do words+=("sha256:$(digest "$word")"); done
-    for way in root layers; do
-        (cd "$data" && measure /dev/null answer "$program" image $way "${words[@]}" && grep -q '^image 1$' answer &&
-            printf '%-28s %-8s %8s %8s\n' "$name" $way "$seconds" "$peak")
-    done
+    (
+        cd "$data"
+        measure /dev/null answer "$bench" root "${words[@]}"
+        grep -q '^root 1$' answer
+        row "$name" root "$seconds" "$peak"
+        manifest "$name" "$@" >input
+        measure input answer "$program" scan
+        row "$name" layers "$seconds" "$peak"
+    )
 }
 
-printf '%-28s %-8s %8s %8s\n' image way seconds MB
+row() { printf '%-28s %-8s %8s %8s\n' "$@"; }
+
+row image way seconds MB
 layer base 10000
 names=(base)
 for number in $(seq 2 128); do

@@ -6,7 +6,7 @@ set -euo pipefail
 # shellcheck source=bench/common.sh
 . "$(dirname "$0")/common.sh"
 data=$(data_folder requests)
-program=$(build bench_requests)
+program=$(build bench)
 
 # requests N: N requests in eight lanes, a quarter of each kind
 requests() {
@@ -45,6 +45,6 @@ update 195000 >"$data/update.jsonl"
 printf '%-16s %8s %-10s %8s %8s %10s\n' input MB work seconds peak count
 for name in requests update; do
     timed $name "$data/$name.jsonl" requests
-    timed $name "$data/$name.jsonl" json
+    timed $name "$data/$name.jsonl" parse
 done
-timed '100,000 lines' /dev/null lines 100000
+timed '100,000 lines' /dev/null transcript 100000

@@ -1,7 +1,7 @@
 #!/usr/bin/env bash
 # Shows how `FolderDesk` reads what a repository cannot hold: links, a fifo, a name that is not UTF-8, a path that is too long, a
 # file that nobody may read, a file that goes away or grows between a listing and a read, and more entries than a layer may have.
-# It makes such folders in a temporary directory, runs desk_listing there as the user nobody, and compares what that prints with
+# It makes such folders in a temporary directory, runs `test_checks layers` there as the user nobody, and compares what that prints with
 # what is written here. It ends with 1 at the first difference. The last case makes 1,000,002 empty files, and takes a minute.
 set -euo pipefail
 export LC_ALL=C
@@ -9,8 +9,8 @@ export LC_ALL=C
 . "$(dirname "$0")/../bench/common.sh"
 work=$(mktemp -d)
 trap 'chmod -R u+rwX "$work"; rm -rf "$work"' EXIT
-cp "$(build desk_listing)" "$work/desk_listing"
-chmod 755 "$work" "$work/desk_listing"
+cp "$(build test_checks)" "$work/test_checks"
+chmod 755 "$work" "$work/test_checks"
 mkdir -p "$work/layers/sha256"
 
 # the folder of a layer, and what names it in a command; $1 is a word
@@ -20,9 +20,9 @@ layer() { echo "sha256:$(digest "$1")"; }
 # the program, in $work; nobody may be denied a file, and root may not
 run() {
     if [ "$(id -u)" = 0 ]; then
-        (cd "$work" && runuser -u nobody -- ./desk_listing)
+        (cd "$work" && runuser -u nobody -- ./test_checks layers)
     else
-        (cd "$work" && ./desk_listing)
+        (cd "$work" && ./test_checks layers)
     fi
 }
 

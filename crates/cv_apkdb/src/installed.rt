@@ -21,6 +21,3 @@ pub fn read_installed(alloc: Global, bytes: &[u8]) -> Result<Seq<ApkPackage>, Re
 {
     Ok(Seq::of(read_blocks(alloc, &PackageBlocks, bytes)?))
 }
-
-#[cfg(test)]
-mod tests;

@@ -156,6 +156,3 @@ fn digits_after_mark(build: Option<&[u8]>) -> &[u8]
         _ => &[],
     }
 }
-
-#[cfg(test)]
-mod tests;

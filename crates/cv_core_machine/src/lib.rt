@@ -12,8 +12,6 @@ mod event;
 mod laws;
 mod limits;
 mod status;
-#[cfg(test)]
-mod tests;
 
 pub use event::MachineEvent;
 pub use laws::{board_law, entered_law, notification_laws, scan_law, step_laws};

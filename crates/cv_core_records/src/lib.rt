@@ -9,8 +9,6 @@
 mod event;
 mod read;
 mod reply;
-#[cfg(test)]
-mod tests;
 
 pub use event::{Act, By, EventEntry};
 pub use read::{Answer, NoticeHead, PageOutcome, ReadEntry, ReportOutcome};

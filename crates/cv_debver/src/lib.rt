@@ -5,8 +5,6 @@
 
 mod grammar;
 mod parts;
-#[cfg(test)]
-mod tests;
 mod version;
 
 pub use grammar::is_version;

@@ -8,9 +8,8 @@ ghost use Rattle.cv_io.specs.Reader.{Answers, Step, new_reader};
 ghost use Rattle.cv_io.specs.code.Gather.{SameCounts, SameLimits, gathered, held_by, progress_by, reader_of, reads_remaining};
 
 use crate::chunk::Chunk;
-use crate::fault::IoFault;
 use crate::gather::Gather;
-use crate::line::{Line, LineError};
+use crate::line::{Line, LineError, line_error};
 use crate::source::Source;
 use cv_seq::{NoMemory, Seq};
 use std::alloc::Global;
@@ -37,6 +36,7 @@ impl Gather {
             (S.remaining input.old) (S.remaining input.new) result }
         ensures limits { SameLimits self.old self.new }
         ensures cause { CausedBy (S.faults input.old) (S.faults input.new) (is_read_fault result) }
+        ensures unfailed { is_read_fault result ≡ false → S.faults input.new ≡ S.faults input.old }
     {
         let found = self.gather(input)?;
         let mut line = self.take_line(alloc);
@@ -57,6 +57,7 @@ impl Gather {
         ensures refused { IfErr result (λ e. Answers (held_by self.new) (reader_of self.new false) (Err e)) }
         ensures limits { SameLimits self.old self.new }
         ensures cause { CausedBy (S.faults input.old) (S.faults input.new) (is_read_fault result) }
+        ensures unfailed { is_read_fault result ≡ false → S.faults input.new ≡ S.faults input.old }
     {
         'pieces: loop {
             if self.take_piece()? {
@@ -106,13 +107,13 @@ impl Gather {
         ensures refused { IfErr result (λ e. Answers (held_by self.new) (reader_of self.new false) (Err e)) }
         ensures limits { SameLimits self.old self.new }
         ensures cause { CausedBy (S.faults input.old) (S.faults input.new) (is_read_fault result) }
+        ensures unfailed { is_read_fault result ≡ false → S.faults input.new ≡ S.faults input.old }
     {
         let room = self.max_input - self.taken;
         match self.chunk.fill(input, room as usize) {
             Ok(0) => self.ended = true,
             Ok(count) => self.taken += count as u64,
-            Err(IoFault::Failed) => return Err(LineError::ReadFault),
-            Err(IoFault::NoMemory) => return Err(LineError::NoMemory),
+            Err(fault) => return Err(line_error(fault)),
         }
         Ok(())
     }

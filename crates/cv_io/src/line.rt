@@ -1,6 +1,8 @@
 ghost use Rattle.std.specs.Prelude.{◌≡◌};
+ghost use Rattle.cv_io.specs.code.Errors.{line_error};
 ghost use Rattle.cv_io.specs.declared.line.LineError.TheVariants as error;
 
+use crate::fault::IoFault;
 use cv_seq::{NoMemory, Seq};
 use thiserror::Error;
 
@@ -24,6 +26,16 @@ pub enum Line {
     Text(Seq<u8>),
     /// The input ended, and each line of it was given.
     End,
+}
+
+/// The error of a line of which a read was not made.
+pub fn line_error(fault: IoFault) -> LineError
+    ensures { result ≡ line_error fault }
+{
+    match fault {
+        IoFault::Failed => LineError::ReadFault,
+        IoFault::NoMemory => LineError::NoMemory,
+    }
 }
 
 impl From<NoMemory> for LineError {

@@ -1,8 +1,9 @@
-ghost use Rattle.std.specs.Prelude.{◌≡◌, ◌≤◌, ℕ, take, length, OnOk, OnErr};
+ghost use Rattle.std.specs.Prelude.{◌≡◌, false, ◌≤◌, ℕ, take, length, OnOk, OnErr};
 ghost use Rattle.std.specs.Io.KnownBytes.{Appends};
 ghost use Rattle.cv_seq.specs.Cause.{CausedBy};
 ghost use Rattle.cv_io.specs.Fault.{is_write_fault};
 ghost use Rattle.cv_io.specs.Writes.{AppendsPrefix};
+ghost use Rattle.cv_io.specs.code.Errors.{write_error};
 ghost use Rattle.cv_io.specs.declared.write.WriteError.TheVariants as error;
 
 use crate::fault::IoFault;
@@ -24,17 +25,27 @@ pub fn write_all<K: Sink>(output: &mut K, bytes: &[u8]) -> Result<(), WriteError
     ensures ok { OnOk result (Appends (K.contents output.old) (K.contents output.new) bytes.now) }
     ensures err { OnErr result (AppendsPrefix (K.contents output.old) (K.contents output.new) bytes.now) }
     ensures cause { CausedBy (K.faults output.old) (K.faults output.new) (is_write_fault result) }
+    ensures unfailed { is_write_fault result ≡ false → K.faults output.new ≡ K.faults output.old }
 {
     let mut at = 0;
     while at < bytes.len() {
         let (_, rest) = bytes.split_at(at);
         match output.write(rest) {
             Ok(count) => at += count,
-            Err(IoFault::Failed) => return Err(WriteError::WriteFault),
-            Err(IoFault::NoMemory) => return Err(WriteError::NoMemory),
+            Err(fault) => return Err(write_error(fault)),
         }
     }
     Ok(())
+}
+
+/// The error of a whole write of which one write was not made.
+fn write_error(fault: IoFault) -> WriteError
+    ensures { result ≡ write_error fault }
+{
+    match fault {
+        IoFault::Failed => WriteError::WriteFault,
+        IoFault::NoMemory => WriteError::NoMemory,
+    }
 }
 
 impl From<NoMemory> for WriteError {

@@ -55,6 +55,3 @@ fn text_at<'a>(value: &'a Value, key: &str) -> Option<&'a str>
     let text = value.get(key)?.as_str()?;
     if text.is_empty() { None } else { Some(text) }
 }
-
-#[cfg(test)]
-mod tests;

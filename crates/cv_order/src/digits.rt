@@ -137,37 +137,3 @@ pub fn compare_digits(a: &[u8], b: &[u8]) -> Ordering
     let right = significant(b);
     left.len().cmp(&right.len()).then_with(|| left.cmp(right))
 }
-
-#[cfg(test)]
-mod tests {
-    use super::*;
-
-    #[test]
-    fn runs_of_digits_compare_as_numbers(rt: HostRuntime) {
-        for (a, b, want) in [
-            ("9", "10", Ordering::Less),
-            ("007", "7", Ordering::Equal),
-            ("", "000", Ordering::Equal),
-            ("4294967296", "1", Ordering::Greater),
-            (
-                "18446744073709551616",
-                "18446744073709551615",
-                Ordering::Greater,
-            ),
-        ] {
-            assert_eq!(rt;
-                compare_digits(a.as_bytes(), b.as_bytes()),
-                want,
-                "{a} and {b}"
-            );
-        }
-    }
-
-    #[test]
-    fn the_rests_come_after_the_digits(rt: HostRuntime) {
-        let found = compare_numbers(b"010-a", b"9+b");
-        assert_eq!(rt; found.ordering, Ordering::Greater);
-        assert_eq!(rt; found.left, b"-a".as_slice());
-        assert_eq!(rt; found.right, b"+b".as_slice());
-    }
-}

@@ -68,6 +68,3 @@ fn last_value(alloc: Global, name: &[u8], bytes: &[u8]) -> Result<Option<Text>, 
     }
     Ok(last)
 }
-
-#[cfg(test)]
-mod tests;

@@ -103,24 +103,3 @@ impl Ord for Text {
         self.as_str().cmp(other.as_str())
     }
 }
-
-#[cfg(test)]
-mod tests {
-    use super::*;
-    use std::test::Fail;
-
-    fn sent<T: Send + Sync>(value: T) -> T {
-        value
-    }
-
-    #[test]
-    fn a_text_is_kept_and_ordered_by_bytes(rt: HostRuntime) -> Result<(), Fail> {
-        let alloc = rt.alloc();
-        let lower = sent(Text::of(alloc, "curl")?);
-        let upper = Text::of(alloc, "Curl")?;
-        assert_eq!(rt; lower.as_str(), "curl");
-        assert!(rt; upper < lower);
-        assert_eq!(rt; lower.clone()?, lower);
-        Ok(())
-    }
-}

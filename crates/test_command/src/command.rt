@@ -2,9 +2,11 @@ mod failures;
 mod scans;
 mod versions;
 
-use sample_scans::{CALM, NoMemory, Status, USAGE, orders_to, scan_input, scans_to};
 use std::alloc::Global;
 use std::process::Abort;
+use test_commands::{
+    CALM, NoMemory, Status, USAGE, orders_to, root_scans_to, scan_input, scans_to,
+};
 
 /// Scans an image of these layers, and compares how the scan ends and what it prints.
 fn try_scan<R: Abort>(
@@ -36,6 +38,16 @@ fn try_order<R: Abort>(
 fn a_scan_prints_findings(rt: HostRuntime) -> Result<(), NoMemory> {
     for (layers, records, output) in &scans::GOOD {
         try_scan(&rt, rt.alloc(), layers, records, (Status::Done, *output))?;
+    }
+    Ok(())
+}
+
+#[test]
+fn a_scan_of_the_root_finds_the_same(rt: HostRuntime) -> Result<(), NoMemory> {
+    for (layers, records, output) in &scans::GOOD {
+        let input = scan_input(rt.alloc(), layers, records)?;
+        let is_same = root_scans_to(rt.alloc(), input.as_str(), output)?;
+        assert!(rt; is_same, "{layers} {records}");
     }
     Ok(())
 }

@@ -1,4 +1,4 @@
-//! Tests of `cv_command`, in a crate of their own, since a crate with tests is proved twice.
+//! Tests of arguments and the commands that wait for nobody.
 #![tactic(auto)]
 
 #[cfg(test)]

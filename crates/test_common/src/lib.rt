@@ -1,4 +1,4 @@
-//! Tests of `cv_tree`, in a crate of their own, since a crate with tests is proved twice.
+//! Tests of the basic types, paths, plain data, streams and maps.
 #![tactic(auto)]
 
 #[cfg(test)]
@@ -6,11 +6,17 @@ mod balance;
 #[cfg(test)]
 mod base;
 #[cfg(test)]
+mod digits;
+#[cfg(test)]
 mod io;
+#[cfg(test)]
+mod lists;
 #[cfg(test)]
 mod reader;
 #[cfg(test)]
 mod standard;
+#[cfg(test)]
+mod texts;
 #[cfg(test)]
 mod tree;
 #[cfg(test)]

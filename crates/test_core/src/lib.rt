@@ -1,9 +1,13 @@
-//! Tests of `cv_core`, in a crate of their own, since a crate with tests is proved twice.
+//! Tests of notifications, outcomes and the core.
 #![tactic(auto)]
 
+#[cfg(test)]
+mod acts;
 #[cfg(test)]
 mod core_events;
 #[cfg(test)]
 mod notice;
 #[cfg(test)]
 mod outcome;
+#[cfg(test)]
+mod samples;

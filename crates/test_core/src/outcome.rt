@@ -1,14 +1,14 @@
 ghost use Rattle.std.specs.Prelude.{◌≡◌, ◌<◌};
 
+use crate::samples::{digest, flawed_feeds, outcomes};
 use cv_base::{Digest, Reason, Row, Steps};
 use cv_core_outcome::{Findings, Outcome, Rematch};
 use cv_tree::Tree;
-use sample_data::finding_text;
-use sample_outcomes::{digest, flawed_feeds, outcomes};
 use std::alloc::Global;
 use std::marker::Brand;
 use std::sync::ledger::{Blank, Ledger};
 use std::test::Fail;
+use test_data::finding_text;
 
 /// How many outcomes there are after an update by the record of a flaw, and the rows of it.
 fn updated<L: Ledger>(blank: Blank, alloc: Global) -> Result<(u64, Vec<Row>), Fail>

@@ -3,9 +3,9 @@ use cv_base::{
     RelPath, Seq, Text, Turn,
 };
 use cv_match_feed::find_all;
-use sample_data::{Installed, package};
 use std::alloc::Global;
 use std::test::Fail;
+use test_data::{Installed, package};
 
 /// A package at version 1.0.0, which is that of its source too.
 fn installed(

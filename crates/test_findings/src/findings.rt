@@ -6,11 +6,11 @@ use cv_base::{
     Text, Turn,
 };
 use cv_findings::match_all;
-use sample_data::debian_package;
 use std::alloc::Global;
 use std::marker::Brand;
 use std::sync::ledger::{Blank, Ledger};
 use std::test::Fail;
+use test_data::debian_package;
 
 /// All versions before 2.
 fn range(alloc: Global) -> Result<Range, NoMemory> {

@@ -1,4 +1,4 @@
-//! Tests of `cv_findings`: the rows between two lists of findings. The others are in `test_findings`.
+//! Tests of feeds and findings.
 #![tactic(auto)]
 
 #[cfg(test)]

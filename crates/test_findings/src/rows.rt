@@ -5,9 +5,9 @@ ghost use Rattle.cv_match.specs.Findings.{finding_cmp};
 use cv_base::{Digest, Finding, NoMemory, Row, Seq, Text};
 use cv_findings::rows;
 use cv_match::in_order;
-use sample_data::debian_package;
 use std::alloc::Global;
 use std::test::Fail;
+use test_data::debian_package;
 
 /// The package of a finding, its advisory and the fixed version.
 type FindingRow = (&'static str, &'static str, &'static str);

@@ -1,18 +1,17 @@
 ghost use Rattle.std.specs.Prelude.{◌≡◌};
-ghost use Rattle.sample_events.specs.Core.{opened};
+ghost use Rattle.test_hub_events.specs.Core.{opened};
 
 use cv_base::NoMemory;
 use cv_hub::{Blank, Hub, Identity, Seat};
-use sample_events::{
-    Core, EventEntry, Reply, SampleDesk, lanes_with_entries, learned, new_core, replayed,
-    shown_to_first, taken,
-};
-use sample_lanes::{LANES, LINES, submitted};
 use std::alloc::Global;
 use std::marker::Brand;
 use std::process::Abort;
 use std::sync::{Wait, ledger};
 use std::thread::Threads;
+use test_hub_events::{
+    Core, EventEntry, LANES, LINES, Reply, SampleDesk, lanes_with_entries, learned, new_core,
+    replayed, shown_to_first, submitted, taken,
+};
 
 /// What came of events that seats submitted together: the receipts of each, the entries that all took, how many events a seat has seen
 /// that learned a note, and what the hub shows.

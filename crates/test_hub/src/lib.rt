@@ -1,4 +1,4 @@
-//! Tests of `cv_hub` that look at what one seat sees.
+//! Tests of the pool and the hub.
 #![tactic(auto)]
 
 #[cfg(test)]

@@ -28,25 +28,42 @@ fn answers<R: Wait>(rt: &R, hand: &mut Hand, wanted: &[Option<u32>]) -> bool
     true
 }
 
+/// Whether the lists of the hands that were gathered are these.
+fn are_lists(taken: &Taken, wanted: &[&[u32]]) -> bool {
+    let lists = taken.lists.as_slice();
+    lists.len() == wanted.len()
+        && lists
+            .iter()
+            .zip(wanted)
+            .all(|(list, wanted)| list.as_slice() == *wanted)
+}
+
 #[test]
-fn a_hand_takes_its_own_jobs_and_then_those_of_others(rt: HostRuntime) -> Result<(), Fail> {
-    let cases: [(u32, &[Option<u32>], &[u32]); 2] = [
-        (0, &[None, None], &[]),
-        (
-            5,
-            &[Some(0), Some(2), Some(4), Some(1), Some(3), None],
-            &[0, 2, 4, 1, 3],
-        ),
-    ];
-    for (jobs, wanted, list) in cases {
-        let mut hands = fill(rt.alloc(), jobs, 2)?;
-        assert!(rt; answers(&rt, &mut hands[0], wanted), "{jobs} jobs");
-        assert!(rt; answers(&rt, &mut hands[1], &[None]), "{jobs} jobs");
-        let taken = gather(hands);
-        let lists = taken.lists.as_slice();
-        assert_eq!(rt; lists[0].as_slice(), list, "{jobs} jobs");
-        assert!(rt; lists[1].as_slice().is_empty(), "{jobs} jobs");
-    }
+fn one_hand_without_jobs_takes_none(rt: HostRuntime) -> Result<(), Fail> {
+    let mut hands = fill(rt.alloc(), 0, 1)?;
+    let is_answered = answers(&rt, &mut hands[0], &[None, None]);
+    assert!(rt; is_answered && are_lists(&gather(hands), &[&[]]));
+    Ok(())
+}
+
+#[test]
+fn the_first_hand_takes_its_own_jobs_and_then_the_others(rt: HostRuntime) -> Result<(), Fail> {
+    let mut hands = fill(rt.alloc(), 5, 2)?;
+    let jobs = [Some(0), Some(2), Some(4), Some(1), Some(3), None];
+    let is_first = answers(&rt, &mut hands[0], &jobs);
+    let is_second = answers(&rt, &mut hands[1], &[None]);
+    let are_listed = are_lists(&gather(hands), &[&[0, 2, 4, 1, 3], &[]]);
+    assert!(rt; is_first && is_second && are_listed);
+    Ok(())
+}
+
+#[test]
+fn the_second_hand_takes_its_own_job_and_then_the_others(rt: HostRuntime) -> Result<(), Fail> {
+    let mut hands = fill(rt.alloc(), 3, 2)?;
+    let is_second = answers(&rt, &mut hands[1], &[Some(1), Some(0), Some(2), None]);
+    let is_first = answers(&rt, &mut hands[0], &[None]);
+    let are_listed = are_lists(&gather(hands), &[&[], &[1, 0, 2]]);
+    assert!(rt; is_second && is_first && are_listed);
     Ok(())
 }
 
@@ -117,9 +134,9 @@ fn threads_take_each_job_once(rt: HostRuntime) -> Result<(), Fail> {
         run(&rt, hands.as_mut_slice(), is_first_idle);
         let taken = gather(hands);
         let lists = taken.lists.as_slice();
-        assert_eq!(rt; lists.len(), 4);
-        assert!(rt; !is_first_idle || lists[0].as_slice().is_empty());
-        assert!(rt; has_each_once(rt.alloc(), &taken, 1000)?);
+        let is_kept = !is_first_idle || lists[0].as_slice().is_empty();
+        let has_each = has_each_once(rt.alloc(), &taken, 1000)?;
+        assert!(rt; lists.len() == 4 && is_kept && has_each);
     }
     Ok(())
 }

@@ -1,15 +1,15 @@
 ghost use Rattle.std.specs.Prelude.{◌≡◌, ◌≤◌, length, IfOk};
 ghost use Rattle.cv_base.specs.declared.limits.TheConstants.{MAX_LAYERS};
-ghost use Rattle.sample_events.specs.Core.{opened};
+ghost use Rattle.test_hub_events.specs.Core.{opened};
 
 use cv_base::{Digest, Manifest, NoMemory, Seq};
 use cv_core::{Core, Event, Report, ReportRefusal};
 use cv_hub::{Blank, Hub, Identity, Seat};
-use sample_events::{By, EventEntry, Reply, SampleDesk, hash, new_core, taken};
 use std::alloc::Global;
 use std::marker::Brand;
 use std::sync::Wait;
 use std::test::Fail;
+use test_hub_events::{By, EventEntry, Reply, SampleDesk, hash, new_core, taken};
 
 /// What two seats see of an event of the first one: its number and its reply, what the first one's view shows, how many events the
 /// other one has seen once it learned the receipt's note, and the entries that both take.

@@ -1,9 +1,9 @@
 use cv_base::{Digest, ListEntry, NoMemory, RelPath, Seq};
 use cv_desk::{Desk, DeskFault, FileRead, ReadResult};
 use cv_facts::{IndexError, LayerFacts, Reduction, Shape, index_layer};
-use sample_data::{SampleDesk, SampleLayer};
 use std::alloc::Global;
 use std::test::Fail;
+use test_data::{SampleDesk, SampleLayer};
 
 /// The text of a file that is too large.
 const TOO_LARGE: &str = "too large";

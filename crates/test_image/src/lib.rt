@@ -1,4 +1,4 @@
-//! Tests of `cv_facts`, in a crate of their own, since a crate with tests is proved twice.
+//! Tests of desks, layers, roots and their packages.
 #![tactic(auto)]
 
 #[cfg(test)]

@@ -1,4 +1,4 @@
-//! Tests of `cv_match`: the order of findings. The others are in `test_match`.
+//! Tests of ranges, matching and the order of findings.
 #![tactic(auto)]
 
 #[cfg(test)]

@@ -1,8 +1,8 @@
 use cv_base::{Finding, NoMemory, Text};
 use cv_match::in_order;
-use sample_data::debian_package;
 use std::alloc::Global;
 use std::test::Fail;
+use test_data::debian_package;
 
 /// The name of a package, the feed, the advisory and the fixed version.
 type FindingRow = (&'static str, &'static str, &'static str, &'static str);

@@ -1,4 +1,4 @@
-//! Tests of `cv_osv_text`, in a crate of their own, since a crate with tests is proved twice.
+//! Tests of the readers of records, requests and manifests.
 #![tactic(auto)]
 
 #[cfg(test)]

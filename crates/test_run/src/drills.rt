@@ -1,5 +1,5 @@
-use sample_runs::{MemSink, NoMemory, Status, run_by_two};
 use std::process::Abort;
+use test_commands::{MemSink, NoMemory, Status, run_by_two};
 
 #[test]
 fn a_drill_prints_the_same_at_each_run(rt: HostRuntime) -> Result<(), NoMemory> {

@@ -1,4 +1,4 @@
-//! Tests of `cv_run` that several workers or many requests take part in.
+//! Tests of the whole program over layers made in memory.
 #![tactic(auto)]
 
 #[cfg(test)]

@@ -2,11 +2,11 @@ mod failures;
 mod services;
 mod usages;
 
-use sample_runs::{CALM, NoMemory, Status, USAGE, runs_to, scan_input};
 use std::alloc::Global;
 use std::process::Abort;
 use std::sync::Wait;
 use std::thread::Threads;
+use test_commands::{CALM, NoMemory, Status, USAGE, runs_to, scan_input};
 
 /// Runs a command that reads no input, and compares how it ends and what it prints.
 fn try_command<R: Abort + Threads + Wait + Sync>(

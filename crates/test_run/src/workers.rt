@@ -1,8 +1,8 @@
-use sample_runs::{NoMemory, Status, USAGE, after_one_of, is_ended, run_by_two};
 use std::alloc::Global;
 use std::process::Abort;
 use std::sync::Wait;
 use std::thread::Threads;
+use test_commands::{NoMemory, Status, USAGE, after_one_of, is_ended, run_by_two};
 
 #[test]
 fn as_many_workers_as_desks(rt: HostRuntime) -> Result<(), NoMemory> {

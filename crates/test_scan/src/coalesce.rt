@@ -4,9 +4,9 @@ ghost use Rattle.cv_base.specs.declared.limits.TheConstants.{MAX_LAYERS};
 use cv_base::{Digest, NoMemory};
 use cv_coalesce::{ImagePackages, coalesce};
 use cv_facts::LayerFacts;
-use sample_data::{SampleDesk, facts_of, facts_of_rows, package_lines};
 use std::alloc::Global;
 use std::test::Fail;
+use test_data::{SampleDesk, facts_of, facts_of_rows, package_lines};
 
 /// A status file with one package.
 const BASE: [(&str, &str); 4] = [

@@ -1,9 +1,9 @@
 use cv_base::{Digest, Finding, NoMemory, RangeKind, Seq, Text};
 use cv_desk_wrappers::Faulty;
 use cv_scan_image::{ImageError, scan_layers};
-use sample_data::{Flaw, SampleDesk, SampleLayer, advisory, finding_lines};
 use std::alloc::Global;
 use std::test::Fail;
+use test_data::{Flaw, SampleDesk, SampleLayer, advisory, finding_lines};
 
 /// A Debian system with one package.
 const BASE: [(&str, &str); 6] = [

@@ -1,4 +1,4 @@
-//! Tests of `cv_scan_output`, in a crate of their own, since a crate with tests is proved twice.
+//! Tests of the coalescer, scans of images, their input and their output.
 #![tactic(auto)]
 
 #[cfg(test)]

@@ -1,4 +1,4 @@
-//! Tests of `cv_drill`, in a crate of their own, since a crate with tests is proved twice.
+//! Tests of the service, its threads and the drill.
 #![tactic(auto)]
 
 #[cfg(test)]
@@ -7,3 +7,5 @@ mod input;
 mod output;
 #[cfg(test)]
 mod serve;
+#[cfg(test)]
+mod team;

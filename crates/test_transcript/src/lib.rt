@@ -1,4 +1,4 @@
-//! Tests of `cv_serve_dealing`, in a crate of their own, since a crate with tests is proved twice.
+//! Tests of the lines of a transcript and their order.
 #![tactic(auto)]
 
 #[cfg(test)]
@@ -7,3 +7,5 @@ mod entry;
 mod merge;
 #[cfg(test)]
 mod read;
+#[cfg(test)]
+mod records;

@@ -1,4 +1,4 @@
-use sample_scans::{Failure, Outside, Status};
+use test_commands::{Failure, Outside, Status};
 
 /// Scans in which a call of a stream or of the desk fails.
 pub static CASES: [Failure; 6] = [

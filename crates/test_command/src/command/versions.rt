@@ -1,4 +1,4 @@
-use sample_scans::Status;
+use test_commands::Status;
 
 /// Comparisons of versions: how each ends, what it prints, and the arguments of comparisons that do so.
 pub static ORDERS: [(Status, &str, &[&[&str]]); 5] = [

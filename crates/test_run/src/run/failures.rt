@@ -1,4 +1,4 @@
-use sample_runs::{Failure, Outside, Status};
+use test_commands::{Failure, Outside, Status};
 
 /// Sessions of the service in which a call of a stream or of the desk fails.
 pub static CASES: [Failure; 3] = [

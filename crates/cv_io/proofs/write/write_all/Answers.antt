@@ -1,4 +1,4 @@
-use Rattle.std.proofs.Common.{arith}
+use Rattle.std.proofs.Common.{arith, refl}
 use Rattle.cv_io.proofs.Streams.{Appends-more, prefix_more}
 use Rattle.cv_io.proofs.write.write_all.Goals as goal
 
@@ -6,13 +6,9 @@ pub loop-at-preserved : goal.loop-at-preserved
 loop-at-preserved g c = record {
   within = omega (arith, c.in-Ok.ensures.bound);
   written = Appends-more _ _ _ c.args.bytes.now c.loop-at.at c.in-Ok.count c.loop-at.invariant.written (rw c.split_at.ensures.back at c.in-Ok.ensures.bytes);
-  later = omega (arith, c.in-Ok.ensures.cause.later);
+  same = cc (c.in-Ok.ensures.unfailed refl, c.loop-at.invariant.same);
 }
 
-pub returns-in-Err-Failed-clause-err : goal.returns-in-Err-Failed-clause-err
-returns-in-Err-Failed-clause-err g c =
-    prefix_more _ _ _ c.args.bytes.now c.loop-at.at c.loop-at.invariant.within c.loop-at.invariant.written (rw c.split_at.ensures.back at c.in-Err-Failed.ensures.bytes)
-
-pub returns-in-Err-NoMemory-clause-err : goal.returns-in-Err-NoMemory-clause-err
-returns-in-Err-NoMemory-clause-err g c =
-    prefix_more _ _ _ c.args.bytes.now c.loop-at.at c.loop-at.invariant.within c.loop-at.invariant.written (rw c.split_at.ensures.back at c.in-Err-NoMemory.ensures.bytes)
+pub returns-in-Err-clause-err : goal.returns-in-Err-clause-err
+returns-in-Err-clause-err g c =
+    prefix_more _ _ _ c.args.bytes.now c.loop-at.at c.loop-at.invariant.within c.loop-at.invariant.written (rw c.split_at.ensures.back at c.in-Err.ensures.bytes)

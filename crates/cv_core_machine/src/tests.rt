@@ -1,8 +1,0 @@
-use super::*;
-
-fn is_shared<T: Send + Sync>() {}
-
-#[test]
-fn acts_are_shared() {
-    is_shared::<(MachineEvent, Status, Limits)>();
-}

@@ -1,4 +1,0 @@
-use Rattle.sample_core.proofs.step.apply.Given as goal
-
-abbrev pub ghosts-apply_counted : goal.ghosts-apply_counted
-ghosts-apply_counted a = record { name = a.blank.name; parts = a.blank.parts }

@@ -1,0 +1,87 @@
+ghost use Rattle.std.specs.Prelude.{◌<◌, ◌≤◌, ◌^◌, length, All};
+
+use crate::compare::is_ended;
+use crate::layers::Layers;
+use crate::streams::{CALM, Outside, arguments_of, listed, sink_of, source_of};
+use cv_base::NoMemory;
+use cv_desk::{Desk, TableDesk};
+use cv_desk_wrappers::{Faulty, GateDesk};
+use cv_io::MemSink;
+use cv_run::{Status, run};
+use std::alloc::Global;
+use std::sync::Wait;
+use std::thread::Threads;
+
+/// Runs the program over one desk. Whether it ends so and prints this text, in which names in brackets stand for texts.
+pub fn runs_to<R: Threads + Wait + Sync>(
+    rt: &R,
+    alloc: Global,
+    arguments: &[&str],
+    input: &str,
+    outside: &Outside,
+    (status, text): (Status, &str),
+) -> Result<bool, NoMemory> {
+    let ended = run_once(rt, alloc, arguments, input, outside)?;
+    is_ended(alloc, &ended, status, text)
+}
+
+/// Runs the program over two desks, each of which waits at each listing until so many of them have begun. Returns how it ended, what
+/// it printed, and whether each desk listed a layer and saw so many.
+pub fn run_by_two<R: Threads + Wait + Sync>(
+    rt: &R,
+    alloc: Global,
+    arguments: &[&str],
+    input: &str,
+    goal: u64,
+) -> Result<((Status, MemSink), bool), NoMemory> {
+    let (first, second) = GateDesk::pair(
+        alloc,
+        TableDesk::<Layers>::new(),
+        TableDesk::<Layers>::new(),
+        goal,
+        goal,
+    )?;
+    let mut desks = vec![in alloc; first, second]?;
+    let ended = run_over(rt, alloc, arguments, input, &CALM, &mut desks)?;
+    Ok((ended, desks.iter().all(GateDesk::passed)))
+}
+
+/// Runs the program over one desk. Returns how it ended, and what it printed.
+fn run_once<R: Threads + Wait + Sync>(
+    rt: &R,
+    alloc: Global,
+    arguments: &[&str],
+    input: &str,
+    outside: &Outside,
+) -> Result<(Status, MemSink), NoMemory> {
+    let desk = Faulty::new(TableDesk::<Layers>::new(), listed(alloc, outside.desk)?);
+    let mut desks = vec![in alloc; desk]?;
+    run_over(rt, alloc, arguments, input, outside, &mut desks)
+}
+
+/// Runs the program over these desks.
+fn run_over<R: Threads + Wait + Sync, D: Desk + Drop + Send + Sync>(
+    rt: &R,
+    alloc: Global,
+    arguments: &[&str],
+    input: &str,
+    outside: &Outside,
+    desks: &mut Vec<D>,
+) -> Result<(Status, MemSink), NoMemory>
+    requires has_desks { 1 ≤ length desks.old.items }
+    requires at_most_8_desks { length desks.old.items ≤ 8 }
+    requires room { All (λ desk. D.listings desk < 2 ^ 62) desks.old.items }
+{
+    let arguments = arguments_of(alloc, arguments)?;
+    let mut source = source_of(alloc, input, outside)?;
+    let mut sink = sink_of(alloc, outside)?;
+    let status = run(
+        rt,
+        alloc,
+        arguments.as_slice(),
+        &mut source,
+        &mut sink,
+        desks,
+    );
+    Ok((status, sink))
+}

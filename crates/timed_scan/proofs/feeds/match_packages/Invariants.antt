@@ -1,4 +1,0 @@
-use Rattle.timed_scan.proofs.feeds.match_packages.Given as goal
-
-abbrev pub ghosts-count_findings : goal.ghosts-count_findings
-ghosts-count_findings a = record { name = a.blank.name; parts = a.blank.parts }

@@ -1,4 +1,0 @@
-use Rattle.timed_scan.proofs.matching.hits_of.Given as goal
-
-abbrev pub ghosts-count_hits : goal.ghosts-count_hits
-ghosts-count_hits a = record { name = a.blank.name; parts = a.blank.parts }
