@@ -1,5 +1,5 @@
-//! The core of the service: the machine of `cv_core_machine` with its events, its reports, its notifications and its boards. An event
-//! that runs out of memory, or is cancelled, changes nothing.
+//! The core of the service: the machine of `cv_core_machine` with its events, plans, reports, notifications and boards. An event makes a
+//! new core and leaves the old one as it was, so that one that runs out of memory, or is cancelled, changes nothing.
 //!
 //! ```text
 //! let mut core = Core::<D>::new(alloc, Limits { images: MAX_IMAGES, feeds: MAX_FEEDS })?;

@@ -1,6 +1,7 @@
-//! The images of a service with their layers and the feeds, and the outcome of each image, which is kept: a report is read without
-//! matching. An event makes a new inventory that shares the rest with the old one, which stays as it was. `specs/Holdings.antt` says
-//! what an inventory holds, and each event is proved to be that of the machine in `cv_core_machine`.
+//! The images of a service with their layers and the feeds, and what is known of them: the facts of the indexed layers, and the outcome
+//! of each image, which is kept, so that a report is read without matching. An event makes a new inventory that shares the rest with the
+//! old one, which stays as it was. `specs/Holdings.antt` says what an inventory holds, `specs/Knowledge.antt` what is known, and each
+//! event is proved to be that of the machine in `cv_core_machine`.
 //!
 //! ```text
 //! let (inventory, reply) = inventory.register(alloc, &manifest, &mut steps)?;

@@ -1,11 +1,12 @@
 ghost use Rattle.std.specs.Prelude.{◌≡◌, ◌≢◌, ◌≤◌, ◌<◌, ◌+◌, ◌++◌, ◌∷◌, [], true, false, is_some, length, string_bytes, IfOk, IfErr, IfSome, IsErr, OnOk, Ok, Some, None};
 ghost use Rattle.std.specs.Fs.{IsDir, IsFile, dir_entry_name, file_type, metadata_len};
+ghost use Rattle.std.specs.Iterator.{IsFinite};
 ghost use Rattle.std.specs.List.Sorted.{IsPermutation, IsSortedByKey};
 ghost use Rattle.std.specs.IoError.{error_kind};
 ghost use Rattle.cv_base.specs.Path.{path_cmp, path_of, path_text};
 ghost use Rattle.cv_desk_folder.specs.Folder.{folder_text, most_entries};
 ghost use Rattle.cv_desk.specs.Stored.{File, file_read};
-ghost use Rattle.cv_desk_folder.specs.code.Walked.{IsWithin, is_failure, joined};
+ghost use Rattle.cv_desk_folder.specs.code.Walked.{AreAllAdded, IsWithin, is_failure, joined};
 
 use crate::failure::{FolderError, FolderFailure};
 use cv_base::{Digest, Kind, ListEntry, MAX_ENTRIES, NoMemory, PathError, RelPath, Seq};
@@ -171,7 +172,31 @@ fn add_found<R: Files + Clone + Drop>(
     ensures full { IfOk result (λ goes_on. goes_on ≡ false → length entries.new.items ≡ most_entries) }
     ensures room { IfOk result (λ goes_on. goes_on ≡ true → length entries.new.items < most_entries) }
 {
-    for entry in answer_at(alloc, place, found)? {
+    let found = answer_at(alloc, place, found)?;
+    add_each(alloc, place, path, found, entries, folders)
+}
+
+/// Adds the entry of each item that the system found in the folder at `place`, as `list_one` does. An item that is an error is an error
+/// here too.
+fn add_each<R: Files + Drop, I: Iterator<Item = io::Result<DirEntry<R>>>>(
+    alloc: Global,
+    place: &str,
+    path: &RelPath,
+    found: I,
+    entries: &mut Vec<ListEntry>,
+    folders: &mut Vec<RelPath>,
+) -> Result<bool, FolderError>
+    requires can { I.can_next found }
+    requires ends { IsFinite (I.remaining found) }
+    requires room { length entries.old.items < most_entries }
+    ensures each { IfOk result (λ goes_on. goes_on ≡ true → AreAllAdded I.next_gives found (length entries.old.items) (length entries.new.items)) }
+    ensures at_most { OnOk result (length entries.new.items ≤ most_entries) }
+    ensures more { OnOk result (length entries.old.items ≤ length entries.new.items) }
+    ensures folders { OnOk result (length folders.new.items + length entries.old.items ≤ length folders.old.items + length entries.new.items) }
+    ensures full { IfOk result (λ goes_on. goes_on ≡ false → length entries.new.items ≡ most_entries) }
+    ensures room { IfOk result (λ goes_on. goes_on ≡ true → length entries.new.items < most_entries) }
+{
+    for entry in found {
         let entry = read_entry(alloc, place, path, entry)?;
         add(entries, folders, entry)?;
         if entries.len() >= MOST_ENTRIES {

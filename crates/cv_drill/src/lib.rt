@@ -1,4 +1,4 @@
-//! A large run of the service that a number determines: a summary of what is written for the input of `cv_drill`.
+//! A large run of the service that a number determines: the input of the run, and a summary of the transcript that is written for it.
 //!
 //! ```text
 //! let input = script(alloc, 7)?;

@@ -1,4 +1,4 @@
-ghost use Rattle.std.specs.Prelude.{◌≡◌, true};
+ghost use Rattle.std.specs.Prelude.{◌≡◌, true, None, Some};
 ghost use Rattle.cv_seq.specs.Cause.{CausedBy};
 ghost use Rattle.cv_io.specs.declared.fault.IoFault.TheVariants as fault;
 
@@ -18,6 +18,7 @@ impl<S> Counted<S> {
     pub fn new(stream: S) -> Counted<S>
         ensures stream { result.stream ≡ stream }
         ensures faults { result.faults ≡ 0 }
+        ensures none { result.last_error ≡ None }
     {
         Counted {
             stream,
@@ -30,6 +31,7 @@ impl<S> Counted<S> {
     pub fn note(&mut self, error: io::Error) -> IoFault
         ensures value { result ≡ fault.Failed }
         ensures stream { self.new.stream ≡ self.old.stream }
+        ensures last_error { self.new.last_error ≡ Some error }
         ensures cause { CausedBy self.old.faults self.new.faults true }
     {
         self.faults = self.faults.saturating_add(1);

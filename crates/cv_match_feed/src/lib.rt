@@ -1,4 +1,4 @@
-//! Finds what the records of a feed say of packages.
+//! Finds what the records of one feed say of packages: all findings, or the finding of one package with one record.
 //!
 //! ```text
 //! let findings = find_all(alloc, packages.as_slice(), &feed, advisories)?;

@@ -1,4 +1,5 @@
-//! Reads lists of records of the OSV schema from JSON values into advisories with distinct ids.
+//! Reads records of the OSV schema from JSON values, owned or borrowed, into advisories, and lists of records into advisories with
+//! distinct ids.
 //!
 //! ```text
 //! let value = Value::from_str(alloc, text)?;

@@ -1,4 +1,5 @@
-//! Assembles the packages of a root from its package files, of which the os-release names the system.
+//! Reads the package files of a root, each by its place and its bytes alone, and assembles the packages of the root, of which the
+//! os-release names the system.
 //!
 //! ```text
 //! let found = read_file(alloc, Place::Status, &content)?;

@@ -1,4 +1,5 @@
-//! Scans an image with advisories: loads its layers, lays them, reads all its packages and matches them with all records.
+//! The definition of a scan and its plain form, which loads the layers of an image, lays them, reads all its packages and matches them
+//! with all records; and the reader that reads each distinct layer once, into what a [`LayerReader`] makes of it.
 //!
 //! ```text
 //! let findings = scan_image(alloc, desk, manifest.layers.as_slice(), &feed, advisories)?;

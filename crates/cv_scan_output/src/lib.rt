@@ -1,6 +1,7 @@
-//! Writes that a line of the input is refused, and why, as a line of JSON.
+//! Writes the answer of a scan, and that a line of the input is refused and why, each as a line of JSON.
 //!
 //! ```text
+//! {"findings":[],"image":"sha256:11..","reply":"good"}
 //! {"line":2,"refused":"bad_json"}
 //! ```
 #![tactic(auto)]

@@ -1,6 +1,6 @@
-//! The service: it reads requests, carries them out in rounds, and writes a transcript of what it did. The lines of a round are
-//! written as soon as it ends, before a further line is taken, by `cv_serve_round`. A round is run by `cv_serve_round`, in threads over the hub
-//! of `cv_hub`; which transcripts are legal is defined in `cv_serve_legal`.
+//! The service: it reads requests, carries them out in rounds, and writes a transcript of what it did. `cv_serve_round` runs a round, in
+//! threads over the hub of `cv_hub`, and writes its lines as soon as it ends, before a further line is taken. Which transcripts are legal
+//! is defined in `cv_serve_legal`.
 //!
 //! ```text
 //! match serve(rt, alloc, &mut input, &mut output, &mut desks, 4) {

@@ -1,9 +1,10 @@
-//! What a round does without a hub: it divides its lines into the refused ones and the requests of eight lanes, each in their order, copies
-//! what reads show, and gathers the reads of the lanes.
+//! What a round does without a hub: it divides its lines into the refused ones and the requests of eight lanes, each in their order,
+//! copies what reads show, and merges the events of the round with the reads of its lanes, in the order of the transcript.
 //!
 //! ```text
-//! let (refused, requests) = divide(alloc, taken)?;
+//! let (refused, requests) = divide(alloc, lines)?;
 //! let lanes = lanes_of(alloc, requests)?;
+//! let entries = merge(alloc, events, reads_of(alloc, lanes)?)?;
 //! ```
 #![tactic(auto)]
 

@@ -1,7 +1,10 @@
-//! The workers of a round: each takes jobs with its hand, claims the layer of each at its seat of the hub, and if the claim is granted,
-//! indexes the layer from its desk and says what became of it. It re-exports what the crates above use of `cv_serve_lanes`.
+//! What the lanes and the workers of a round do, each at its seat of a hub. A lane carries out its requests in their order: an event goes
+//! to the hub, and a report, a page or a list is read from a view of it. A worker takes jobs with its hand, claims the layer of each, and
+//! if the claim is granted, indexes the layer from its desk and says what became of it.
 //!
 //! ```text
+//! refresh(rt, hub, seats);
+//! LaneTeam { rt, hub }.run(seat, lane)?;
 //! WorkerCrew { rt, alloc, hub, queue }.run(worker, hand, seat, desk)?;
 //! ```
 #![tactic(auto)]

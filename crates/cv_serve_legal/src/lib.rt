@@ -1,11 +1,16 @@
-//! What the transcript of a service shows if no worker gives a layer back: all layers of the registered images are indexed at its
-//! end, and a report is pending only for an image that is registered before it, in its round or in the round before. It has no
-//! algorithm: `specs/Complete.antt` says this of transcripts, and it is proved of the legal ones.
+//! The definition of the service as its input and its output show it: which outputs are legal transcripts of an input, and what a legal
+//! transcript shows if no worker gives a layer back. It has no algorithm: `specs/` judges a transcript, and the service is proved to
+//! write legal ones. `specs/Rounds.antt` cuts an input into rounds, `specs/ParsedLine.antt` says what becomes of the lines of a round,
+//! `specs/Replay.antt` what an entry may be at its place, `specs/Round.antt` what a round's entries are together, `specs/Legal.antt` what
+//! a transcript is, and `specs/Complete.antt` which layers are indexed at its end, and which reports may be pending.
 //!
 //! ```text
+//! IsLegal trees input output workers state: the output is a legal transcript, and leads to the state
 //! AreAllIndexed state: each layer of each registered image is Indexed
-//! ArePendingRecent [] rounds: a report is pending only for an image of its round, or of the round before
 //! ```
+//!
+//! `IsLegal` is of an input that was read to its end. The rounds before a refusal of reading, and those from another start, are
+//! `AreLegalRounds` in `specs/Legal.antt`, which has the moment before them and the moment after.
 #![tactic(auto)]
 
 mod complete_laws;
@@ -14,5 +19,6 @@ mod limits;
 mod parsed_line;
 
 pub use complete_laws::completeness_laws;
+pub use laws::{generation_law, history_law, round_laws};
 pub use limits::{MAX_ROUND_BYTES, MAX_ROUND_LINES};
 pub use parsed_line::{ParsedLine, Requested};

@@ -1,5 +1,6 @@
-//! The rounds of a service: it takes lines into the round that has begun, has `cv_serve_round` carry out each round that ends, and writes the
-//! round's lines. It owns the hub of `cv_hub` and the seats of a service.
+//! The rounds of a service over a hub of `cv_hub`: it takes lines into the round that has begun, carries out each round that ends, eight
+//! lanes and the workers concurrently, and writes the round's lines. `specs/Round.antt` says what a round leaves of the desks and of the
+//! seats; its entries are a legal round of `cv_serve_legal`.
 //!
 //! ```text
 //! let core = new_core(alloc)?;

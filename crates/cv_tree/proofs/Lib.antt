@@ -3,6 +3,7 @@ pub mod CountLemmas
 pub mod EntryLemmas
 mod Examples
 pub mod ForkLemmas
+pub mod HeightLemmas
 pub mod RemadeLemmas
 pub mod TreeLemmas
 pub mod ValueLemmas

@@ -1,3 +1,4 @@
 pub mod Entries
+pub mod Heights
 pub mod Nodes
 pub mod code

@@ -1,4 +1,5 @@
-ghost use Rattle.std.specs.Prelude.{◌≡◌, [], ◌∷◌, ◌++◌, IfOk, MatchOption};
+ghost use Rattle.std.specs.Prelude.{◌≡◌, [], ◌∷◌, ◌++◌, length, IfOk, MatchOption};
+ghost use Rattle.cv_tree.specs.Heights.{IsHeightOf};
 ghost use Rattle.cv_tree.specs.Nodes.{between};
 
 use crate::share::Share;
@@ -31,10 +32,12 @@ impl<K, V> Model for Branch<K, V> {
 
     ghost Value = { List (K × V) };
 
-    ghost use Rattle.cv_tree.specs.code.Links.{entries};
+    ghost use Rattle.cv_tree.specs.code.Links.{entries, KnowsHeight};
     ghost use Rattle.std.proofs.Common.{arith, length-append};
 
     ghost view = { λ b. entries b.node };
+
+    ghost invariant = { λ b. KnowsHeight b.node };
 
     ghost size = { length };
 
@@ -60,7 +63,9 @@ impl<K, V> Branch<K, V> {
     }
 
     /// How many nodes the longest way down has, as far as 64 bits count.
-    pub fn height(&self) -> u64 {
+    pub fn height(&self) -> u64
+        ensures { IsHeightOf result (length self.now) }
+    {
         match &self.node {
             None => 0,
             Some(fork) => fork.height,

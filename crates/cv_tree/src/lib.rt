@@ -1,6 +1,6 @@
-//! Ordered maps whose versions share what they have in common: a change makes a new map and leaves the old one as it
-//! was, and takes time and memory for one path alone. Contracts see a map as its entries in ascending order of the
-//! keys; `specs/Entries.antt` defines their words.
+//! Ordered maps whose versions share what they have in common: a change makes a new map and leaves the old one as it was, and takes time
+//! and memory for one path alone. Contracts see a map as its entries in ascending order of the keys; `specs/Entries.antt` defines their
+//! words. Below the maps are AVL trees of nodes that may have several owners.
 //!
 //! ```text
 //! let one = Tree::new().set(alloc, 7, Shared::of(alloc, "a")?)?;

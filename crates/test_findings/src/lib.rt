@@ -2,10 +2,4 @@
 #![tactic(auto)]
 
 #[cfg(test)]
-mod advdb;
-#[cfg(test)]
-mod find;
-#[cfg(test)]
-mod findings;
-#[cfg(test)]
-mod rows;
+mod tests;

@@ -2,8 +2,4 @@
 #![tactic(auto)]
 
 #[cfg(test)]
-mod hub;
-#[cfg(test)]
-mod pool;
-#[cfg(test)]
-mod seats;
+mod tests;

@@ -2,16 +2,4 @@
 #![tactic(auto)]
 
 #[cfg(test)]
-mod check;
-#[cfg(test)]
-mod desk;
-#[cfg(test)]
-mod facts;
-#[cfg(test)]
-mod fault;
-#[cfg(test)]
-mod generated;
-#[cfg(test)]
-mod packages;
-#[cfg(test)]
-mod root;
+mod tests;

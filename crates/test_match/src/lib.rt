@@ -2,8 +2,4 @@
 #![tactic(auto)]
 
 #[cfg(test)]
-mod matching;
-#[cfg(test)]
-mod order;
-#[cfg(test)]
-mod range;
+mod tests;

@@ -2,12 +2,4 @@
 #![tactic(auto)]
 
 #[cfg(test)]
-mod manifest;
-#[cfg(test)]
-mod osv_text;
-#[cfg(test)]
-mod read;
-#[cfg(test)]
-mod record;
-#[cfg(test)]
-mod records;
+mod tests;

@@ -2,8 +2,4 @@
 #![tactic(auto)]
 
 #[cfg(test)]
-mod drills;
-#[cfg(test)]
-mod run;
-#[cfg(test)]
-mod workers;
+mod tests;

@@ -2,12 +2,4 @@
 #![tactic(auto)]
 
 #[cfg(test)]
-mod bad;
-#[cfg(test)]
-mod coalesce;
-#[cfg(test)]
-mod image;
-#[cfg(test)]
-mod input;
-#[cfg(test)]
-mod refusal;
+mod tests;

@@ -2,10 +2,4 @@
 #![tactic(auto)]
 
 #[cfg(test)]
-mod input;
-#[cfg(test)]
-mod output;
-#[cfg(test)]
-mod serve;
-#[cfg(test)]
-mod team;
+mod tests;

@@ -2,10 +2,4 @@
 #![tactic(auto)]
 
 #[cfg(test)]
-mod entry;
-#[cfg(test)]
-mod merge;
-#[cfg(test)]
-mod read;
-#[cfg(test)]
-mod records;
+mod tests;

@@ -1,5 +1,7 @@
 -- Parts of a walk through real folders, and what the desk answers, counts and keeps after it.
-use Rattle.std.specs.Prelude.{ℕ, ◌≤◌, Bool, true, false, List, [], ◌∷◌, ◌++◌, length, Option, Some, Result, Ok, Err}
+use Rattle.std.specs.Prelude.{◌≡◌, ℕ, ◌+◌, ◌≤◌, Bool, true, false, List, [], ◌∷◌, ◌++◌, length, Option, Some, Result, Ok, Err, IsOk}
+use Rattle.std.specs.Iterator.{Drains}
+use Rattle.std.specs.List.{AllByRecursion}
 use Rattle.cv_seq.specs.Cause.{next_count}
 use Rattle.cv_desk.specs.declared.desk.DeskFault.{DeskFault}
 use Rattle.cv_desk.specs.declared.desk.DeskFault.TheVariants as desk
@@ -43,3 +45,10 @@ abbrev pub IsWithin : ℕ → FileRead → Type 0
 IsWithin limit (Bytes bytes) = length bytes ≤ limit
 IsWithin limit TooLarge = Unit {0}
 IsWithin limit NotFile = Unit {0}
+
+-- items came and then no more, each of them was an answer of the system and no error of it, and each of them was added
+pub record AreAllAdded {S X E : Type 0} (gives : S → Option (Result X E) → S → Type 0) (found : S) (count count_now : ℕ) : Type 0 where
+  pub items : List (Result X E)
+  pub drained : Drains gives found items
+  pub answers : AllByRecursion IsOk items
+  pub counted : count_now ≡ count + length items

@@ -1,0 +1,10 @@
+mod balance;
+mod base;
+mod digits;
+mod io;
+mod lists;
+mod reader;
+mod standard;
+mod texts;
+mod tree;
+mod write;

@@ -1,0 +1,5 @@
+mod acts;
+mod core_events;
+mod notice;
+mod outcome;
+mod samples;

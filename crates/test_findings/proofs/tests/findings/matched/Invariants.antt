@@ -1,0 +1,4 @@
+use Rattle.test_findings.proofs.tests.findings.matched.Given as goal
+
+abbrev pub ghosts-match_counted : goal.ghosts-match_counted
+ghosts-match_counted a = record { name = a.blank.name; parts = a.blank.parts }

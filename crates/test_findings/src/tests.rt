@@ -1,0 +1,4 @@
+mod advdb;
+mod find;
+mod findings;
+mod rows;

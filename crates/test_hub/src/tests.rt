@@ -1,0 +1,3 @@
+mod hub;
+mod pool;
+mod seats;

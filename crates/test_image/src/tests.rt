@@ -1,0 +1,7 @@
+mod check;
+mod desk;
+mod facts;
+mod fault;
+mod generated;
+mod packages;
+mod root;

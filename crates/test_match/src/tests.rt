@@ -1,0 +1,3 @@
+mod matching;
+mod order;
+mod range;

@@ -1,0 +1,5 @@
+mod manifest;
+mod osv_text;
+mod read;
+mod record;
+mod records;

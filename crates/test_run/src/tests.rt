@@ -1,0 +1,3 @@
+mod drills;
+mod run;
+mod workers;

@@ -1,0 +1,5 @@
+mod bad;
+mod coalesce;
+mod image;
+mod input;
+mod refusal;

@@ -1,0 +1,4 @@
+mod input;
+mod output;
+mod serve;
+mod team;

@@ -1,0 +1,4 @@
+mod entry;
+mod merge;
+mod read;
+mod records;
