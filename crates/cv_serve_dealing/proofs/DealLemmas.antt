@@ -1,10 +1,11 @@
 -- The lines of a round, apart, and the requests of its lanes.
-use Rattle.std.specs.Prelude.{◌≡◌, ◌≢◌, ◌⊎◌, ℕ, ◌==◌, ◌+◌, ◌<◌, Bool, true, false, not, cond, List, [], ◌∷◌, ◌++◌, filter, length, Option, Some, None, Result, Ok, Err, refl}
+use Rattle.std.specs.Prelude.{◌≡◌, ◌≢◌, ◌⊎◌, ℕ, zero, suc, ◌==◌, ◌+◌, ◌<◌, ◌≤◌, Bool, true, false, cond, List, [], ◌∷◌, ◌++◌, get_or, length, set, take, Option, Some, None, Result, Ok, Err, refl}
 use Rattle.std.specs.List.{AllByRecursion, cons_option}
 use Rattle.std.proofs.Common.{ap, arith, inl, inr, length-append, subst, sym, ◌∙◌}
-use Rattle.std.proofs.lemmas.Bool.{ne_eqb}
-use Rattle.std.proofs.lemmas.Bool.Decides.{eqb_tells}
+use Rattle.std.proofs.Math.Seq.{take-append_seam}
+use Rattle.std.proofs.lemmas.Bool.{eq-eqb, ne_eqb}
 use Rattle.std.proofs.lemmas.List.{append-nil}
+use Rattle.std.proofs.lemmas.List.Elements.{filter-append}
 use Rattle.cv_base.proofs.AllItems.{all_kept}
 use Rattle.cv_request.specs.Limits.{IsWithinLimits}
 use Rattle.cv_request.specs.declared.error.RequestError.{RequestError}
@@ -16,7 +17,7 @@ use Rattle.cv_serve_legal.specs.code.Segment.{lane_requests}
 use Rattle.cv_serve_legal.specs.declared.parsed_line.Requested.{Requested}
 use Rattle.cv_serve_legal.specs.declared.parsed_line.ParsedLine.{ParsedLine}
 use Rattle.cv_serve_dealing.specs.Sound.{IsSoundAnswer, IsSoundRequest, IsSoundTaken}
-use Rattle.cv_serve_dealing.specs.code.Dealt.{AreDealt, IsDealt, IsLanePrepared, of_other_lane}
+use Rattle.cv_serve_dealing.specs.code.Dealt.{AreDealt, IsDealt, IsGiven, IsLanePrepared, requests_with}
 use Rattle.cv_serve_dealing.specs.declared.lane.Lane.{Lane}
 
 cons_both : {X : Type 0} (o : Option X) (xs ys : List X) → cons_option o (xs ++ ys) ≡ cons_option o xs ++ ys
@@ -67,29 +68,6 @@ one_refused taken t error refused all requested err refused_is requested_is join
   requested_is ∙ sym (requests_both taken (t ∷ []) ∙ ap (λ a. requests taken ++ cons_option (request_at t.line a) []) err ∙ append-nil (requests taken)),
 )
 
--- ---- lanes
-
--- requests of other lanes are all those of each other lane
-pub lane_of_others : (lane other : ℕ) (requested : List Requested) → lane < other → lane_requests other (filter (of_other_lane lane) requested) ≡ lane_requests other requested
-lane_of_others lane other [] h = refl
-lane_of_others lane other (r ∷ rs) h =
-    by_test (eqb_tells r.request.lane lane) (lane_of_others lane other rs h)
-  where
-    rest : List Requested
-    rest = filter (of_other_lane lane) rs
-
-    first_if : Bool → List Requested → List Requested
-    first_if b tail = cond b (r ∷ tail) tail
-
-    by_test : (((r.request.lane == lane) ≡ true) × (r.request.lane ≡ lane)) ⊎ (((r.request.lane == lane) ≡ false) × (r.request.lane ≢ lane))
-        → lane_requests other rest ≡ lane_requests other rs
-        → lane_requests other (first_if (not (r.request.lane == lane)) rest) ≡ first_if (r.request.lane == other) (lane_requests other rs)
-    by_test (inl same) later =
-        ap (λ b. lane_requests other (first_if (not b) rest)) same.0 ∙ later
-        ∙ ap (λ b. first_if b (lane_requests other rs)) (sym (ne_eqb r.request.lane other (λ e. omega (arith, e, same.1, h))))
-    by_test (inr apart) later =
-        ap (λ b. lane_requests other (first_if (not b) rest)) apart.0 ∙ ap (first_if (r.request.lane == other)) later
-
 -- ---- lanes that were dealt
 
 pub one_longer : {A : Type 0} (xs : List A) (x : A) (ys : List A) (n : ℕ) → length xs ≡ n → ys ≡ xs ++ x ∷ [] → length ys ≡ n + 1
@@ -106,6 +84,69 @@ pub dealt_more : (requested : List Requested) (lanes : List Lane) (lane : Lane) 
     → AreDealt 0 requested all
 dealt_more requested lanes lane all n count joined h one =
     subst (AreDealt 0 requested) (sym joined) (dealt_then 0 requested lanes lane h (subst (λ (k : ℕ). IsDealt k requested lane) (omega (arith, count)) one))
+
+-- ---- a request that is given to its lane
+
+-- a lane with another number is as it was
+other_with : (n : ℕ) (requested : List Requested) (one : Requested) → one.request.lane ≢ n → requested ≡ requests_with n requested one
+other_with n requested one other = ap (λ b. cond b (requested ++ one ∷ []) requested) (sym (ne_eqb one.request.lane n other))
+
+-- all lanes are as they were if the request is of none of them
+pub not_given : (n : ℕ) (one : Requested) (lanes : List Lane) → (one.request.lane < n) ⊎ (n + length lanes ≤ one.request.lane) → IsGiven n one lanes lanes
+not_given n one [] outside = tt
+not_given n one (lane ∷ lanes) (inl low) =
+    (refl, other_with n lane.requested.items one (λ same. omega (arith, low, same)), refl, not_given (n + 1) one lanes (inl (omega (arith, low))))
+not_given n one (lane ∷ lanes) (inr high) =
+    (refl, other_with n lane.requested.items one (λ same. omega (arith, high, same)), refl, not_given (n + 1) one lanes (inr (omega (arith, high))))
+
+-- a lane gets the request of its number
+pub given_at : (n k : ℕ) (one : Requested) (lanes : List Lane) (other new : Lane) → one.request.lane ≡ n + k → k < length lanes → new.number ≡ (get_or lanes k other).number
+    → new.requested.items ≡ (get_or lanes k other).requested.items ++ one ∷ [] → new.reads.items ≡ (get_or lanes k other).reads.items → IsGiven n one lanes (set lanes k new)
+given_at n k one [] other new is within number requested reads = absurd (omega (arith, within))
+given_at n zero one (lane ∷ lanes) other new is within number requested reads =
+    let here : one.request.lane ≡ n = omega (arith, is) in (
+      number,
+      requested ∙ ap (λ b. cond b (lane.requested.items ++ one ∷ []) lane.requested.items) (sym (eq-eqb one.request.lane n here)),
+      reads,
+      not_given (n + 1) one lanes (inl (omega (arith, here))),
+    )
+given_at n (suc k) one (lane ∷ lanes) other new is within number requested reads = (
+  refl,
+  other_with n lane.requested.items one (λ same. omega (arith, is, same)),
+  refl,
+  given_at (n + 1) k one lanes other new (omega (arith, is)) (omega (arith, within)) number requested reads,
+)
+
+-- one more request of a lane, if it is of the lane
+requests_more : (n : ℕ) (requested : List Requested) (one : Requested) → lane_requests n (requested ++ one ∷ []) ≡ requests_with n (lane_requests n requested) one
+requests_more n requested one = filter-append (λ (r : Requested). r.request.lane == n) requested (one ∷ []) ∙ by_test (one.request.lane == n) where
+  by_test : (b : Bool) → lane_requests n requested ++ cond b (one ∷ []) [] ≡ cond b (lane_requests n requested ++ one ∷ []) (lane_requests n requested)
+  by_test true = refl
+  by_test false = append-nil (lane_requests n requested)
+
+-- lanes that have just some requests have just those and this one
+pub given_dealt : (n : ℕ) (requested : List Requested) (one : Requested) (lanes given : List Lane) → AreDealt n requested lanes → IsGiven n one lanes given
+    → AreDealt n (requested ++ one ∷ []) given
+given_dealt n requested one [] [] h k = tt
+given_dealt n requested one [] (g ∷ given) h k = absurd k
+given_dealt n requested one (lane ∷ lanes) [] h k = absurd k
+given_dealt n requested one (lane ∷ lanes) (g ∷ given) h k = (
+  (k.0 ∙ h.0.0, k.1 ∙ (ap (λ rs. requests_with n rs one) h.0.1 ∙ sym (requests_more n requested one)), k.2 ∙ h.0.2),
+  given_dealt (n + 1) requested one lanes given h.1 k.3,
+)
+
+-- there are no fewer lanes, and no more
+pub given_count : (n : ℕ) (one : Requested) (lanes given : List Lane) → IsGiven n one lanes given → length given ≡ length lanes
+given_count n one [] [] k = refl
+given_count n one [] (g ∷ given) k = absurd k
+given_count n one (lane ∷ lanes) [] k = absurd k
+given_count n one (lane ∷ lanes) (g ∷ given) k = ap suc (given_count (n + 1) one lanes given k.3)
+
+-- a list that was written back whole
+pub written_back : {A : Type 0} (n : ℕ) (xs ys : List A) → n ≡ length xs → take n (xs ++ ys) ≡ xs
+written_back n xs ys is = ap (λ k. take k (xs ++ ys)) is ∙ take-append_seam xs ys
+
+-- ---- lanes that can be worked at
 
 within : (requested : List Requested) → AllByRecursion IsSoundRequest requested → AllByRecursion (λ (r : Requested). IsWithinLimits r.request.act) requested
 within [] h = tt

@@ -1,2 +1,2 @@
 pub mod DealLemmas
-mod MergeLemmas
+pub mod MergeLemmas

@@ -1,18 +1,18 @@
 -- Lanes that are merged into the events one after the other: the entries ascend, and the events and each lane's reads are
--- those that there were.
-use Rattle.std.specs.Prelude.{◌≡◌, ⊤, ℕ, zero, suc, ◌+◌, ◌<◌, ◌≤◌, ◌==◌, ◌⊎◌, Bool, true, false, cond, List, [], ◌∷◌, ◌++◌, get_or, map, refl}
+-- those that there were. The first of all entries is that of the list which goes on.
+use Rattle.std.specs.Prelude.{◌≡◌, ⊤, ℕ, zero, suc, ◌+◌, ◌<◌, ◌≤◌, ◌==◌, ◌⊎◌, Bool, true, false, nat_lt, cond, List, [], ◌∷◌, ◌++◌, drop, get_or, length, map, set, Option, Some, None, IfNone, refl}
 use Rattle.std.specs.List.{AllByRecursion, cons_option, flat_map, fold}
 use Rattle.std.specs.List.Sorted.{IsPermutation}
 use Rattle.std.proofs.Common.{ap, append_assoc, arith, inl, inr, subst, sym, ◌∙◌}
 use Rattle.std.proofs.lemmas.Bool.{cases_lt, eq-eqb, ltb-false, ltb-true, ne_eqb}
-use Rattle.std.proofs.lemmas.List.{append-nil}
+use Rattle.std.proofs.lemmas.List.{append-nil, at_drop_all, at_drop_more, get_or-map, length-map, map-set}
 use Rattle.std.proofs.lemmas.List.Sorted.{IsPermutation-append_left, IsPermutation-cons, IsPermutation-middle, IsPermutation-refl, IsPermutation-trans}
 use Rattle.cv_core_records.specs.declared.event.EventEntry.{EventEntry}
 use Rattle.cv_core_records.specs.declared.read.ReadEntry.{ReadEntry}
 use Rattle.cv_transcript.specs.declared.entry.Entry.{Entry}
 use Rattle.cv_transcript.specs.declared.entry.Entry.TheVariants as entry
 use Rattle.cv_transcript.specs.Order.{AreAscending, AreByLane, AreOfLane, IsEventOrRead, Precedes, entries_of, event_in, events_of, reads_by, reads_of}
-use Rattle.cv_serve_dealing.specs.code.Merge.{is_ahead, woven}
+use Rattle.cv_serve_dealing.specs.code.Merge.{counted, first_number, front_before, is_ahead, lowest, merged, next_lane, place_of, woven}
 use Rattle.cv_seq.proofs.AllItems.{all_weaker}
 use Rattle.cv_transcript.proofs.OrderLemmas.{Precedes-trans}
 
@@ -39,7 +39,7 @@ all_woven P (e ∷ es) (r ∷ rs) h k =
 
 -- a read that is taken first stands before the entry
 ahead : (r : ReadEntry) (e : Entry) → is_ahead r e ≡ true → Precedes (entry.Read r) e
-ahead r (entry.Refused line error) is = absurd (cc is)
+ahead r (entry.Refused line error) is = let below = ltb-true r.front 0 is in absurd (omega (arith, below))
 ahead r (entry.Event event) is = ltb-true r.front event.number is
 ahead r (entry.Read read) is = inl (ltb-true r.front read.front is)
 
@@ -259,3 +259,173 @@ merged_reads events lanes given lane =
 
 pub merged_each : (events : List EventEntry) (lanes : List (List ReadEntry)) → IsPermutation (entries_of events lanes) (fold woven (map entry.Event events) lanes)
 merged_each events lanes = lanes_each (map entry.Event events) lanes
+
+-- ---- which list goes on
+
+-- the place of the first entry
+abbrev first_place : List Entry → Option ℕ
+first_place [] = None
+first_place (e ∷ es) = Some (place_of e)
+
+first_event : (events : List EventEntry) → first_place (map entry.Event events) ≡ first_number events
+first_event [] = refl
+first_event (event ∷ events) = refl
+
+first_woven : (es : List Entry) (rs : List ReadEntry) → first_place (woven es rs) ≡ lowest (first_place es) (front_before (first_place es) rs)
+first_woven es [] = refl
+first_woven [] (r ∷ rs) = refl
+first_woven (e ∷ es) (r ∷ rs) = by_test (is_ahead r e) where
+  by_test : (b : Bool) → first_place (cond b (entry.Read r ∷ woven (e ∷ es) rs) (e ∷ woven es (r ∷ rs))) ≡ lowest (Some (place_of e)) (cond b (Some r.front) None)
+  by_test true = refl
+  by_test false = refl
+
+none_counted : (front later : Option ℕ) → counted front later ≡ None → (front ≡ None) × (later ≡ None)
+none_counted front (Some lane) is = absurd (cc is)
+none_counted None None is = (refl, refl)
+none_counted (Some front) None is = absurd (cc is)
+
+later_counted : (front later : Option ℕ) (k : ℕ) → counted front later ≡ Some (suc k) → later ≡ Some k
+later_counted front (Some lane) k is = cc is
+later_counted None None k is = absurd (cc is)
+later_counted (Some front) None k is = absurd (cc is)
+
+first_counted : (front later : Option ℕ) → counted front later ≡ Some 0 → later ≡ None
+first_counted front (Some lane) is = absurd (cc is)
+first_counted None None is = refl
+first_counted (Some front) None is = refl
+
+front_counted : (front later : Option ℕ) → counted front later ≡ Some 0 → front ≡ None → ⊥
+front_counted front (Some lane) is none = absurd (cc is)
+front_counted None None is none = absurd (cc is)
+front_counted (Some front) None is none = absurd (cc none)
+
+-- no read comes before the first entry
+entry_first : (e : Entry) (es : List Entry) (lanes : List (List ReadEntry)) → next_lane (Some (place_of e)) lanes ≡ None → fold woven (e ∷ es) lanes ≡ e ∷ fold woven es lanes
+entry_first e es [] is = refl
+entry_first e es ([] ∷ lanes) is = entry_first e es lanes (none_counted None (next_lane (Some (place_of e)) lanes) is).1
+entry_first e es ((r ∷ rs) ∷ lanes) is = by_test (is_ahead r e) is (λ none. entry_first e (woven es (r ∷ rs)) lanes none) where
+  by_test : (b : Bool) → counted (cond b (Some r.front) None) (next_lane (lowest (Some (place_of e)) (cond b (Some r.front) None)) lanes) ≡ None
+      → (next_lane (Some (place_of e)) lanes ≡ None → fold woven (e ∷ woven es (r ∷ rs)) lanes ≡ e ∷ fold woven (woven es (r ∷ rs)) lanes)
+      → fold woven (cond b (entry.Read r ∷ woven (e ∷ es) rs) (e ∷ woven es (r ∷ rs))) lanes ≡ e ∷ fold woven (woven es (r ∷ rs)) lanes
+  by_test true none later = absurd (cc ((none_counted (Some r.front) (next_lane (Some r.front) lanes) none).0))
+  by_test false none later = later (none_counted None (next_lane (Some (place_of e)) lanes) none).1
+
+-- there is neither an entry nor a read
+no_entry : (lanes : List (List ReadEntry)) → next_lane None lanes ≡ None → fold woven [] lanes ≡ []
+no_entry [] is = refl
+no_entry ([] ∷ lanes) is = no_entry lanes (none_counted None (next_lane None lanes) is).1
+no_entry ((r ∷ rs) ∷ lanes) is = absurd (cc ((none_counted (Some r.front) (next_lane (Some r.front) lanes) is).0))
+
+-- a read that comes before the first entry
+read_woven : (es : List Entry) (r : ReadEntry) (rs : List ReadEntry) → (front_before (first_place es) (r ∷ rs) ≡ None → ⊥)
+    → (woven es (r ∷ rs) ≡ entry.Read r ∷ woven es rs) × (front_before (first_place es) (r ∷ rs) ≡ Some r.front)
+read_woven [] r rs some = (refl, refl)
+read_woven (e ∷ es) r rs some = by_test (is_ahead r e) some where
+  by_test : (b : Bool) → (cond b (Some r.front) None ≡ None → ⊥)
+      → (cond b (entry.Read r ∷ woven (e ∷ es) rs) (e ∷ woven es (r ∷ rs)) ≡ entry.Read r ∷ woven (e ∷ es) rs) × (cond b (Some r.front) None ≡ Some r.front)
+  by_test true kept = (refl, refl)
+  by_test false kept = absurd (kept refl)
+
+-- the first read of a lane comes first
+read_first : (es : List Entry) (lanes : List (List ReadEntry)) (k : ℕ) (r : ReadEntry) (rs : List ReadEntry) → next_lane (first_place es) lanes ≡ Some k → get_or lanes k [] ≡ r ∷ rs
+    → fold woven es lanes ≡ entry.Read r ∷ fold woven es (set lanes k rs)
+read_first es [] k r rs is first = absurd (cc is)
+read_first es (reads ∷ lanes) (suc k) r rs is first =
+    let later = later_counted (front_before (first_place es) reads) (next_lane (lowest (first_place es) (front_before (first_place es) reads)) lanes) k is in
+    read_first (woven es reads) lanes k r rs (ap (λ (place : Option ℕ). next_lane place lanes) (first_woven es reads) ∙ later) first
+read_first es (reads ∷ lanes) zero r rs is first =
+    let at : counted (front_before (first_place es) (r ∷ rs)) (next_lane (lowest (first_place es) (front_before (first_place es) (r ∷ rs))) lanes) ≡ Some 0 =
+    subst (λ (xs : List ReadEntry). counted (front_before (first_place es) xs) (next_lane (lowest (first_place es) (front_before (first_place es) xs)) lanes) ≡ Some 0) first is in
+    let taken = read_woven es r rs (front_counted (front_before (first_place es) (r ∷ rs)) (next_lane (lowest (first_place es) (front_before (first_place es) (r ∷ rs))) lanes) at) in
+    let later = first_counted (front_before (first_place es) (r ∷ rs)) (next_lane (lowest (first_place es) (front_before (first_place es) (r ∷ rs))) lanes) at in
+    ap (λ (xs : List ReadEntry). fold woven (woven es xs) lanes) first ∙ (ap (λ xs. fold woven xs lanes) taken.0
+    ∙ entry_first (entry.Read r) (woven es rs) lanes (ap (λ front. next_lane (lowest (first_place es) front) lanes) (sym taken.1) ∙ later))
+
+-- a lane that goes on is one of the lanes
+lane_bound : (place : Option ℕ) (lanes : List (List ReadEntry)) (k : ℕ) → next_lane place lanes ≡ Some k → k < length lanes
+lane_bound place [] k is = absurd (cc is)
+lane_bound place (reads ∷ lanes) zero is = omega arith
+lane_bound place (reads ∷ lanes) (suc k) is =
+    let less = lane_bound (lowest place (front_before place reads)) lanes k (later_counted (front_before place reads) (next_lane (lowest place (front_before place reads)) lanes) k is) in
+    omega (arith, less)
+
+-- a lane that goes on has a read
+lane_not_empty : (place : Option ℕ) (lanes : List (List ReadEntry)) (k : ℕ) → next_lane place lanes ≡ Some k → get_or lanes k [] ≡ [] → ⊥
+lane_not_empty place [] k is none = absurd (cc is)
+lane_not_empty place (reads ∷ lanes) (suc k) is none =
+    lane_not_empty (lowest place (front_before place reads)) lanes k (later_counted (front_before place reads) (next_lane (lowest place (front_before place reads)) lanes) k is) none
+lane_not_empty place (reads ∷ lanes) zero is none =
+    front_counted (front_before place reads) (next_lane (lowest place (front_before place reads)) lanes) is (ap (front_before place) none)
+
+-- ---- an entry is taken
+
+-- what stays as it was without its first item is empty
+none_taken : {A : Type 0} (old new : List A) → old ≡ new → new ≡ drop 1 old → old ≡ []
+none_taken [] new same rest = refl
+none_taken (x ∷ old) new same rest = let size = ap length (same ∙ rest) in absurd (omega (arith, size))
+
+pub event_taken : (number : Option ℕ) (events later : List EventEntry) (event : EventEntry) (lanes : List (List ReadEntry)) → number ≡ first_number events → None ≡ next_lane number lanes
+    → events ≡ event ∷ later → merged events lanes ≡ entry.Event event ∷ merged later lanes
+event_taken number events later event lanes first next is =
+    let place : number ≡ Some event.number = first ∙ ap first_number is in
+    ap (λ vs. merged vs lanes) is ∙ entry_first (entry.Event event) (map entry.Event later) lanes (ap (λ n. next_lane n lanes) (sym place) ∙ sym next)
+
+pub nothing_taken : (number : Option ℕ) (events later : List EventEntry) (lanes : List (List ReadEntry)) → number ≡ first_number events → None ≡ next_lane number lanes
+    → events ≡ later → later ≡ drop 1 events → merged events lanes ≡ []
+nothing_taken number events later lanes first next same rest =
+    let none = none_taken events later same rest in
+    ap (λ vs. merged vs lanes) none ∙ no_entry lanes (ap (λ n. next_lane n lanes) (sym (first ∙ ap first_number none)) ∙ sym next)
+
+-- ---- the lanes are looked at one after the other
+
+-- the lane of the next read: one of the lanes from this one on, or the one that was found before
+abbrev pub found_from : ℕ → Option ℕ → Option ℕ → Option ℕ
+found_from from next None = next
+found_from from next (Some lane) = Some (from + lane)
+
+-- the lane that was found before, or this one
+abbrev pub found_at : ℕ → Option ℕ → Option ℕ → Option ℕ
+found_at lane next None = next
+found_at lane next (Some front) = Some lane
+
+pub found_first : (found : Option ℕ) → found_from 0 None found ≡ found
+found_first None = refl
+found_first (Some lane) = let same : 0 + lane ≡ lane = omega arith in ap Some same
+
+one_further : (lane : ℕ) (next front later : Option ℕ) → found_from lane next (counted front later) ≡ found_from (lane + 1) (found_at lane next front) later
+one_further lane next None None = refl
+one_further lane next (Some front) None = let same : lane + 0 ≡ lane = omega arith in ap Some same
+one_further lane next front (Some k) = let same : lane + suc k ≡ lane + 1 + k = omega arith in ap Some same
+
+pub if_none : {X : Type 0} {P : Type 0} (r : Option X) → P → IfNone r P
+if_none None h = h
+if_none (Some x) h = tt
+
+module _ {Q : Type 0} (items : Q → List ReadEntry) where
+  pub lane_within : (number : Option ℕ) (queues : List Q) (k : ℕ) → Some k ≡ next_lane number (map items queues) → k < length queues
+  lane_within number queues k next = let less = lane_bound number (map items queues) k (sym next) in let size = length-map queues items in omega (arith, less, size)
+
+  pub read_taken : (number : Option ℕ) (events : List EventEntry) (queues : List Q) (k : ℕ) (read : ReadEntry) (other new : Q) → number ≡ first_number events
+      → Some k ≡ next_lane number (map items queues) → items (get_or queues k other) ≡ read ∷ items new
+      → merged events (map items queues) ≡ entry.Read read ∷ merged events (map items (set queues k new))
+  read_taken number events queues k read other new first next is =
+      let at : get_or (map items queues) k [] ≡ read ∷ items new = get_or-map items queues k other [] (lane_within number queues k next) ∙ is in
+      read_first (map entry.Event events) (map items queues) k read (items new) (ap (λ n. next_lane n (map items queues)) (first_event events ∙ sym first) ∙ sym next) at
+      ∙ ap (λ lanes. entry.Read read ∷ merged events lanes) (sym (map-set items queues k new))
+
+  pub read_not_taken : (number : Option ℕ) (queues : List Q) (k : ℕ) (other new : Q) → Some k ≡ next_lane number (map items queues) → items (get_or queues k other) ≡ items new
+      → items new ≡ drop 1 (items (get_or queues k other)) → ⊥
+  read_not_taken number queues k other new next same rest =
+      lane_not_empty number (map items queues) k (sym next)
+      (get_or-map items queues k other [] (lane_within number queues k next) ∙ none_taken (items (get_or queues k other)) (items new) same rest)
+
+  pub lane_further : (lane : ℕ) (next place front : Option ℕ) (queues : List Q) (queue : Q) → lane < length queues → front ≡ front_before place (items (get_or queues lane queue))
+      → found_from lane next (next_lane place (map items (drop lane queues)))
+          ≡ found_from (lane + 1) (found_at lane next front) (next_lane (lowest place front) (map items (drop (lane + 1) queues)))
+  lane_further lane next place front queues queue within is =
+      at_drop_more (λ (qs : List Q). found_from lane next (next_lane place (map items qs))) queues lane queue within
+      ∙ (ap (λ (f : Option ℕ). found_from lane next (counted f (next_lane (lowest place f) (map items (drop (lane + 1) queues))))) (sym is)
+      ∙ one_further lane next front (next_lane (lowest place front) (map items (drop (lane + 1) queues))))
+
+  pub no_lane_further : (lane : ℕ) (next place : Option ℕ) (queues : List Q) → length queues ≤ lane → found_from lane next (next_lane place (map items (drop lane queues))) ≡ next
+  no_lane_further lane next place queues past = at_drop_all (λ (qs : List Q). found_from lane next (next_lane place (map items qs))) queues lane past

@@ -1,9 +1,8 @@
-ghost use Rattle.std.specs.Prelude.{◌≡◌, filter, length, IfOk};
+ghost use Rattle.std.specs.Prelude.{◌≡◌, [], length, IfOk, OnOk};
 ghost use Rattle.std.specs.List.{AllByRecursion};
 ghost use Rattle.cv_serve_legal.specs.ParsedLine.{refusals, requests};
-ghost use Rattle.cv_serve_legal.specs.code.Segment.{lane_requests};
 ghost use Rattle.cv_serve_dealing.specs.Sound.{IsSoundRequest, IsSoundTaken};
-ghost use Rattle.cv_serve_dealing.specs.code.Dealt.{AreDealt, of_other_lane};
+ghost use Rattle.cv_serve_dealing.specs.code.Dealt.{AreDealt, IsGiven};
 
 use crate::lane::Lane;
 use cv_base::NoMemory;
@@ -38,37 +37,36 @@ pub fn lanes_of(alloc: Global, requested: Vec<Requested>) -> Result<Vec<Lane>, N
     ensures count { IfOk result (λ lanes. length lanes.items ≡ 8) }
     ensures dealt { IfOk result (λ lanes. AreDealt 0 requested.items lanes.items) }
 {
-    let mut rest = requested;
+    let mut lanes = empty_lanes(alloc)?;
+    for one in requested {
+        give(lanes.as_mut_slice(), one)?;
+    }
+    Ok(lanes)
+}
+
+/// Eight lanes without requests.
+fn empty_lanes(alloc: Global) -> Result<Vec<Lane>, NoMemory>
+    ensures count { IfOk result (λ lanes. length lanes.items ≡ 8) }
+    ensures empty { IfOk result (λ lanes. AreDealt 0 [] lanes.items) }
+{
     let mut lanes = Vec::new(alloc);
     for number in 0..MAX_LANES {
-        let (mine, others) = of_lane(alloc, rest, number)?;
-        rest = others;
         lanes.push(Lane {
             number,
-            requested: mine,
+            requested: Vec::new(alloc),
             reads: Vec::new(alloc),
         })?;
     }
     Ok(lanes)
 }
 
-/// The requests of a lane and those of other lanes, each in their order.
-fn of_lane(
-    alloc: Global,
-    requested: Vec<Requested>,
-    lane: u8,
-) -> Result<(Vec<Requested>, Vec<Requested>), NoMemory>
-    ensures mine { IfOk result (λ parts. parts.0.items ≡ lane_requests lane requested.items) }
-    ensures others { IfOk result (λ parts. parts.1.items ≡ filter (of_other_lane lane) requested.items) }
+/// Gives a request to the lane of its number. Without such a lane it is dropped.
+fn give(lanes: &mut [Lane], one: Requested) -> Result<(), NoMemory>
+    ensures { OnOk result (IsGiven 0 one lanes.old lanes.new) }
 {
-    let mut mine = Vec::new(alloc);
-    let mut others = Vec::new(alloc);
-    for one in requested {
-        if one.request.lane == lane {
-            mine.push(one)?;
-        } else {
-            others.push(one)?;
-        }
+    let lane = usize::from(one.request.lane);
+    if lane < lanes.len() {
+        lanes[lane].requested.push(one)?;
     }
-    Ok((mine, others))
+    Ok(())
 }

@@ -1,8 +1,8 @@
-ghost use Rattle.std.specs.Prelude.{◌≡◌, ℕ, ◌∷◌, [], ◌+◌, ◌<◌, get_or, length, map, IfNone, IfOk, IfSome};
-ghost use Rattle.std.specs.List.{fold};
+ghost use Rattle.std.specs.Prelude.{◌≡◌, ℕ, ◌∷◌, [], ◌<◌, get_or, length, map, IfNone, IfOk, IfSome};
 ghost use Rattle.std.specs.List.Sorted.{IsPermutation};
+ghost use Rattle.std.specs.VecDeque.{deque_items};
 ghost use Rattle.cv_transcript.specs.Order.{AreAscending, AreByLane, entries_of, events_of, reads_by, reads_of};
-ghost use Rattle.cv_serve_dealing.specs.code.Merge.{is_ahead, is_read_next, woven};
+ghost use Rattle.cv_serve_dealing.specs.code.Merge.{first_number, front_before, merged, next_lane};
 ghost use Rattle.cv_transcript.specs.declared.entry.Entry.TheVariants.{Event};
 
 use cv_base::{NoMemory, Seq};
@@ -28,80 +28,94 @@ pub fn merge(
     Ok(Seq::of(merged(alloc, events.into_vec(), reads.into_vec())?))
 }
 
-/// Merges the lanes into the events, one after the other.
+/// Merges the events and the lanes, and moves each entry once.
 fn merged(
     alloc: Global,
     events: Vec<EventEntry>,
     lanes: Vec<Seq<ReadEntry>>,
 ) -> Result<Vec<Entry>, NoMemory>
-    ensures { IfOk result (λ entries. entries.items ≡ fold woven (map Event events.items) lanes.items) }
+    ensures { IfOk result (λ entries. entries.items ≡ merged events.items lanes.items) }
 {
-    let mut entries = event_entries(alloc, events)?;
-    for reads in lanes {
-        entries = weave(alloc, entries, reads.into_vec())?;
-    }
-    Ok(entries)
+    let mut queues = queues_of(alloc, lanes)?;
+    take_all(alloc, VecDeque::from(events), queues.as_mut_slice())
 }
 
-fn event_entries(alloc: Global, events: Vec<EventEntry>) -> Result<Vec<Entry>, NoMemory>
-    ensures { IfOk result (λ entries. entries.items ≡ map Event events.items) }
+/// The reads of each lane, to be taken from the front.
+fn queues_of(
+    alloc: Global,
+    lanes: Vec<Seq<ReadEntry>>,
+) -> Result<Vec<VecDeque<ReadEntry>>, NoMemory>
+    ensures { IfOk result (λ queues. map deque_items queues.items ≡ lanes.items) }
+{
+    let mut queues = Vec::new(alloc);
+    for reads in lanes {
+        queues.push(VecDeque::from(reads.into_vec()))?;
+    }
+    Ok(queues)
+}
+
+/// Takes all entries, always the one that comes next.
+fn take_all(
+    alloc: Global,
+    mut events: VecDeque<EventEntry>,
+    lanes: &mut [VecDeque<ReadEntry>],
+) -> Result<Vec<Entry>, NoMemory>
+    ensures { IfOk result (λ entries. entries.items ≡ merged events.items (map deque_items lanes.old)) }
 {
     let mut entries = Vec::new(alloc);
-    for event in events {
-        entries.push(Entry::Event(event))?;
+    while let Some(entry) = take_next(&mut events, lanes) {
+        entries.push(entry)?;
     }
     Ok(entries)
 }
 
-/// Merges entries with the reads of a lane above theirs.
-fn weave(alloc: Global, entries: Vec<Entry>, reads: Vec<ReadEntry>) -> Result<Vec<Entry>, NoMemory>
-    ensures { IfOk result (λ all. all.items ≡ woven entries.items reads.items) }
+/// Takes the first event, or the first read of a lane.
+fn take_next(
+    events: &mut VecDeque<EventEntry>,
+    lanes: &mut [VecDeque<ReadEntry>],
+) -> Option<Entry>
+    ensures next { IfSome result (λ next. merged events.old.items (map deque_items lanes.old) ≡ next ∷ merged events.new.items (map deque_items lanes.new)) }
+    ensures none { IfNone result (merged events.old.items (map deque_items lanes.old) ≡ []) }
 {
-    if reads.is_empty() {
-        return Ok(entries);
-    }
-    let mut all = Vec::new(alloc);
-    let mut entries = VecDeque::from(entries);
-    let mut reads = VecDeque::from(reads);
-    while let Some(entry) = take_next(&mut entries, &mut reads) {
-        all.push(entry)?;
-    }
-    Ok(all)
-}
-
-/// Takes the next entry, or the next read of a lane above.
-fn take_next(entries: &mut VecDeque<Entry>, reads: &mut VecDeque<ReadEntry>) -> Option<Entry>
-    ensures next { IfSome result (λ next. woven entries.old.items reads.old.items ≡ next ∷ woven entries.new.items reads.new.items) }
-    ensures fewer { IfSome result (λ _. length entries.new.items + length reads.new.items < length entries.old.items + length reads.old.items) }
-    ensures none { IfNone result (woven entries.old.items reads.old.items ≡ []) }
-{
-    if is_read_next(entries, reads) {
-        let read = reads.pop_front()?;
-        return Some(Entry::Read(read));
-    }
-    entries.pop_front()
-}
-
-/// Whether a read comes next.
-fn is_read_next(entries: &VecDeque<Entry>, reads: &VecDeque<ReadEntry>) -> bool
-    ensures { result ≡ is_read_next entries.now.items reads.now.items }
-{
-    let Some(read) = reads.front() else {
-        return false;
+    let number = first_number(events);
+    let Some(lane) = next_lane(number, lanes) else {
+        let event = events.pop_front()?;
+        return Some(Entry::Event(event));
     };
-    let Some(entry) = entries.front() else {
-        return true;
-    };
-    is_ahead(read, entry)
+    let read = lanes[lane].pop_front()?;
+    Some(Entry::Read(read))
 }
 
-/// Whether a read of a lane above stands before an entry.
-fn is_ahead(read: &ReadEntry, entry: &Entry) -> bool
-    ensures { result ≡ is_ahead read.now entry.now }
+/// The number of the first event.
+fn first_number(events: &VecDeque<EventEntry>) -> Option<u64>
+    ensures { result ≡ first_number events.now.items }
 {
-    match entry {
-        Entry::Refused { .. } => false,
-        Entry::Event(event) => read.front < event.number,
-        Entry::Read(other) => read.front < other.front,
+    let event = events.front()?;
+    Some(event.number)
+}
+
+/// The lane whose first read comes before this place and before the first reads of the other lanes.
+fn next_lane(mut place: Option<u64>, lanes: &[VecDeque<ReadEntry>]) -> Option<usize>
+    ensures value { result ≡ next_lane place (map deque_items lanes.now) }
+    ensures within { IfSome result (λ lane. lane < length lanes.now) }
+{
+    let mut next = None;
+    for (lane, reads) in lanes.iter().enumerate() {
+        if let Some(front) = front_before(place, reads) {
+            place = Some(front);
+            next = Some(lane);
+        }
+    }
+    next
+}
+
+/// The front of the first of some reads, if it comes before this place.
+fn front_before(place: Option<u64>, reads: &VecDeque<ReadEntry>) -> Option<u64>
+    ensures { result ≡ front_before place reads.now.items }
+{
+    let read = reads.front()?;
+    match place {
+        Some(place) if read.front >= place => None,
+        _ => Some(read.front),
     }
 }

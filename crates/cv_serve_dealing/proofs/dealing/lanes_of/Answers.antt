@@ -1,16 +1,18 @@
-use Rattle.std.proofs.Common.{◌≡◌, ℕ, ap, arith, refl, rules, ◌∙◌}
-use Rattle.cv_serve_legal.specs.code.Segment.{lane_requests}
-use Rattle.cv_serve_dealing.proofs.DealLemmas.{dealt_more, lane_of_others, one_longer}
+use Rattle.std.proofs.Common.{◌≡◌, [], ◌∷◌, ◌++◌, List, drop, length, take, ap, subst, sym, ◌∙◌}
+use Rattle.cv_serve_dealing.specs.code.Dealt.{AreDealt, IsGiven}
+use Rattle.cv_serve_dealing.specs.declared.lane.Lane.{Lane}
+use Rattle.cv_serve_dealing.proofs.DealLemmas.{given_count, given_dealt, written_back}
 use Rattle.cv_serve_dealing.proofs.dealing.lanes_of.Goals as goal
 
-pub loop-number-preserved : goal.loop-number-preserved
-loop-number-preserved c =
-    let before = c.loop-number.invariant in
-    let number : ℕ = c.loop-number.number in
-    let mine : c.in_ok-mine.mine.items ≡ lane_requests number c.args.requested.items = c.in_ok-mine.ensures.mine ∙ before.rest number (omega arith) in
+pub loop-one-preserved : goal.loop-one-preserved
+loop-one-preserved c =
+    let before = c.loop-one.invariant in
+    let lanes = c.loop-one.lanes in
+    let new = c.give.new.lanes in
+    let given : IsGiven 0 c.in-Some.one lanes.items new = subst (λ (ls : List Lane). IsGiven 0 c.in-Some.one ls new) c.as_mut_slice.ensures.value c.in_ok-give.ensures in
+    let count = given_count 0 c.in-Some.one lanes.items new given in
+    let whole : take lanes.len (new ++ drop (length new) lanes.items) ≡ new = written_back lanes.len new (drop (length new) lanes.items) (lanes.ok.0 ∙ sym count) in
     record {
-      rest = λ other above.
-          ap (lane_requests other) c.in_ok-mine.ensures.others ∙ lane_of_others number other c.loop-number.rest.items (omega (arith, above)) ∙ before.rest other (omega (arith, above));
-      count = one_longer c.loop-number.lanes.items _ c.push.new.self.items number before.count c.in_ok-push.ensures.items;
-      dealt = dealt_more c.args.requested.items c.loop-number.lanes.items _ c.push.new.self.items number before.count c.in_ok-push.ensures.items before.dealt (refl, mine, search rules);
+      count = ap length whole ∙ (count ∙ before.count);
+      dealt = subst (AreDealt 0 (c.loop-one.yielded ++ c.in-Some.one ∷ [])) (sym whole) (given_dealt 0 c.loop-one.yielded c.in-Some.one lanes.items new before.dealt given);
     }

@@ -1,12 +1,10 @@
--- The lanes below this one have their requests, and those of the others remain.
-use Rattle.std.specs.Prelude.{◌≡◌, ℕ, ◌≤◌, length}
-use Rattle.cv_serve_legal.specs.code.Segment.{lane_requests}
+-- The lanes have the requests so far.
+use Rattle.std.specs.Prelude.{◌≡◌, length}
 use Rattle.cv_serve_dealing.specs.code.Dealt.{AreDealt}
 use Rattle.cv_serve_dealing.proofs.dealing.lanes_of.Given as goal
 
-abbrev pub invariant-loop-number : goal.invariant-loop-number
-invariant-loop-number l = record {
-  rest : (other : ℕ) → l.number ≤ other → lane_requests other l.rest.items ≡ lane_requests other l.fn.requested.items;
-  count : length l.lanes.items ≡ l.number;
-  dealt : AreDealt 0 l.fn.requested.items l.lanes.items;
+abbrev pub invariant-loop-one : goal.invariant-loop-one
+invariant-loop-one l = record {
+  count : length l.lanes.items ≡ 8;
+  dealt : AreDealt 0 l.yielded l.lanes.items;
 }
