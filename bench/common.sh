@@ -21,7 +21,7 @@ prove() {
     count=$(crates_below "$1" | wc -l)
     lanes=$(lanes)
     log=$(mktemp)
-    echo "proving $1 and the crates below it, $count in all, $lanes side by side; the first time the 70 crates of cvwatch take some 50 minutes on four processors" >&2
+    echo "proving $1 and the crates below it, $count in all, $lanes side by side; the first time cvwatch takes some 50 minutes on four processors" >&2
     (cd "$top/crates/$1" && "$top/tools/rt" all check --jobs "$lanes" 2>&1) | tee "$log" | progress "$count" >&2 || {
         cat "$log" >&2
         rm "$log"
@@ -73,6 +73,26 @@ example() {
     "$program" "$@" <input.jsonl | diff - expected.jsonl
     echo "the answer is expected.jsonl:"
     cat expected.jsonl
+}
+
+# answers the example of the script $1 by a build of cvwatch that nothing proves, which `rt try` makes and runs in a folder of its own
+example_unproved() {
+    local folder file data=()
+    folder=$(realpath "$(dirname "$1")")
+    while IFS= read -r file; do
+        data+=(--data "$file=$folder/$file")
+    done < <(cd "$folder" && find layers -type f)
+    echo "building cvwatch without a proof, for a first answer in some minutes" >&2
+    (
+        enter_work_folder || exit
+        if ! (cd "$top/crates/cvwatch" && "$top/tools/rt" try "${data[@]}" -- scan) <"$folder/input.jsonl" >answer.jsonl 2>log; then
+            cat log >&2
+            exit 1
+        fi
+        diff answer.jsonl "$folder/expected.jsonl" || exit 1
+        echo "the first answer, by a build that is NOT PROVED yet, is expected.jsonl:"
+        cat answer.jsonl
+    )
 }
 
 # makes the folder of bench/data/ for what the script NAME generates, and prints where it is
