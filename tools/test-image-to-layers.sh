@@ -103,6 +103,11 @@ same 'a link' "$(readlink "$one/srv")" /app
 same 'the last of two entries of a path' "$(cat "$one/twice/node_modules/i/package.json")" "$(package i 2.0.0)"
 same 'the owner' "$(find first -printf '%U:%G\n' | sort -u)" "$(id -u):$(id -g)"
 
+# the seals of the layers as their folders are
+"$tools/image-to-layers" --seals by-umoci:test first >sealed 2>/dev/null
+same 'the line without its seals' "$(jq -c 'del(.layers[].seal)' sealed)" "$(cat line)"
+same 'the seal of each layer' "$(jq -r '.layers[].seal' sealed)" "$(layers_of line | while read -r layer; do "$tools/layer-seal" "first/layers/sha256/$layer"; done)"
+
 # what is there stays as it is, and nothing is said of it, whether the line of the image is kept or not
 touch "$one/kept"
 "$tools/image-to-layers" by-umoci:test first 2>said | cmp - line

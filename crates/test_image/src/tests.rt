@@ -5,3 +5,4 @@ mod fault;
 mod generated;
 mod packages;
 mod root;
+mod seal;

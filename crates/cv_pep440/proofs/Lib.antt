@@ -1,0 +1,4 @@
+mod Examples
+pub mod Keys
+pub mod Numbers
+pub mod Runs

@@ -1,0 +1,4 @@
+pub mod Ends
+mod Examples
+pub mod Firsts
+pub mod Names
