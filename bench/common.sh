@@ -77,15 +77,15 @@ example() {
 
 # answers the example of the script $1 by a build of cvwatch that nothing proves, which `rt try` makes and runs in a folder of its own
 example_unproved() {
-    local folder file data=()
+    local folder file shown=()
     folder=$(realpath "$(dirname "$1")")
     while IFS= read -r file; do
-        data+=(--data "$file=$folder/$file")
+        shown+=(--data "$file=$folder/$file")
     done < <(cd "$folder" && find layers -type f)
     echo "building cvwatch without a proof, for a first answer in some minutes" >&2
     (
         enter_work_folder || exit
-        if ! (cd "$top/crates/cvwatch" && "$top/tools/rt" try "${data[@]}" -- scan) <"$folder/input.jsonl" >answer.jsonl 2>log; then
+        if ! (cd "$top/crates/cvwatch" && "$top/tools/rt" try "${shown[@]}" -- scan) <"$folder/input.jsonl" >answer.jsonl 2>log; then
             cat log >&2
             exit 1
         fi

@@ -1,4 +1,4 @@
-ghost use Rattle.std.specs.Prelude.{◌≡◌, false, ◌≤◌, ◌<◌, ℕ, [], length, take, drop, slice_index, MatchOption, MatchResult, IfOk};
+ghost use Rattle.std.specs.Prelude.{◌≡◌, ◌≤◌, ◌<◌, ℕ, [], length, take, drop, slice_index, MatchOption, MatchResult, IfOk};
 ghost use Rattle.std.specs.Io.KnownBytes.{Consumes, IsAtEnd, Keeps};
 ghost use Rattle.cv_seq.specs.Cause.{CausedBy};
 ghost use Rattle.cv_io.specs.Fault.{is_failed};
@@ -74,7 +74,6 @@ impl Chunk {
             (λ n. Consumes (S.remaining input.old) (S.remaining input.new) self.new × (n ≡ length self.new) × (n ≤ limit) × (n ≡ 0 → IsAtEnd (S.remaining input.new)))
             (λ _. Keeps (S.remaining input.old) (S.remaining input.new) × (self.new ≡ [])) }
         ensures cause { CausedBy (S.faults input.old) (S.faults input.new) (is_failed result) }
-        ensures unfailed { is_failed result ≡ false → S.faults input.new ≡ S.faults input.old }
     {
         self.at = 0;
         self.end = 0;
@@ -91,7 +90,6 @@ fn read_front<S: Source>(input: &mut S, buf: &mut [u8], limit: usize) -> Result<
         (λ n. Consumes (S.remaining input.old) (S.remaining input.new) (take n buf.new) × (n ≤ limit) × (n ≡ 0 → IsAtEnd (S.remaining input.new)))
         (λ _. Keeps (S.remaining input.old) (S.remaining input.new)) }
     ensures cause { CausedBy (S.faults input.old) (S.faults input.new) (is_failed result) }
-    ensures unfailed { is_failed result ≡ false → S.faults input.new ≡ S.faults input.old }
 {
     input.read(&mut buf[..limit])
 }

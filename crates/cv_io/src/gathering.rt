@@ -36,7 +36,6 @@ impl Gather {
             (S.remaining input.old) (S.remaining input.new) result }
         ensures limits { SameLimits self.old self.new }
         ensures cause { CausedBy (S.faults input.old) (S.faults input.new) (is_read_fault result) }
-        ensures unfailed { is_read_fault result ≡ false → S.faults input.new ≡ S.faults input.old }
     {
         let found = self.gather(input)?;
         let mut line = self.take_line(alloc);
@@ -57,7 +56,6 @@ impl Gather {
         ensures refused { IfErr result (λ e. Answers (held_by self.new) (reader_of self.new false) (Err e)) }
         ensures limits { SameLimits self.old self.new }
         ensures cause { CausedBy (S.faults input.old) (S.faults input.new) (is_read_fault result) }
-        ensures unfailed { is_read_fault result ≡ false → S.faults input.new ≡ S.faults input.old }
     {
         'pieces: loop {
             if self.take_piece()? {
@@ -107,7 +105,6 @@ impl Gather {
         ensures refused { IfErr result (λ e. Answers (held_by self.new) (reader_of self.new false) (Err e)) }
         ensures limits { SameLimits self.old self.new }
         ensures cause { CausedBy (S.faults input.old) (S.faults input.new) (is_read_fault result) }
-        ensures unfailed { is_read_fault result ≡ false → S.faults input.new ≡ S.faults input.old }
     {
         let room = self.max_input - self.taken;
         match self.chunk.fill(input, room as usize) {

@@ -1,4 +1,4 @@
-ghost use Rattle.std.specs.Prelude.{◌≡◌, false, ◌≤◌, ℕ, List, [], Some, length, drop, min, IfOk, OnOk, OnErr, take, ◌++◌, ◌<◌};
+ghost use Rattle.std.specs.Prelude.{◌≡◌, ◌≤◌, ℕ, List, [], Some, length, drop, min, IfOk, OnOk, OnErr, take, ◌++◌, ◌<◌};
 ghost use Rattle.std.specs.Io.{ReadsAtMost};
 ghost use Rattle.std.specs.Io.KnownBytes.{ReadConsumes};
 ghost use Rattle.cv_seq.specs.Cause.{CausedBy, is_to_fail, next_count};
@@ -63,7 +63,6 @@ impl Source for MemSource {
         ensures bound { ReadsAtMost result buf.new }
         ensures bytes { ReadConsumes (Some self.old.remaining) (Some self.new.remaining) result buf.new }
         ensures cause { CausedBy self.old.faults self.new.faults (is_failed result) }
-        ensures unfailed { is_failed result ≡ false → self.new.faults ≡ self.old.faults }
         ensures count { IfOk result (λ n. n ≡ min (min (length self.old.remaining) self.old.piece) (length buf.old)) }
         ensures call { self.new.calls ≡ next_count self.old.calls }
         ensures failed { is_failed result ≡ is_to_fail self.old.fails (next_count self.old.calls) }
@@ -139,7 +138,6 @@ impl Sink for MemSink {
         ensures bytes { WritesFront (Some self.old.contents) (Some self.new.contents) result bytes.now }
         ensures kept { OnErr result (self.new.contents ≡ self.old.contents) }
         ensures cause { CausedBy self.old.faults self.new.faults (is_failed result) }
-        ensures unfailed { is_failed result ≡ false → self.new.faults ≡ self.old.faults }
         ensures count { IfOk result (λ n. n ≡ min (length bytes.now) self.old.piece) }
         ensures call { self.new.calls ≡ next_count self.old.calls }
         ensures failed { is_failed result ≡ is_to_fail self.old.fails (next_count self.old.calls) }

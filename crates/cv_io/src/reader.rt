@@ -62,7 +62,6 @@ impl LineReader {
         ensures max_line { self.new.max_line ≡ self.old.max_line }
         ensures max_input { self.new.max_input ≡ self.old.max_input }
         ensures cause { CausedBy (S.faults input.old) (S.faults input.new) (is_read_fault result) }
-        ensures unfailed { is_read_fault result ≡ false → S.faults input.new ≡ S.faults input.old }
     {
         let answer = self.gather.next_line(alloc, input);
         self.spent = answer.is_err();

@@ -1,4 +1,4 @@
-ghost use Rattle.std.specs.Prelude.{Option, ℕ, List, ◌≡◌, false, ◌≤◌, ◌<◌, length, IfOk};
+ghost use Rattle.std.specs.Prelude.{Option, ℕ, List, ◌≤◌, ◌<◌, length, IfOk};
 ghost use Rattle.cv_seq.specs.Cause.{CausedBy};
 ghost use Rattle.cv_io.specs.Fault.{is_failed};
 ghost use Rattle.cv_io.specs.Writes.{WritesFront};
@@ -19,6 +19,5 @@ pub trait Sink {
         ensures bound { IfOk result (λ n. n ≤ length bytes.now) }
         ensures progress { IfOk result (λ n. 0 < length bytes.now → 0 < n) }
         ensures bytes { WritesFront (contents self.old) (contents self.new) result bytes.now }
-        ensures cause { CausedBy (faults self.old) (faults self.new) (is_failed result) }
-        ensures unfailed { is_failed result ≡ false → faults self.new ≡ faults self.old };
+        ensures cause { CausedBy (faults self.old) (faults self.new) (is_failed result) };
 }

@@ -1,4 +1,4 @@
-ghost use Rattle.std.specs.Prelude.{Option, ℕ, List, ◌≡◌, false};
+ghost use Rattle.std.specs.Prelude.{Option, ℕ, List};
 ghost use Rattle.std.specs.Io.{ReadsAtMost};
 ghost use Rattle.std.specs.Io.KnownBytes.{ReadConsumes};
 ghost use Rattle.cv_seq.specs.Cause.{CausedBy};
@@ -19,6 +19,5 @@ pub trait Source {
     fn read(&mut self, buf: &mut [u8]) -> Result<usize, IoFault>
         ensures bound { ReadsAtMost result buf.new }
         ensures bytes { ReadConsumes (remaining self.old) (remaining self.new) result buf.new }
-        ensures cause { CausedBy (faults self.old) (faults self.new) (is_failed result) }
-        ensures unfailed { is_failed result ≡ false → faults self.new ≡ faults self.old };
+        ensures cause { CausedBy (faults self.old) (faults self.new) (is_failed result) };
 }

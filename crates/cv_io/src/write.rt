@@ -1,4 +1,4 @@
-ghost use Rattle.std.specs.Prelude.{◌≡◌, false, ◌≤◌, ℕ, take, length, OnOk, OnErr};
+ghost use Rattle.std.specs.Prelude.{◌≡◌, ◌≤◌, ℕ, take, length, OnOk, OnErr};
 ghost use Rattle.std.specs.Io.KnownBytes.{Appends};
 ghost use Rattle.cv_seq.specs.Cause.{CausedBy};
 ghost use Rattle.cv_io.specs.Fault.{is_write_fault};
@@ -25,7 +25,6 @@ pub fn write_all<K: Sink>(output: &mut K, bytes: &[u8]) -> Result<(), WriteError
     ensures ok { OnOk result (Appends (K.contents output.old) (K.contents output.new) bytes.now) }
     ensures err { OnErr result (AppendsPrefix (K.contents output.old) (K.contents output.new) bytes.now) }
     ensures cause { CausedBy (K.faults output.old) (K.faults output.new) (is_write_fault result) }
-    ensures unfailed { is_write_fault result ≡ false → K.faults output.new ≡ K.faults output.old }
 {
     let mut at = 0;
     while at < bytes.len() {

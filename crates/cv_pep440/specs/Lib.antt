@@ -1,3 +1,4 @@
+pub mod Grammar
 pub mod Order
 pub mod Parts
 pub mod code

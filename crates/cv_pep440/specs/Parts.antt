@@ -1,41 +1,13 @@
--- How the text of a Python version is read, after PEP 440 (Appendix B):
---     [v][epoch!]number{.number}[pre][post][dev][+local]
--- It is read from the left, and each part is as long as it can be. Letters count in any case. Where a part is absent, the
--- next one begins in its place, so each of these functions is defined for any text.
-use Rattle.std.specs.Prelude.{ℕ, Bool, true, false, ◌==◌, ◌&&◌, ◌||◌, if◌then◌else◌, List, [], ◌∷◌, Option, Some, None, option_map, codes}
-use Rattle.std.specs.Char.{is_ascii_alphanumeric, to_ascii_lowercase}
+-- How the text of a Python version is read, from the left: each part is as long as it can be, and where a part is absent, the
+-- next one begins in its place. So each of these functions is defined for any text. The texts of the grammar are read in full,
+-- into the parts from which they are written.
+use Rattle.std.specs.Prelude.{ℕ, Bool, true, false, ◌==◌, ◌&&◌, if◌then◌else◌, List, [], ◌∷◌, Option, Some, None, option_map}
+use Rattle.std.specs.Char.{to_ascii_lowercase}
 use Rattle.std.specs.List.{list_all, onto_first, slice_split}
 use Rattle.std.specs.Option.{option_or}
 use Rattle.cv_order.specs.Digits.{is_digit, front_digits, after_digits}
 use Rattle.cv_order.specs.Filled.{later}
-
--- the byte `.`
-abbrev pub DOT : ℕ
-DOT = 46
-
--- the byte `-`
-abbrev pub HYPHEN : ℕ
-HYPHEN = 45
-
--- the byte `_`
-abbrev pub UNDERSCORE : ℕ
-UNDERSCORE = 95
-
--- the byte `!`, after an epoch
-abbrev pub BANG : ℕ
-BANG = 33
-
--- the byte `+`, before a local version
-abbrev pub PLUS : ℕ
-PLUS = 43
-
--- the letter `v`, before a version
-abbrev pub LETTER_V : ℕ
-LETTER_V = 118
-
--- `-`, `_` or `.`
-abbrev pub is_separator : ℕ → Bool
-is_separator byte = byte == HYPHEN || byte == UNDERSCORE || byte == DOT
+use Rattle.cv_pep440.specs.Grammar.{BANG, DOT, HYPHEN, PLUS, alpha_words, beta_words, candidate_words, dev_words, is_mark, is_run, is_separator, post_words}
 
 -- the text begins with this byte
 abbrev pub begins_with : ℕ → List ℕ → Bool
@@ -50,7 +22,7 @@ begins_with_digit (c ∷ cs) = is_digit c
 -- what comes after the optional `v`
 abbrev pub after_mark : List ℕ → List ℕ
 after_mark [] = []
-after_mark (c ∷ cs) = if to_ascii_lowercase c == LETTER_V then cs else c ∷ cs
+after_mark (c ∷ cs) = if is_mark c then cs else c ∷ cs
 
 -- `epoch!`: digits and a `!`
 abbrev pub has_epoch : List ℕ → Bool
@@ -96,22 +68,6 @@ abbrev pub after_any : List (List ℕ) → List ℕ → Option (List ℕ)
 after_any [] text = None
 after_any (word ∷ words) text = option_or (after_word word text) (after_any words text)
 
--- a word that begins with another one stands before it in its list, so that the longest word is found first
-abbrev pub alpha_words : List (List ℕ)
-alpha_words = codes "alpha" ∷ codes "a" ∷ []
-
-abbrev pub beta_words : List (List ℕ)
-beta_words = codes "beta" ∷ codes "b" ∷ []
-
-abbrev pub candidate_words : List (List ℕ)
-candidate_words = codes "preview" ∷ codes "pre" ∷ codes "rc" ∷ codes "c" ∷ []
-
-abbrev pub post_words : List (List ℕ)
-post_words = codes "post" ∷ codes "rev" ∷ codes "r" ∷ []
-
-abbrev pub dev_words : List (List ℕ)
-dev_words = codes "dev" ∷ []
-
 -- a word by its rank among the words of a part, and what comes after it
 pub record Word : Type 0 where
   pub rank : ℕ
@@ -121,7 +77,7 @@ pub record Word : Type 0 where
 abbrev pub word_of : ℕ → List (List ℕ) → List ℕ → Option Word
 word_of rank words text = option_map (λ rest. record { rank = rank; rest = rest }) (after_any words text)
 
--- the word of a pre-release. Rank 0 is that of a development release and 4 that of a release
+-- the word of a pre-release
 abbrev pub pre_word : List ℕ → Option Word
 pre_word text = option_or (word_of 1 alpha_words text) (option_or (word_of 2 beta_words text) (word_of 3 candidate_words text))
 
@@ -169,11 +125,6 @@ after_part (Some part) text = part.rest
 -- the runs of a local version, between separators
 abbrev pub runs : List ℕ → List (List ℕ)
 runs text = slice_split is_separator text
-
--- one or more letters and digits
-abbrev pub is_run : List ℕ → Bool
-is_run [] = false
-is_run (c ∷ cs) = list_all is_ascii_alphanumeric (c ∷ cs)
 
 -- nothing, or `+` and the runs of a local version
 abbrev pub is_local : List ℕ → Bool

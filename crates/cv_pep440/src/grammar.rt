@@ -1,14 +1,22 @@
-ghost use Rattle.std.specs.Prelude.{◌≡◌};
+ghost use Rattle.std.specs.Prelude.{◌≡◌, ◌↔◌, IsTrue};
 ghost use Rattle.std.specs.Char.{is_ascii_alphanumeric};
 ghost use Rattle.std.specs.List.{list_all};
-ghost use Rattle.cv_pep440.specs.Parts.{is_local, is_run, is_version, runs};
+ghost use Rattle.cv_pep440.specs.Grammar.{IsVersion, is_run};
+ghost use Rattle.cv_pep440.specs.Parts.{is_local, is_version, runs};
 
 use crate::parts::{Parts, begins_with_digit, cut_run};
 
 /// Whether the text is a version: `[v][epoch!]release[pre][post][dev][+local]`, letters in any case. A text with blanks at its
 /// ends is not a version.
 pub fn is_version(text: &[u8]) -> bool
+    ensures grammar { IsTrue result ↔ IsVersion text.now }
     ensures value { result ≡ is_version text.now }
+{
+    has_version_parts(text)
+}
+
+fn has_version_parts(text: &[u8]) -> bool
+    ensures { result ≡ is_version text.now }
 {
     let parts = Parts::of(text);
     begins_with_digit(parts.release) && is_local(parts.local)

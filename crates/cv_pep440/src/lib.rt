@@ -9,4 +9,4 @@ mod order;
 mod parts;
 
 pub use grammar::is_version;
-pub use order::{compare, version_order_laws};
+pub use order::{compare, version_key_law, version_order_laws};

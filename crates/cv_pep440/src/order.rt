@@ -6,7 +6,8 @@ ghost use Rattle.std.specs.Option.{option_cmp};
 ghost use Rattle.std.specs.Ordering.{nat_cmp};
 ghost use Rattle.cv_order.specs.Digits.{number_cmp};
 ghost use Rattle.cv_order.specs.Laws.{IsTotalPreorder};
-ghost use Rattle.cv_pep440.specs.Order.{dev_key, key_cmp, local_cmp, number_in, pre_key, ranked_cmp, release_cmp, run_cmp, run_key, suffixes_cmp, version_cmp};
+ghost use Rattle.cv_pep440.specs.Grammar.{IsWellWritten, Written, text_of};
+ghost use Rattle.cv_pep440.specs.Order.{dev_key, key_cmp, key_of, local_cmp, number_in, pre_key, ranked_cmp, ranked_in, release_cmp, run_cmp, run_key, suffixes_cmp, version_cmp, written_key};
 ghost use Rattle.cv_pep440.specs.Parts.{local_of, release_of, runs};
 ghost use Rattle.cv_pep440.specs.code.View.{key_seen, part_seen, ranked_seen};
 ghost use Rattle.cv_pep440.specs.code.Walk.{next_number, places_cmp};
@@ -26,6 +27,11 @@ const RELEASE_RANK: u8 = 4;
 pub fn version_order_laws()
     ensures laws { IsTotalPreorder version_cmp }
     ensures order { IsTotalOrder version_cmp }
+{}
+
+/// The key by which a version compares is that of the parts that its text is written from.
+pub fn version_key_law()
+    ensures { (written : Written) → IsWellWritten written → key_of (text_of written) ≡ written_key written }
 {}
 
 /// How two versions compare: by their epochs, by their releases, where zeros at the end do not count, then by their
@@ -110,7 +116,7 @@ fn compare_ranked(a: Ranked<'_>, b: Ranked<'_>) -> Ordering
 
 /// Where a version stands by its pre-release.
 fn pre_key<'a>(parts: &Parts<'a>) -> Ranked<'a>
-    ensures { ranked_seen result ≡ pre_key (part_seen parts.now.pre) (part_seen parts.now.post) (part_seen parts.now.dev) }
+    ensures { ranked_seen result ≡ pre_key (ranked_in (part_seen parts.now.pre)) (number_in (part_seen parts.now.post)) (number_in (part_seen parts.now.dev)) }
 {
     if let Some(Part { rank, number, .. }) = parts.pre {
         return Ranked { rank, number };

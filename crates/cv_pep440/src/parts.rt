@@ -1,7 +1,8 @@
 ghost use Rattle.std.specs.Prelude.{◌≡◌, ◌<◌, IfSome, length, map};
 ghost use Rattle.std.specs.List.{position};
 ghost use Rattle.std.specs.Option.{option_copied};
-ghost use Rattle.cv_pep440.specs.Parts.{after_any, after_epoch, after_mark, after_part, after_release, after_separator, after_word, bare_post_of, begins_with_digit, dev_of, epoch_of, is_separator, post_of, pre_of, pre_word, release_text, tail_of, with_number, word_of};
+ghost use Rattle.cv_pep440.specs.Grammar.{is_separator};
+ghost use Rattle.cv_pep440.specs.Parts.{after_any, after_epoch, after_mark, after_part, after_release, after_separator, after_word, bare_post_of, begins_with_digit, dev_of, epoch_of, post_of, pre_of, pre_word, release_text, tail_of, with_number, word_of};
 ghost use Rattle.cv_pep440.specs.code.View.{part_seen, tail_seen, word_seen};
 ghost use Rattle.cv_pep440.specs.code.Walk.{after_run, front_run};
 

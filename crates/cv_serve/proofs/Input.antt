@@ -10,7 +10,7 @@ use Rattle.cv_io.specs.declared.line.LineError.{LineError}
 use Rattle.cv_io.specs.declared.line.LineError.TheVariants as line
 use Rattle.cv_scan_input.specs.Taken.{IsTaken}
 use Rattle.cv_scan_input.specs.code.TakenParts.{IsTakenTo}
-use Rattle.cv_scan_input.proofs.ParsedLine.{rest_taken_up, taken_first, taken_more, taken_up}
+use Rattle.cv_scan_input.proofs.Taken.{rest_taken_up, taken_first, taken_more, taken_up}
 use Rattle.cv_scan_input.specs.declared.input.TheConstants.{MAX_INPUT, MAX_LINE}
 use Rattle.cv_serve.specs.code.Ends.{end_of}
 use Rattle.cv_serve.specs.Served.{FitsInput}

@@ -1,6 +1,6 @@
 -- Lanes that are merged into the events one after the other: the entries ascend, and the events and each lane's reads are
 -- those that there were. The first of all entries is that of the list which goes on.
-use Rattle.std.specs.Prelude.{◌≡◌, ⊤, ℕ, zero, suc, ◌+◌, ◌<◌, ◌≤◌, ◌==◌, ◌⊎◌, Bool, true, false, nat_lt, cond, List, [], ◌∷◌, ◌++◌, drop, get_or, length, map, set, Option, Some, None, IfNone, refl}
+use Rattle.std.specs.Prelude.{◌≡◌, ⊤, ℕ, zero, suc, ◌+◌, ◌<◌, ◌≤◌, ◌==◌, ◌⊎◌, Bool, true, false, cond, List, [], ◌∷◌, ◌++◌, drop, get_or, length, map, set, Option, Some, None, IfNone, refl}
 use Rattle.std.specs.List.{AllByRecursion, cons_option, flat_map, fold}
 use Rattle.std.specs.List.Sorted.{IsPermutation}
 use Rattle.std.proofs.Common.{ap, append_assoc, arith, inl, inr, subst, sym, ◌∙◌}
@@ -421,7 +421,7 @@ module _ {Q : Type 0} (items : Q → List ReadEntry) where
 
   pub lane_further : (lane : ℕ) (next place front : Option ℕ) (queues : List Q) (queue : Q) → lane < length queues → front ≡ front_before place (items (get_or queues lane queue))
       → found_from lane next (next_lane place (map items (drop lane queues)))
-          ≡ found_from (lane + 1) (found_at lane next front) (next_lane (lowest place front) (map items (drop (lane + 1) queues)))
+      ≡ found_from (lane + 1) (found_at lane next front) (next_lane (lowest place front) (map items (drop (lane + 1) queues)))
   lane_further lane next place front queues queue within is =
       at_drop_more (λ (qs : List Q). found_from lane next (next_lane place (map items qs))) queues lane queue within
       ∙ (ap (λ (f : Option ℕ). found_from lane next (counted f (next_lane (lowest place f) (map items (drop (lane + 1) queues))))) (sym is)

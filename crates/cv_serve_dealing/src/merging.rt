@@ -70,10 +70,7 @@ fn take_all(
 }
 
 /// Takes the first event, or the first read of a lane.
-fn take_next(
-    events: &mut VecDeque<EventEntry>,
-    lanes: &mut [VecDeque<ReadEntry>],
-) -> Option<Entry>
+fn take_next(events: &mut VecDeque<EventEntry>, lanes: &mut [VecDeque<ReadEntry>]) -> Option<Entry>
     ensures next { IfSome result (λ next. merged events.old.items (map deque_items lanes.old) ≡ next ∷ merged events.new.items (map deque_items lanes.new)) }
     ensures none { IfNone result (merged events.old.items (map deque_items lanes.old) ≡ []) }
 {

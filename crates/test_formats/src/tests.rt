@@ -1,8 +1,9 @@
 mod apk_packages;
 mod apk_versions;
 mod debian_versions;
+mod dpkg;
 mod ecosystems;
 mod metadata;
 mod npm_packages;
 mod os_names;
-mod tests;
+mod python_versions;

@@ -1,6 +1,6 @@
 -- Words for the clauses of private functions: the parts that the code cuts a text into, as those of the definitions.
 use Rattle.std.specs.Prelude.{Option, option_map}
-use Rattle.cv_pep440.specs.Order.{Key, Ranked, key_from}
+use Rattle.cv_pep440.specs.Order.{Key, Ranked, tail_key}
 use Rattle.cv_pep440.specs.Parts.{Part, Tail, Word, release_of}
 use Rattle.cv_pep440.specs.declared.order.Ranked as ranked
 use Rattle.cv_pep440.specs.declared.parts.Part as part
@@ -25,4 +25,4 @@ ranked_seen r = record { rank = r.rank; number = r.number.now }
 
 -- the key of a version that is cut
 abbrev pub key_seen : parts.Parts → Key
-key_seen p = key_from p.epoch.now (release_of p.release.now) (tail_seen p)
+key_seen p = tail_key p.epoch.now (release_of p.release.now) (tail_seen p)

@@ -9,6 +9,7 @@ const TURNS: u32 = 10_000_000;
 
 /// A team whose parts wait for each other: each raises the count of those that have begun, and takes turns until it is the goal. A part
 /// is whether it saw so many.
+#[derive(Drop)]
 struct Meeting {
     begun: AtomicU64,
     goal: u64,

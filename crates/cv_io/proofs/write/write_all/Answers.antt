@@ -1,4 +1,4 @@
-use Rattle.std.proofs.Common.{arith, refl}
+use Rattle.std.proofs.Common.{arith}
 use Rattle.cv_io.proofs.Streams.{Appends-more, prefix_more}
 use Rattle.cv_io.proofs.write.write_all.Goals as goal
 
@@ -6,7 +6,7 @@ pub loop-at-preserved : goal.loop-at-preserved
 loop-at-preserved g c = record {
   within = omega (arith, c.in-Ok.ensures.bound);
   written = Appends-more _ _ _ c.args.bytes.now c.loop-at.at c.in-Ok.count c.loop-at.invariant.written (rw c.split_at.ensures.back at c.in-Ok.ensures.bytes);
-  same = cc (c.in-Ok.ensures.unfailed refl, c.loop-at.invariant.same);
+  later = omega (arith, c.in-Ok.ensures.cause.later);
 }
 
 pub returns-in-Err-clause-err : goal.returns-in-Err-clause-err

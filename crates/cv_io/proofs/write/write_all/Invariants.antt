@@ -1,4 +1,4 @@
-use Rattle.std.proofs.Common.{◌≡◌, ◌≤◌, ◌-◌, length, take}
+use Rattle.std.proofs.Common.{◌≤◌, ◌-◌, length, take}
 use Rattle.std.specs.Io.KnownBytes.{Appends}
 use Rattle.cv_io.proofs.write.write_all.Given as goal
 
@@ -6,7 +6,7 @@ abbrev pub invariant-loop-at : goal.invariant-loop-at
 invariant-loop-at g l = record {
   within : l.at ≤ length l.bytes;
   written : Appends (g.K.Sink.contents l.initial.output) (g.K.Sink.contents l.output) (take l.at l.bytes);
-  same : g.K.Sink.faults l.output ≡ g.K.Sink.faults l.initial.output;
+  later : g.K.Sink.faults l.initial.output ≤ g.K.Sink.faults l.output;
 }
 
 abbrev pub decreases-loop-at : goal.decreases-loop-at

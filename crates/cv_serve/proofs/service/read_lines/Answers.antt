@@ -3,7 +3,7 @@ use Rattle.std.proofs.Common.{ap, arith, length-append, subst, sym, ◌∙◌}
 use Rattle.std.proofs.lemmas.Bool.{false≢true}
 use Rattle.cv_base.specs.Lines.{numbered}
 use Rattle.cv_io.specs.Reader.{Narrows, Reads, Step, reading}
-use Rattle.cv_scan_input.proofs.ParsedLine.{taken_first, taken_from, taken_more}
+use Rattle.cv_scan_input.proofs.Taken.{taken_first, taken_from, taken_more}
 use Rattle.cv_core_machine.specs.Scans.{trees_of}
 use Rattle.cv_serve_legal.specs.Rounds.{Cut, cut_line, cut_lines, round_limits}
 use Rattle.cv_serve_legal.proofs.Serving.{cut_more, numbered_more}

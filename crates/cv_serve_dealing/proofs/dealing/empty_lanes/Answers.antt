@@ -1,4 +1,4 @@
-use Rattle.std.proofs.Common.{[], ap, arith, refl, rules, ◌∙◌}
+use Rattle.std.proofs.Common.{[], refl, rules}
 use Rattle.cv_serve_dealing.proofs.DealLemmas.{dealt_more, one_longer}
 use Rattle.cv_serve_dealing.proofs.dealing.empty_lanes.Goals as goal
 

@@ -1,4 +1,4 @@
-use Rattle.std.proofs.Common.{arith, inr, refl, rules}
+use Rattle.std.proofs.Common.{arith, inr, refl}
 use Rattle.cv_serve_dealing.proofs.DealLemmas.{given_at, not_given}
 use Rattle.cv_serve_dealing.proofs.dealing.give.Goals as goal
 

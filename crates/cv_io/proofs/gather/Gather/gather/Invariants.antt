@@ -9,7 +9,7 @@ invariant-pieces g l = record {
   takes : Takes (held_by l.initial.self) (held_by l.self) (progress_by l.initial.self) (progress_by l.self) (g.S.Source.remaining l.initial.input) (g.S.Source.remaining l.input);
   needed : HasNoLineEnd (held_by l.initial.self) ⊎ (progress_by l.self ≡ progress_by l.initial.self);
   limits : SameLimits l.initial.self l.self;
-  same : g.S.Source.faults l.input ≡ g.S.Source.faults l.initial.input;
+  later : g.S.Source.faults l.initial.input ≤ g.S.Source.faults l.input;
 }
 
 abbrev pub decreases-pieces : goal.decreases-pieces
