@@ -21,8 +21,9 @@ mod tree;
 pub use advisory::{Advisory, Affected, Range, RangeKind, Turn};
 pub use ascii::{are_printing, printing_text};
 pub use cv_path::{
-    MAX_PATH_LEN, PathError, Place, RelPath, cut_at, goes_on, is_blank, is_dropped, is_special,
-    next_line, path_laws, place, trim_line,
+    MAX_PATH_LEN, PathError, Place, RelPath, begins_with_blank, cut_at, goes_on, is_blank,
+    is_dropped, is_same_name, is_special, next_line, path_laws, place, trim_end, trim_front,
+    trim_line,
 };
 pub use cv_seq::{NoMemory, Seq, Text};
 pub use digest::{BadDigest, Digest, digest_round_trip};

@@ -7,6 +7,7 @@ pub enum PackageKind {
     Deb,
     Apk,
     Npm,
+    Pypi,
 }
 
 /// An installed package. `path` is the package file that names it. `source` and `source_version` are those of the

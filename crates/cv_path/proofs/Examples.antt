@@ -2,10 +2,12 @@
 use Rattle.std.specs.Prelude.{◌≡◌, ℕ, true, false, List, [], ◌∷◌, ◌++◌, codes, replicate, Option, Some, None, Ok, Err, refl}
 use Rattle.std.specs.declared.cmp.Ordering.TheVariants.{Less, Equal, Greater}
 use Rattle.cv_path.specs.Path.{beside, components, file_name_of, is_above, parent_of, path_cmp, path_of, path_text}
+use Rattle.cv_path.specs.Cuts.{begins_with_blank, is_blank, without_front}
 use Rattle.cv_path.specs.Place.{place_of}
+use Rattle.cv_path.specs.Texts.{same_name}
 use Rattle.cv_path.specs.declared.path.PathError.TheVariants.{Empty, TooLong, BadComponent}
 use Rattle.cv_path.specs.declared.places.Place.{Place}
-use Rattle.cv_path.specs.declared.places.Place.TheVariants.{Status, StatusFolder, Installed, UsrInstalled, Os, UsrOs, Npm}
+use Rattle.cv_path.specs.declared.places.Place.TheVariants.{Status, StatusFolder, Installed, UsrInstalled, Os, UsrOs, Npm, Pypi}
 use Rattle.cv_path.specs.declared.limits.TheConstants.{MAX_PATH_LEN}
 
 -- Paths.
@@ -107,6 +109,23 @@ scope_name = refl
 no_npm : (at (codes "node_modules/x/lib/package.json") ≡ None) × (at (codes "node_modules/@s/n/lib/package.json") ≡ None) × (at (codes "node_modules/@/n/package.json") ≡ None)
     × (at (codes "node_modules/package.json") ≡ None) × (at (codes "app/x/package.json") ≡ None) × (at (codes "node_modules/x/package.jsonc") ≡ None)
 no_npm = (refl, refl, refl, refl, refl, refl)
+
+-- the metadata of an installed Python package, at any depth
+pypi : (at (codes "opt/Foo_Bar-1.0.dist-info/METADATA") ≡ Some Pypi) × (at (codes "x.dist-info/METADATA") ≡ Some Pypi)
+    × (at (codes "usr/lib/python3/dist-packages/six-1.16.0.egg-info/PKG-INFO") ≡ Some Pypi)
+pypi = (refl, refl, refl)
+
+-- a folder without a name, the other file of each folder, another folder, a file alone, and a deeper one
+no_pypi : (at (codes "opt/.dist-info/METADATA") ≡ None) × (at (codes "opt/.egg-info/PKG-INFO") ≡ None) × (at (codes "x.egg-info/METADATA") ≡ None) × (at (codes "x.dist-info/PKG-INFO") ≡ None)
+    × (at (codes "opt/x/METADATA") ≡ None) × (at (codes "METADATA") ≡ None) × (at (codes "x.dist-info/a/METADATA") ≡ None) × (at (codes "x.dist-info/metadata") ≡ None)
+no_pypi = (refl, refl, refl, refl, refl, refl, refl, refl)
+
+-- Texts.
+
+-- blanks at the front of a text, and names in any case
+fronts : (without_front is_blank (codes " \ta b ") ≡ codes "a b ") × (begins_with_blank (codes "\ta") ≡ true) × (begins_with_blank [] ≡ false)
+    × (same_name (codes "Name") (codes "nAME") ≡ true) × (same_name (codes "Name") (codes "Names") ≡ false)
+fronts = (refl, refl, refl, refl, refl)
 
 -- the limit of a path
 limits : MAX_PATH_LEN ≡ 4096

@@ -1,5 +1,5 @@
--- Texts cut at a byte, and what is dropped at the end of a line (defined by this project).
-use Rattle.std.specs.Prelude.{ℕ, Bool, ◌||◌, ◌==◌, if◌then◌else◌, List, [], ◌∷◌, Option, None, Some}
+-- Texts cut at a byte, and what is dropped at their ends (defined by this project).
+use Rattle.std.specs.Prelude.{ℕ, Bool, false, ◌||◌, ◌==◌, if◌then◌else◌, List, [], ◌∷◌, Option, None, Some}
 use Rattle.std.specs.Option.{option_map}
 
 -- what stands before the first byte that passes a test, and what after it
@@ -14,6 +14,16 @@ is_lf byte = byte == 10
 -- a blank is a space or a tab
 abbrev pub is_blank : ℕ → Bool
 is_blank byte = byte == 32 || byte == 9
+
+-- a text begins with a blank
+abbrev pub begins_with_blank : List ℕ → Bool
+begins_with_blank [] = false
+begins_with_blank (x ∷ xs) = is_blank x
+
+-- a text without the bytes at its front that are to be dropped
+abbrev pub without_front : (ℕ → Bool) → List ℕ → List ℕ
+without_front drops [] = []
+without_front drops (x ∷ xs) = if drops x then without_front drops xs else x ∷ xs
 
 -- what is dropped at the end of a line: blanks and CRs
 abbrev pub is_dropped : ℕ → Bool

@@ -1,6 +1,6 @@
--- The places of package files (defined by this project): where dpkg (dpkg(1), FILES), apk (apk(8)), os-release(5)
--- and npm (npm's folders) keep what is installed.
-use Rattle.std.specs.Prelude.{ℕ, Bool, false, ◌&&◌, ◌||◌, ◌==◌, not, if◌then◌else◌, List, [], ◌∷◌, codes, Option, Some, None}
+-- The places of package files (defined by this project): where dpkg (dpkg(1), FILES), apk (apk(8)), os-release(5), npm (npm's
+-- folders) and the installers of Python packages (Python packaging user guide, "Recording installed projects") keep what is installed.
+use Rattle.std.specs.Prelude.{ℕ, Bool, false, ◌&&◌, ◌||◌, ◌==◌, nat_lt, not, if◌then◌else◌, List, [], ◌∷◌, length, codes, Option, Some, None}
 use Rattle.std.specs.List.{ends_with}
 use Rattle.std.specs.Option.{option_or}
 use Rattle.cv_path.specs.Path.{Path, components, file_name_of, parent_of, same_path}
@@ -53,6 +53,26 @@ abbrev pub is_npm : Path → Bool
 is_npm [] = false
 is_npm (part ∷ parts) = same part (codes "node_modules") && names_package parts || is_npm parts
 
+-- a folder has this ending after a name that is not empty
+abbrev pub has_ending : List ℕ → List ℕ → Bool
+has_ending ending folder = ends_with ◌==◌ folder ending && nat_lt (length ending) (length folder)
+
+-- a folder and a file in it are the metadata of an installed Python package: `<name>.dist-info/METADATA` or
+-- `<name>.egg-info/PKG-INFO`
+abbrev pub is_metadata : List ℕ → List ℕ → Bool
+is_metadata folder file =
+    has_ending (codes ".dist-info") folder && same file (codes "METADATA") || has_ending (codes ".egg-info") folder && same file (codes "PKG-INFO")
+
+-- the last two components of a path, if it has two, are such metadata
+abbrev pub names_metadata : Option (List ℕ) → Option (List ℕ) → Bool
+names_metadata (Some folder) (Some file) = is_metadata folder file
+names_metadata None file = false
+names_metadata (Some folder) None = false
+
+-- the path ends in such a file, which may stand at any depth
+abbrev pub is_pypi : Path → Bool
+is_pypi path = names_metadata (file_name_of (parent_of path)) (file_name_of path)
+
 -- the place of a path in a table
 abbrev pub place_in : List (Path × Place) → Path → Option Place
 place_in [] path = None
@@ -62,7 +82,8 @@ place_in (row ∷ rows) path = if same_path path row.0 then Some row.1 else plac
 abbrev pub open_place : Path → Option Place
 open_place path =
     if is_status_file path then Some place.StatusFolder
-    else (if is_npm path then Some place.Npm else None)
+    else (if is_npm path then Some place.Npm
+    else (if is_pypi path then Some place.Pypi else None))
 
 -- the place that a path is
 abbrev pub place_of : Path → Option Place

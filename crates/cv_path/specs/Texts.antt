@@ -1,11 +1,16 @@
 -- Tests of texts, seen as their bytes (defined by this project).
-use Rattle.std.specs.Prelude.{ℕ, Bool, true, false, ◌==◌, List, [], ◌∷◌, Option, None, Some}
+use Rattle.std.specs.Prelude.{ℕ, Bool, true, false, ◌==◌, List, [], ◌∷◌, map, Option, None, Some}
+use Rattle.std.specs.Char.{to_ascii_lowercase}
 use Rattle.std.specs.Cmp.Lexicographic.{pointwise}
 use Rattle.std.specs.List.{list_any}
 
 -- whether two texts are the same
 abbrev pub same : List ℕ → List ℕ → Bool
 same = pointwise ◌==◌
+
+-- whether two texts are the same but for the case of ASCII letters
+abbrev pub same_name : List ℕ → List ℕ → Bool
+same_name a b = same (map to_ascii_lowercase a) (map to_ascii_lowercase b)
 
 -- whether a text, or another list, has an item
 abbrev pub is_cons : {X : Type 0} → List X → Bool

@@ -20,4 +20,7 @@ pub use package_files::place;
 pub use path::{PathError, RelPath, path_laws};
 pub use path_text::{goes_on, is_special};
 pub use places::Place;
-pub use text::{cut_at, is_blank, is_dropped, next_line, trim_line};
+pub use text::{
+    begins_with_blank, cut_at, is_blank, is_dropped, is_same_name, next_line, trim_end, trim_front,
+    trim_line,
+};

@@ -1,8 +1,22 @@
-ghost use Rattle.std.specs.Prelude.{◌≡◌, ◌≤◌, ◌∷◌, ◌==◌, length, codes};
+ghost use Rattle.std.specs.Prelude.{◌≡◌, ◌≤◌, ◌∷◌, ◌==◌, ◌&&◌, length, codes};
 ghost use Rattle.std.specs.List.{ends_with, slice_split};
 ghost use Rattle.std.specs.Option.{option_map};
 ghost use Rattle.cv_path.specs.Path.{components, is_slash, parent_of, same_path};
-ghost use Rattle.cv_path.specs.Place.{fixed_places, is_npm, is_scope, is_status_file, is_status_name, names_package, open_place, place_in, place_of};
+ghost use Rattle.cv_path.specs.Place.{
+  fixed_places,
+  has_ending,
+  is_metadata,
+  is_npm,
+  is_pypi,
+  is_scope,
+  is_status_file,
+  is_status_name,
+  names_metadata,
+  names_package,
+  open_place,
+  place_in,
+  place_of,
+};
 ghost use Rattle.cv_path.specs.Texts.{same};
 ghost use Rattle.cv_path.specs.code.Cuts.{remaining_len, remaining_parts};
 
@@ -54,6 +68,8 @@ fn open_place(path: &RelPath) -> Option<Place>
         Some(Place::StatusFolder)
     } else if is_npm_file(path) {
         Some(Place::Npm)
+    } else if is_python_metadata(path) {
+        Some(Place::Pypi)
     } else {
         None
     }
@@ -151,6 +167,37 @@ fn is_scope(name: &[u8]) -> bool
     ensures { result ≡ is_scope name.now }
 {
     matches!(name, [b'@', _, ..])
+}
+
+/// Whether a path is the metadata of an installed Python package.
+fn is_python_metadata(path: &RelPath) -> bool
+    ensures { result ≡ is_pypi path.now }
+{
+    names_metadata(path.folder_name(), path.file_name())
+}
+
+/// Whether these are the names of a folder and of a file in it, which is such metadata.
+fn names_metadata(folder: Option<&str>, file: Option<&str>) -> bool
+    ensures { result ≡ names_metadata (option_map (λ text. text.now) folder.entry) (option_map (λ text. text.now) file.entry) }
+{
+    match (folder, file) {
+        (Some(folder), Some(file)) => is_metadata(folder.as_bytes(), file.as_bytes()),
+        _ => false,
+    }
+}
+
+fn is_metadata(folder: &[u8], file: &[u8]) -> bool
+    ensures { result ≡ is_metadata folder.now file.now }
+{
+    (has_ending(folder, b".dist-info") && file == b"METADATA".as_slice())
+        || (has_ending(folder, b".egg-info") && file == b"PKG-INFO".as_slice())
+}
+
+/// Whether a folder has this ending after a name that is not empty.
+fn has_ending(folder: &[u8], ending: &[u8]) -> bool
+    ensures { result ≡ has_ending ending.now folder.now }
+{
+    folder.ends_with(ending) && ending.len() < folder.len()
 }
 
 /// The first component, and what stands after its slash.

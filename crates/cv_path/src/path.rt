@@ -122,6 +122,18 @@ impl RelPath {
         }
     }
 
+    /// The name of the path's directory. The top has none, and so has what stands right below it.
+    pub fn folder_name(&self) -> Option<&str>
+        ensures { option_map (λ name. name.now) result ≡ file_name_of (parent_of self.now) }
+    {
+        let text = self.parent_text();
+        match split_last(text) {
+            Some((_, name)) => Some(name),
+            None if text.is_empty() => None,
+            None => Some(text),
+        }
+    }
+
     /// The path with this name in the same directory. The name is tested before the length.
     pub fn with_file_name(&self, alloc: Global, name: &str) -> Result<RelPath, PathError>
         ensures { Gives is_path_memory (λ p. p) result (beside self.now name.now) }

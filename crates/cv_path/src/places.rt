@@ -15,4 +15,7 @@ pub enum Place {
     UsrOs,
     /// The `package.json` of a package below a folder `node_modules` (npm's folders).
     Npm,
+    /// The metadata of an installed Python package: `METADATA` in a folder `<name>.dist-info` (Python packaging user guide,
+    /// "Recording installed projects"), or `PKG-INFO` in a folder `<name>.egg-info`.
+    Pypi,
 }

@@ -2,7 +2,8 @@
 ghost use Rattle.std.specs.Prelude.{◌≡◌, ◌∷◌, ◌==◌, ◌<◌, ◌≤◌, IfSome, Some, length};
 ghost use Rattle.std.specs.List.{position, slice_split};
 ghost use Rattle.std.specs.Option.{option_map};
-ghost use Rattle.cv_path.specs.Cuts.{cut, is_blank, is_dropped, without_end};
+ghost use Rattle.cv_path.specs.Cuts.{begins_with_blank, cut, is_blank, is_dropped, without_end, without_front};
+ghost use Rattle.cv_path.specs.Texts.{same_name};
 ghost use Rattle.cv_path.specs.code.Cuts.{remaining_len, remaining_lines, remaining_parts};
 
 /// The text before the first of these bytes, and the text after it.
@@ -59,6 +60,64 @@ pub fn trim_line(line: &[u8]) -> &[u8]
         kept = front;
     }
     kept
+}
+
+/// A text without the blanks at its front.
+pub fn trim_front(text: &[u8]) -> &[u8]
+    ensures { result.now ≡ without_front is_blank text.now }
+{
+    let mut rest = text;
+    while let [first, after @ ..] = rest {
+        if !is_blank(*first) {
+            return rest;
+        }
+        rest = after;
+    }
+    rest
+}
+
+/// A text without the blanks at its end.
+#[tactic(auto, using(crate::proofs::Ends::end_more, crate::proofs::Ends::end_done))]
+pub fn trim_end(text: &[u8]) -> &[u8]
+    ensures { result.now ≡ without_end is_blank text.now }
+{
+    let mut rest = text;
+    while let Some((last, front)) = rest.split_last() {
+        if !is_blank(*last) {
+            return rest;
+        }
+        rest = front;
+    }
+    rest
+}
+
+/// Whether a text begins with a blank.
+pub fn begins_with_blank(text: &[u8]) -> bool
+    ensures { result ≡ begins_with_blank text.now }
+{
+    match text {
+        [] => false,
+        [first, ..] => is_blank(*first),
+    }
+}
+
+/// Whether two texts are the same but for the case of ASCII letters.
+pub fn is_same_name(one: &[u8], other: &[u8]) -> bool
+    ensures { result ≡ same_name one.now other.now }
+{
+    let mut left = one;
+    let mut right = other;
+    while let [x, xs @ ..] = left {
+        let [y, ys @ ..] = right else {
+            return false;
+        };
+        if x.to_ascii_lowercase() != y.to_ascii_lowercase() {
+            return false;
+        }
+        left = xs;
+        right = ys;
+    }
+    right.is_empty()
 }
 
 /// Whether a byte is dropped at the end of a line: a blank or a CR.
