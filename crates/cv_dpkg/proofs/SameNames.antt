@@ -3,7 +3,7 @@ use Rattle.std.proofs.Common.{◌≡◌, ℕ, List, map, sym}
 use Rattle.std.specs.Char.{to_ascii_lowercase}
 use Rattle.std.specs.Cmp.Lexicographic.{texts_ties}
 use Rattle.std.specs.Ordering.{is_eq}
-use Rattle.cv_dpkg.specs.Fields.{same_name}
+use Rattle.cv_base.specs.Texts.{same_name}
 use Rattle.cv_dpkg.specs.code.Names.{name_cmp}
 
 -- two names are the same where the order puts neither before the other

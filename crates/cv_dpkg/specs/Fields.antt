@@ -1,25 +1,18 @@
 -- The lines of a dpkg status file and the values of its fields (Debian Policy 5.1, deb-control(5)), as this project reads them.
 -- The used fields are Package, Status, Version, Source and Architecture. Every other field is ignored.
-use Rattle.std.specs.Prelude.{ℕ, Bool, false, ◌&&◌, ◌||◌, ◌==◌, if◌then◌else◌, not, List, [], ◌∷◌, map, codes, Option, None, Some, option_and_then}
-use Rattle.std.specs.Char.{to_ascii_lowercase}
+use Rattle.std.specs.Prelude.{ℕ, Bool, false, ◌&&◌, ◌||◌, ◌==◌, if◌then◌else◌, not, List, [], ◌∷◌, codes, Option, None, Some, option_and_then}
 use Rattle.std.specs.List.{filter, list_all, list_any, slice_split}
 use Rattle.std.specs.Option.{option_map}
-use Rattle.cv_base.specs.Cuts.{cut, is_blank, without_end}
+use Rattle.cv_base.specs.Cuts.{begins_with_blank, cut, is_blank, without_end, without_front}
 use Rattle.cv_base.specs.Printing.{is_printing}
-use Rattle.cv_base.specs.Texts.{is_nil, same}
+use Rattle.cv_base.specs.Texts.{is_nil, same, same_name}
 use Rattle.cv_stanza.specs.Values.{last_value}
 use Rattle.cv_dpkg.specs.declared.field.Field.{Field}
 use Rattle.cv_dpkg.specs.declared.field.Field.TheVariants.{Package, Status, Version, Source, Architecture, Unused}
 
--- a text without the blanks at its front
-abbrev pub without_front : List ℕ → List ℕ
-without_front [] = []
-without_front (x ∷ xs) = if is_blank x then without_front xs else x ∷ xs
-
 -- a line that continues the field before it begins with a blank
 abbrev pub is_continuation : List ℕ → Bool
-is_continuation [] = false
-is_continuation (x ∷ xs) = is_blank x
+is_continuation line = begins_with_blank line
 
 -- the byte between a field's name and its value
 abbrev pub is_colon : ℕ → Bool
@@ -32,15 +25,11 @@ pub record Pair : Type 0 where
 
 -- the field that a line with a colon is
 abbrev pub pair_in : List ℕ → Option Pair
-pair_in text = option_map (λ p. record { name = p.0; value = without_front p.1 }) (cut is_colon text)
+pair_in text = option_map (λ p. record { name = p.0; value = without_front is_blank p.1 }) (cut is_colon text)
 
 -- a line as a field, unless it continues another one or has no colon
 abbrev pub field_of : List ℕ → Option Pair
 field_of text = if is_continuation text then None else pair_in text
-
--- two names are the same but for the case of ASCII letters
-abbrev pub same_name : List ℕ → List ℕ → Bool
-same_name a b = same (map to_ascii_lowercase a) (map to_ascii_lowercase b)
 
 -- the field that a name names
 abbrev pub named : List ℕ → Field

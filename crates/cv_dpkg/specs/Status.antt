@@ -9,12 +9,12 @@ use Rattle.std.specs.List.{list_all, list_any, slice_split}
 use Rattle.std.specs.Option.{is_some, option_map_or}
 use Rattle.cv_base.specs.Cuts.{is_dropped, is_lf, without_end}
 use Rattle.cv_base.specs.Printing.{is_printing}
-use Rattle.cv_base.specs.Texts.{is_nil, same}
+use Rattle.cv_base.specs.Texts.{is_nil, same, same_name}
 use Rattle.cv_base.specs.declared.fault.FileBad.{FileBad}
 use Rattle.cv_base.specs.declared.fault.What.{What}
 use Rattle.cv_base.specs.declared.fault.What.TheVariants.{NoColon, BadField, RepeatedField, LooseContinuation, NoPackage, NoVersion, BadStatus, BadValue}
 use Rattle.cv_stanza.specs.Blocks.{BlockRules, read_blocks, unless}
-use Rattle.cv_dpkg.specs.Fields.{Facts, Pair, facts, field_of, is_continuation, is_name, named, origin_of, same_name, state_of}
+use Rattle.cv_dpkg.specs.Fields.{Facts, Pair, facts, field_of, is_continuation, is_name, named, origin_of, state_of}
 use Rattle.cv_dpkg.specs.declared.field.Field.{Field}
 use Rattle.cv_dpkg.specs.declared.field.Field.TheVariants.{Package, Status, Version, Source, Architecture, Unused}
 use Rattle.cv_dpkg.specs.declared.package.DebPackage.{DebPackage}

@@ -1,11 +1,10 @@
 //! Fields and their names.
 ghost use Rattle.std.specs.Prelude.{◌≡◌};
 ghost use Rattle.std.specs.Option.{option_map};
-ghost use Rattle.cv_dpkg.specs.Fields.{is_name, named, pair_in, same_name};
+ghost use Rattle.cv_dpkg.specs.Fields.{is_name, named, pair_in};
 ghost use Rattle.cv_dpkg.specs.code.Names.{entry_of, name_cmp};
 
-use crate::text::trim_front;
-use cv_base::{are_printing, cut_at};
+use cv_base::{are_printing, cut_at, is_same_name, trim_front};
 use cv_path::{ByteKey, compare_by};
 use std::cmp::Ordering;
 
@@ -65,13 +64,6 @@ pub fn named(name: &[u8]) -> Field
     } else {
         Field::Unused
     }
-}
-
-#[tactic(auto, using(crate::proofs::SameNames::same_by_order))]
-fn is_same_name(one: &[u8], other: &[u8]) -> bool
-    ensures { result ≡ same_name one.now other.now }
-{
-    name_order(one, other).is_eq()
 }
 
 /// Letters are compared in lower case.

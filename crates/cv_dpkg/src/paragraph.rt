@@ -8,8 +8,7 @@ ghost use Rattle.cv_dpkg.specs.code.Steps.{field_step, line_step, opening, state
 use crate::facts::Facts;
 use crate::field::{Entry, is_name, named, split_field};
 use crate::names::{FieldName, add_name};
-use crate::text::begins_with_blank;
-use cv_base::What;
+use cv_base::{What, begins_with_blank};
 use cv_stanza::{LineError, LineResult};
 use std::alloc::Global;
 use std::collections::BTreeSet;

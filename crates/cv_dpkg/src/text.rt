@@ -2,50 +2,10 @@
 ghost use Rattle.std.specs.Prelude.{◌≡◌};
 ghost use Rattle.std.specs.List.{position};
 ghost use Rattle.std.specs.Option.{option_map};
-ghost use Rattle.cv_base.specs.Cuts.{cut, is_blank, without_end};
-ghost use Rattle.cv_dpkg.specs.Fields.{is_continuation, without_front};
+ghost use Rattle.cv_base.specs.Cuts.{cut, is_blank};
 ghost use Rattle.cv_dpkg.specs.code.NextWord.{next_word};
 
-use cv_base::is_blank;
-
-/// A text without the blanks at its front.
-pub fn trim_front(text: &[u8]) -> &[u8]
-    ensures { result.now ≡ without_front text.now }
-{
-    let mut rest = text;
-    while let [first, after @ ..] = rest {
-        if !is_blank(*first) {
-            return rest;
-        }
-        rest = after;
-    }
-    rest
-}
-
-/// A text without the blanks at its end.
-#[tactic(auto, using(cv_path::proofs::Ends::end_more, cv_path::proofs::Ends::end_done))]
-pub fn trim_end(text: &[u8]) -> &[u8]
-    ensures { result.now ≡ without_end is_blank text.now }
-{
-    let mut rest = text;
-    while let Some((last, front)) = rest.split_last() {
-        if !is_blank(*last) {
-            return rest;
-        }
-        rest = front;
-    }
-    rest
-}
-
-/// Whether a text begins with a blank.
-pub fn begins_with_blank(text: &[u8]) -> bool
-    ensures { result ≡ is_continuation text.now }
-{
-    match text {
-        [] => false,
-        [first, ..] => is_blank(*first),
-    }
-}
+use cv_base::{is_blank, trim_front};
 
 /// What stands before the first blank, and what after it.
 #[tactic(auto, using(cv_path::proofs::Cuts::cut_is))]

@@ -7,8 +7,8 @@ ghost use Rattle.cv_dpkg.specs.Fields.{is_close, is_state, is_word, is_word_byte
 ghost use Rattle.cv_dpkg.specs.code.NextWord.{state_by};
 ghost use Rattle.cv_dpkg.specs.code.Steps.{source_view};
 
-use crate::text::{next_word, trim_end};
-use cv_base::cut_at;
+use crate::text::next_word;
+use cv_base::{cut_at, trim_end};
 
 /// What a value of Source names.
 #[derive(Clone, Copy)]

@@ -1,10 +1,9 @@
 -- The lines of a Python metadata file and their fields (core metadata specification, after the headers of RFC 5322), as this
 -- project reads them.
-use Rattle.std.specs.Prelude.{ℕ, Bool, false, ◌==◌, if◌then◌else◌, List, [], ◌∷◌, map, Option, None, Some, option_and_then}
-use Rattle.std.specs.Char.{to_ascii_lowercase}
+use Rattle.std.specs.Prelude.{ℕ, Bool, ◌==◌, if◌then◌else◌, List, [], ◌∷◌, Option, None, Some, option_and_then}
 use Rattle.std.specs.Option.{option_map}
-use Rattle.cv_base.specs.Cuts.{cut, is_blank, without_end}
-use Rattle.cv_base.specs.Texts.{same}
+use Rattle.cv_base.specs.Cuts.{begins_with_blank, cut, is_blank, without_end, without_front}
+use Rattle.cv_base.specs.Texts.{same_name}
 
 -- the byte that may stand before the LF of a line
 abbrev pub is_cr : ℕ → Bool
@@ -16,19 +15,9 @@ without_cr [] = []
 without_cr (x ∷ []) = if is_cr x then [] else x ∷ []
 without_cr (x ∷ y ∷ ys) = x ∷ without_cr (y ∷ ys)
 
--- a text without the blanks at its front
-abbrev pub without_front : List ℕ → List ℕ
-without_front [] = []
-without_front (x ∷ xs) = if is_blank x then without_front xs else x ∷ xs
-
 -- a text without the blanks at both ends
 abbrev pub trimmed : List ℕ → List ℕ
-trimmed text = without_end is_blank (without_front text)
-
--- a line that begins with a blank, as one that continues a field does
-abbrev pub begins_with_blank : List ℕ → Bool
-begins_with_blank [] = false
-begins_with_blank (x ∷ xs) = is_blank x
+trimmed text = without_end is_blank (without_front is_blank text)
 
 -- the byte between a field's name and its value
 abbrev pub is_colon : ℕ → Bool
@@ -43,10 +32,6 @@ pub record Field : Type 0 where
 -- begins with a blank is none, and neither is one without a colon.
 abbrev pub field_of : List ℕ → Option Field
 field_of line = if begins_with_blank line then None else option_map (λ p. record { name = p.0; value = trimmed p.1 }) (cut is_colon line)
-
--- two names are the same but for the case of ASCII letters
-abbrev pub same_name : List ℕ → List ℕ → Bool
-same_name a b = same (map to_ascii_lowercase a) (map to_ascii_lowercase b)
 
 -- the value of a field, if it has this name
 abbrev pub value_for : List ℕ → Field → Option (List ℕ)

@@ -1,9 +1,8 @@
 //! Pieces of texts, all of them borrowed.
 ghost use Rattle.std.specs.Prelude.{◌≡◌};
-ghost use Rattle.cv_base.specs.Cuts.{is_blank, without_end};
-ghost use Rattle.cv_pypi.specs.Fields.{trimmed, without_cr, without_front};
+ghost use Rattle.cv_pypi.specs.Fields.{trimmed, without_cr};
 
-use cv_base::is_blank;
+use cv_base::{trim_end, trim_front};
 
 /// A line without the CR at its end. Of several CRs one is dropped.
 #[tactic(auto, using(crate::proofs::Ends::cr_dropped, crate::proofs::Ends::no_cr))]
@@ -21,31 +20,4 @@ pub fn trimmed(text: &[u8]) -> &[u8]
     ensures { result.now ≡ trimmed text.now }
 {
     trim_end(trim_front(text))
-}
-
-fn trim_front(text: &[u8]) -> &[u8]
-    ensures { result.now ≡ without_front text.now }
-{
-    let mut rest = text;
-    while let [first, after @ ..] = rest {
-        if !is_blank(*first) {
-            return rest;
-        }
-        rest = after;
-    }
-    rest
-}
-
-#[tactic(auto, using(cv_path::proofs::Ends::end_more, cv_path::proofs::Ends::end_done))]
-fn trim_end(text: &[u8]) -> &[u8]
-    ensures { result.now ≡ without_end is_blank text.now }
-{
-    let mut rest = text;
-    while let Some((last, front)) = rest.split_last() {
-        if !is_blank(*last) {
-            return rest;
-        }
-        rest = front;
-    }
-    rest
 }

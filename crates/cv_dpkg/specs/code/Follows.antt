@@ -2,11 +2,11 @@
 use Rattle.std.proofs.Common.{◌≡◌, ℕ, Bool, true, false, ◌||◌, if◌then◌else◌, not, List, [], ◌∷◌, ◌++◌, Option, None, Some, Ok, Err, refl, sym, ap, ◌∙◌}
 use Rattle.std.specs.Prelude.{option_and_then}
 use Rattle.std.specs.Option.{option_map_or, option_or}
-use Rattle.cv_base.specs.Texts.{is_cons, is_nil}
+use Rattle.cv_base.specs.Texts.{is_cons, is_nil, same_name}
 use Rattle.cv_base.specs.declared.fault.What.TheVariants.{BadField, LooseContinuation, RepeatedField}
 use Rattle.cv_stanza.specs.code.Steps.{Agrees, or_fault}
 use Rattle.cv_stanza.proofs.Values.{last_value_snoc}
-use Rattle.cv_dpkg.specs.Fields.{Facts, Pair, facts, field_of, is_continuation, is_name, named, origin_of, pair_in, same_name, source_name, source_version, state_of, value, value_by}
+use Rattle.cv_dpkg.specs.Fields.{Facts, Pair, facts, field_of, is_continuation, is_name, named, origin_of, pair_in, source_name, source_version, state_of, value, value_by}
 use Rattle.cv_dpkg.specs.Status.{field_fault, line_fault, rules, stands, value_fault}
 use Rattle.cv_dpkg.specs.code.Steps.{State, field_after, field_step, line_step, steps, with_value}
 use Rattle.cv_dpkg.specs.declared.field.Field.{Field}

@@ -1,8 +1,8 @@
 -- The words of a text one after the other, as the code reads them. `proofs/` shows that these are the words of `Fields.antt`.
 use Rattle.std.specs.Prelude.{ℕ, ◌&&◌, if◌then◌else◌, not, List, [], ◌∷◌, Option, None, Some}
 use Rattle.std.specs.Option.{is_some, option_and_then}
-use Rattle.cv_base.specs.Cuts.{cut, is_blank}
-use Rattle.cv_dpkg.specs.Fields.{is_state, without_front}
+use Rattle.cv_base.specs.Cuts.{cut, is_blank, without_front}
+use Rattle.cv_dpkg.specs.Fields.{is_state}
 
 -- a word up to a blank or to the end
 abbrev pub word_by : List ℕ → Option (List ℕ × List ℕ) → List ℕ × List ℕ
@@ -16,7 +16,7 @@ word_at (x ∷ xs) = Some (word_by (x ∷ xs) (cut is_blank (x ∷ xs)))
 
 -- the first word, and what stands after it
 abbrev pub next_word : List ℕ → Option (List ℕ × List ℕ)
-next_word text = word_at (without_front text)
+next_word text = word_at (without_front is_blank text)
 
 -- the last of three words
 abbrev pub third_by : List ℕ × List ℕ → Option (List ℕ)

@@ -7,7 +7,8 @@ use Rattle.std.specs.Ordering.{is_eq}
 use Rattle.cv_base.specs.declared.fault.What.{What}
 use Rattle.cv_base.specs.declared.fault.What.TheVariants.{BadField, LooseContinuation, NoColon, RepeatedField}
 use Rattle.cv_stanza.specs.code.Steps.{BlockSteps, or_fault}
-use Rattle.cv_dpkg.specs.Fields.{Facts, Origin, Pair, is_continuation, is_name, named, origin_of, pair_in, same_name, source_name, source_version, state_of}
+use Rattle.cv_base.specs.Texts.{same_name}
+use Rattle.cv_dpkg.specs.Fields.{Facts, Origin, Pair, is_continuation, is_name, named, origin_of, pair_in, source_name, source_version, state_of}
 use Rattle.cv_dpkg.specs.Status.{package_in, value_fault, whole_fault}
 use Rattle.cv_dpkg.specs.code.Names.{name_cmp}
 use Rattle.cv_dpkg.specs.declared.facts.Facts as declared
