@@ -1,6 +1,6 @@
 -- The key of a text by the parts that it is cut into.
 use Rattle.std.proofs.Common.{◌≡◌, ℕ, List}
-use Rattle.cv_pep440.specs.Order.{tail_key, key_of}
+use Rattle.cv_pep440.specs.Key.{tail_key, key_of}
 use Rattle.cv_pep440.specs.Parts.{after_mark, after_release, epoch_of, release_of, release_text, tail_of}
 use Rattle.cv_pep440.specs.code.View.{key_seen, tail_seen}
 use Rattle.cv_pep440.specs.declared.parts.Parts.{Parts}

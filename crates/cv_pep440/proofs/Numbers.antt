@@ -9,7 +9,7 @@ use Rattle.std.specs.List.{onto_first}
 use Rattle.cv_order.specs.Digits.{is_digit, front_digits, after_digits, without_zeros, run_cmp, number_cmp}
 use Rattle.cv_order.specs.Filled.{filled_cmp}
 use Rattle.cv_order.proofs.Places.{length-after_while}
-use Rattle.cv_pep440.specs.Grammar.{DOT}
+use Rattle.cv_pep440.specs.Bytes.{DOT}
 use Rattle.cv_pep440.specs.Parts.{begins_with_digit, release_of}
 use Rattle.cv_pep440.specs.Order.{is_zero, release_cmp, unless_last_zero, without_last_zeros}
 use Rattle.cv_pep440.specs.code.Walk.{next_number, places_cmp}

@@ -9,7 +9,9 @@ use lib.Pointwise.{pointwise}
 use Rattle.cv_order.specs.Digits.{is_digit, front_digits, after_digits}
 use Rattle.cv_order.specs.Filled.{later}
 use Rattle.cv_order.proofs.Places.{front_while-append-after_while}
-use Rattle.cv_pep440.specs.Grammar.{BANG, Bare, DOT, HYPHEN, IsLocalWritten, IsNumberWritten, IsPartWritten, IsPostWritten, IsVersion, Named, PLUS, WrittenLocal, WrittenNumber, WrittenPart, WrittenPost, WrittenRun, alpha_words, beta_words, candidate_words, dev_words, epoch_text, is_bare, is_mark, is_number, is_optional_separator, is_run, is_separator, is_word, lacks_number, local_text, number_text, numbers_text, optional_text, post_text, post_words, rank_of, runs_text}
+use Rattle.cv_pep440.specs.Bytes.{BANG, DOT, HYPHEN, PLUS, is_mark, is_number, is_run, is_separator}
+use Rattle.cv_pep440.specs.Grammar.{Bare, IsLocalWritten, IsNumberWritten, IsPartWritten, IsPostWritten, IsVersion, Named, WrittenLocal, WrittenNumber, WrittenPart, WrittenPost, WrittenRun, epoch_text, is_bare, is_optional_separator, lacks_number, local_text, number_text, numbers_text, optional_text, post_text, runs_text}
+use Rattle.cv_pep440.specs.Words.{alpha_words, beta_words, candidate_words, dev_words, is_word, post_words, rank_of}
 use Rattle.cv_pep440.specs.Parts.{Part, Word, after_any, after_epoch, after_mark, after_number, after_part, after_release, after_separator, after_word, begins_with, begins_with_digit, dev_of, has_epoch, is_local, is_version, post_of, pre_of, pre_word, release_text, runs, with_number, word_of}
 use Rattle.cv_pep440.proofs.Words.{lower}
 use Rattle.cv_pep440.proofs.Spelled.{is_version-text_of, part_assoc}

@@ -8,7 +8,7 @@ use Rattle.std.specs.Char.{is_ascii_alphanumeric}
 use Rattle.std.specs.List.{list_all, onto_first, position}
 use Rattle.cv_order.proofs.Fronts.{after_none, after_some, front_none, front_some}
 use Rattle.cv_pep440.specs.Order.{local_cmp, run_cmp, run_key}
-use Rattle.cv_pep440.specs.Grammar.{is_run, is_separator}
+use Rattle.cv_pep440.specs.Bytes.{is_run, is_separator}
 use Rattle.cv_pep440.specs.Parts.{runs}
 use Rattle.cv_pep440.specs.code.Walk.{after_run, front_run, remaining_len, rest_of, runs_after}
 

@@ -8,8 +8,10 @@ use Rattle.std.proofs.lemmas.Bool.{and_parts, and_from, eqb-true, not-true}
 use Rattle.std.proofs.lemmas.Bool.Decides.{nat_tests}
 use Rattle.cv_order.specs.Digits.{is_digit, front_digits, after_digits}
 use Rattle.cv_order.specs.Filled.{later}
-use Rattle.cv_pep440.specs.Grammar.{BANG, Bare, DOT, HYPHEN, IsLocalWritten, IsNumberWritten, IsPartWritten, IsPostWritten, IsWellWritten, Named, Written, WrittenLocal, WrittenNumber, WrittenPart, WrittenPost, WrittenRun, dev_words, epoch_text, is_bare, is_mark, is_number, is_optional_separator, is_run, is_separator, is_word, lacks_number, local_text, number_text, numbers_text, optional_text, part_text, post_text, post_words, rank_of, runs_text, suffixes_text, text_of}
-use Rattle.cv_pep440.specs.Order.{digits_of, key_from, key_of, number_in, post_digits, ranked_in, tail_key, written_key, written_pre}
+use Rattle.cv_pep440.specs.Bytes.{BANG, DOT, HYPHEN, is_mark, is_number, is_run, is_separator}
+use Rattle.cv_pep440.specs.Grammar.{Bare, IsLocalWritten, IsNumberWritten, IsPartWritten, IsPostWritten, IsWellWritten, Named, Written, WrittenLocal, WrittenNumber, WrittenPart, WrittenPost, WrittenRun, epoch_text, is_bare, is_optional_separator, lacks_number, local_text, number_text, numbers_text, optional_text, part_text, post_text, runs_text, suffixes_text, text_of}
+use Rattle.cv_pep440.specs.Words.{dev_words, is_word, post_words, rank_of}
+use Rattle.cv_pep440.specs.Key.{digits_of, key_from, key_of, number_in, post_digits, ranked_in, tail_key, written_key, written_pre}
 use Rattle.cv_pep440.specs.Parts.{Part, Tail, after_epoch, after_mark, after_number, after_part, after_release, after_separator, bare_post_of, begins_with, begins_with_digit, dev_of, epoch_of, has_epoch, is_local, is_version, local_of, number_of, post_of, pre_of, pre_word, release_of, release_text, runs, tail_at_dev, tail_at_post, tail_of, with_number, word_of}
 use Rattle.cv_pep440.proofs.Words.{but, dev_byte, dev_word_opens, dev_word_read, later_byte, may_follow, no_post_word, no_pre_word, opens, opens_weaker, part_letter, post_word_opens, post_word_read, pre_word_opens, pre_word_read, starts, starts-opens, starts_weaker}
 

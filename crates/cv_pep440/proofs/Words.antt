@@ -4,7 +4,7 @@ use Rattle.std.specs.Char.{to_ascii_lowercase}
 use Rattle.std.specs.Option.{option_or}
 use Rattle.std.proofs.lemmas.Bool.{and_parts, eqb-true, eq-eqb, not-true}
 use lib.Pointwise.{pointwise}
-use Rattle.cv_pep440.specs.Grammar.{alpha_words, beta_words, candidate_words, dev_words, post_words, is_word, rank_of}
+use Rattle.cv_pep440.specs.Words.{alpha_words, beta_words, candidate_words, dev_words, post_words, is_word, rank_of}
 use Rattle.cv_pep440.specs.Parts.{Word, after_word, pre_word, word_of}
 
 abbrev pub lower : List ℕ → List ℕ

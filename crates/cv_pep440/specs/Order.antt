@@ -1,7 +1,6 @@
--- The order of Python versions, by keys, after PEP 440 ("Summary of permitted suffixes and relative ordering" and "Local
--- version identifiers"). A key is read from any text. Where the text is a version, it is that of the parts from which the version
--- is written.
-use Rattle.std.specs.Prelude.{ℕ, Bool, ◌==◌, if◌then◌else◌, List, [], ◌∷◌, map, Option, Some, None, option_map, unwrap_or}
+-- The order of Python versions by their keys, after PEP 440 ("Summary of permitted suffixes and relative ordering" and "Local version
+-- identifiers").
+use Rattle.std.specs.Prelude.{ℕ, Bool, ◌==◌, if◌then◌else◌, List, [], ◌∷◌, map, Option, Some, None}
 use Rattle.std.specs.Char.{to_ascii_lowercase}
 use Rattle.std.specs.List.{list_all}
 use Rattle.std.specs.declared.cmp.Ordering.{Ordering}
@@ -10,22 +9,7 @@ use Rattle.std.specs.Option.{option_cmp}
 use Rattle.std.specs.Cmp.{IsTotalOrder, on_total, then_total, nat_cmp_total}
 use Rattle.std.specs.Cmp.Lexicographic.{slice_cmp, lists_total, options_total}
 use Rattle.cv_order.specs.Digits.{is_digit, number_cmp, number_total}
-use Rattle.cv_pep440.specs.Grammar.{Bare, Named, Written, WrittenNumber, WrittenPart, WrittenPost, rank_of}
-use Rattle.cv_pep440.specs.Parts.{Part, Tail, after_mark, after_release, epoch_of, local_of, release_of, release_text, tail_of}
-
--- a rank and the digits of a number, none where it is absent
-pub record Ranked : Type 0 where
-  pub rank : ℕ
-  pub number : List ℕ
-
--- what decides how a version compares. Each number is given by its digits
-pub record Key : Type 0 where
-  pub epoch : List ℕ
-  pub release : List (List ℕ)
-  pub pre : Ranked
-  pub post : Option (List ℕ)
-  pub dev : Option (List ℕ)
-  pub local : Option (List (List ℕ))
+use Rattle.cv_pep440.specs.Key.{Key, Ranked, key_of}
 
 -- the digits are zeros, 48, or none
 abbrev pub is_zero : List ℕ → Bool
@@ -44,14 +28,6 @@ without_last_zeros (number ∷ numbers) = unless_last_zero number (without_last_
 -- releases number by number, without the zeros at their ends; a release that goes on from another is greater
 abbrev pub release_cmp : List (List ℕ) → List (List ℕ) → Ordering
 release_cmp = on without_last_zeros (slice_cmp number_cmp)
-
--- where a version stands by its pre-release: 0 for a development release of the release itself, 1 to 3 for a pre-release by
--- its word, 4 for any other version
-abbrev pub pre_key : Option Ranked → Option (List ℕ) → Option (List ℕ) → Ranked
-pre_key (Some pre) post dev = pre
-pre_key None None (Some dev) = record { rank = 0; number = [] }
-pre_key None None None = record { rank = 4; number = [] }
-pre_key None (Some post) dev = record { rank = 4; number = [] }
 
 -- by rank and then by number
 abbrev pub ranked_cmp : Ranked → Ranked → Ordering
@@ -79,46 +55,6 @@ run_cmp = then_cmp (on (λ r. r.rank) nat_cmp) (then_cmp (on (λ r. r.letters) (
 -- local versions run by run; one that goes on from another is greater
 abbrev pub local_cmp : List (List ℕ) → List (List ℕ) → Ordering
 local_cmp = slice_cmp (on run_key run_cmp)
-
--- the key of a version by the numbers of its parts
-abbrev pub key_from : List ℕ → List (List ℕ) → Option Ranked → Option (List ℕ) → Option (List ℕ) → Option (List (List ℕ)) → Key
-key_from epoch release pre post dev local = record { epoch = epoch; release = release; pre = pre_key pre post dev; post = post; dev = dev; local = local }
-
--- the digits of a number, none where it is absent
-abbrev pub digits_of : Option WrittenNumber → List ℕ
-digits_of None = []
-digits_of (Some number) = number.digits
-
--- the digits of the number of a post-release
-abbrev pub post_digits : WrittenPost → List ℕ
-post_digits (Named part) = digits_of part.number
-post_digits (Bare digits) = digits
-
--- a pre-release by the rank of its word, and its number
-abbrev pub written_pre : WrittenPart → Ranked
-written_pre part = record { rank = unwrap_or (rank_of part.word) 0; number = digits_of part.number }
-
--- the key of a version by the parts from which it is written
-abbrev pub written_key : Written → Key
-written_key w =
-    key_from (unwrap_or w.epoch []) (w.first ∷ w.more) (option_map written_pre w.pre) (option_map post_digits w.post)
-    (option_map (λ (part : WrittenPart). digits_of part.number) w.dev) (option_map (λ local. local.first ∷ map (λ run. run.run) local.more) w.local)
-
--- a part's rank and number
-abbrev pub ranked_in : Option Part → Option Ranked
-ranked_in part = option_map (λ (p : Part). record { rank = p.rank; number = p.number }) part
-
--- the digits of a part's number
-abbrev pub number_in : Option Part → Option (List ℕ)
-number_in part = option_map (λ (p : Part). p.number) part
-
--- the key of a version by its epoch, its release and what comes after
-abbrev pub tail_key : List ℕ → List (List ℕ) → Tail → Key
-tail_key epoch release tail = key_from epoch release (ranked_in tail.pre) (number_in tail.post) (number_in tail.dev) (local_of tail.rest)
-
--- the key of a version from its whole text
-abbrev pub key_of : List ℕ → Key
-key_of text = tail_key (epoch_of (after_mark text)) (release_of (release_text text)) (tail_of (after_release (release_text text)))
 
 -- by pre-release; by post-release, where none is least; by development release, where none is greatest; by local version,
 -- where none is least

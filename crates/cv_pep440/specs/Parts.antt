@@ -7,7 +7,8 @@ use Rattle.std.specs.List.{list_all, onto_first, slice_split}
 use Rattle.std.specs.Option.{option_or}
 use Rattle.cv_order.specs.Digits.{is_digit, front_digits, after_digits}
 use Rattle.cv_order.specs.Filled.{later}
-use Rattle.cv_pep440.specs.Grammar.{BANG, DOT, HYPHEN, PLUS, alpha_words, beta_words, candidate_words, dev_words, is_mark, is_run, is_separator, post_words}
+use Rattle.cv_pep440.specs.Bytes.{BANG, DOT, HYPHEN, PLUS, is_mark, is_run, is_separator}
+use Rattle.cv_pep440.specs.Words.{ALPHA_RANK, BETA_RANK, CANDIDATE_RANK, ONLY_RANK, alpha_words, beta_words, candidate_words, dev_words, post_words}
 
 -- the text begins with this byte
 abbrev pub begins_with : ℕ → List ℕ → Bool
@@ -79,7 +80,7 @@ word_of rank words text = option_map (λ rest. record { rank = rank; rest = rest
 
 -- the word of a pre-release
 abbrev pub pre_word : List ℕ → Option Word
-pre_word text = option_or (word_of 1 alpha_words text) (option_or (word_of 2 beta_words text) (word_of 3 candidate_words text))
+pre_word text = option_or (word_of ALPHA_RANK alpha_words text) (option_or (word_of BETA_RANK beta_words text) (word_of CANDIDATE_RANK candidate_words text))
 
 -- a part of a version by the rank of its word and the digits of its number, none where it is absent; and what comes after it
 pub record Part : Type 0 where
@@ -107,15 +108,15 @@ pre_of text = with_number (pre_word (after_separator text))
 abbrev pub bare_post_of : List ℕ → Option Part
 bare_post_of [] = None
 bare_post_of (c ∷ cs) =
-    if c == HYPHEN && begins_with_digit cs then Some (record { rank = 0; number = front_digits cs; rest = after_digits cs }) else None
+    if c == HYPHEN && begins_with_digit cs then Some (record { rank = ONLY_RANK; number = front_digits cs; rest = after_digits cs }) else None
 
 -- `-digits`, or `[separator]word[[separator]digits]` of a post-release
 abbrev pub post_of : List ℕ → Option Part
-post_of text = option_or (bare_post_of text) (with_number (word_of 0 post_words (after_separator text)))
+post_of text = option_or (bare_post_of text) (with_number (word_of ONLY_RANK post_words (after_separator text)))
 
 -- `[separator]word[[separator]digits]` of a development release
 abbrev pub dev_of : List ℕ → Option Part
-dev_of text = with_number (word_of 0 dev_words (after_separator text))
+dev_of text = with_number (word_of ONLY_RANK dev_words (after_separator text))
 
 -- what comes after a part, if the text begins with it
 abbrev pub after_part : Option Part → List ℕ → List ℕ

@@ -1,7 +1,8 @@
 ghost use Rattle.std.specs.Prelude.{◌≡◌, ◌↔◌, IsTrue};
 ghost use Rattle.std.specs.Char.{is_ascii_alphanumeric};
 ghost use Rattle.std.specs.List.{list_all};
-ghost use Rattle.cv_pep440.specs.Grammar.{IsVersion, is_run};
+ghost use Rattle.cv_pep440.specs.Bytes.{is_run};
+ghost use Rattle.cv_pep440.specs.Grammar.{IsVersion};
 ghost use Rattle.cv_pep440.specs.Parts.{is_local, is_version, runs};
 
 use crate::parts::{Parts, begins_with_digit, cut_run};

@@ -7,6 +7,7 @@
 mod grammar;
 mod order;
 mod parts;
+mod rank;
 
 pub use grammar::is_version;
 pub use order::{compare, version_key_law, version_order_laws};

@@ -3,24 +3,20 @@ ghost use Rattle.std.specs.Char.{to_ascii_lowercase};
 ghost use Rattle.std.specs.Cmp.{IsTotalOrder};
 ghost use Rattle.std.specs.Cmp.Lexicographic.{slice_cmp};
 ghost use Rattle.std.specs.Option.{option_cmp};
-ghost use Rattle.std.specs.Ordering.{nat_cmp};
+ghost use Rattle.std.specs.Ordering.{nat_cmp, on};
 ghost use Rattle.cv_order.specs.Digits.{number_cmp};
 ghost use Rattle.cv_order.specs.Laws.{IsTotalPreorder};
 ghost use Rattle.cv_pep440.specs.Grammar.{IsWellWritten, Written, text_of};
-ghost use Rattle.cv_pep440.specs.Order.{dev_key, key_cmp, key_of, local_cmp, number_in, pre_key, ranked_cmp, ranked_in, release_cmp, run_cmp, run_key, suffixes_cmp, version_cmp, written_key};
+ghost use Rattle.cv_pep440.specs.Key.{key_of, number_in, pre_key, ranked_in, written_key};
+ghost use Rattle.cv_pep440.specs.Order.{dev_key, key_cmp, local_cmp, ranked_cmp, release_cmp, run_cmp, run_key, suffixes_cmp, version_cmp};
 ghost use Rattle.cv_pep440.specs.Parts.{local_of, release_of, runs};
 ghost use Rattle.cv_pep440.specs.code.View.{key_seen, part_seen, ranked_seen};
 ghost use Rattle.cv_pep440.specs.code.Walk.{next_number, places_cmp};
 
 use crate::parts::{Part, Parts, begins_with_digit, cut_run};
+use crate::rank::{DEV_RANK, RELEASE_RANK};
 use cv_order::{are_digits, compare_digits, compare_numbers};
 use std::cmp::Ordering;
-
-/// The rank of a development release of a release, among the pre-releases.
-const DEV_RANK: u8 = 0;
-
-/// The rank of a version that is no pre-release.
-const RELEASE_RANK: u8 = 4;
 
 /// The three laws of the order, `laws`: any two versions compare, the order is transitive, and `compare(b, a)` is the reverse of
 /// `compare(a, b)`. `order` holds these in std's form, and that versions that compare equal compare alike with every third.
@@ -57,7 +53,7 @@ fn compare_suffixes(a: &Parts<'_>, b: &Parts<'_>) -> Ordering
 {
     compare_ranked(pre_key(a), pre_key(b))
         .then(compare_posts(a.post, b.post))
-        .then(compare_ranked(dev_key(a.dev), dev_key(b.dev)))
+        .then(compare_devs(a.dev, b.dev))
         .then(compare_local_parts(a.local, b.local))
 }
 
@@ -129,19 +125,6 @@ fn pre_key<'a>(parts: &Parts<'a>) -> Ranked<'a>
     Ranked { rank, number: &[] }
 }
 
-/// A development release stands before a version that is none.
-fn dev_key(dev: Option<Part<'_>>) -> Ranked<'_>
-    ensures { ranked_seen result ≡ dev_key (number_in (part_seen dev.entry)) }
-{
-    match dev {
-        Some(Part { number, .. }) => Ranked { rank: 0, number },
-        None => Ranked {
-            rank: 1,
-            number: &[],
-        },
-    }
-}
-
 fn compare_posts(a: Option<Part<'_>>, b: Option<Part<'_>>) -> Ordering
     ensures { result ≡ option_cmp number_cmp (number_in (part_seen a.entry)) (number_in (part_seen b.entry)) }
 {
@@ -149,6 +132,18 @@ fn compare_posts(a: Option<Part<'_>>, b: Option<Part<'_>>) -> Ordering
         (Some(a), Some(b)) => compare_digits(a.number, b.number),
         (Some(_), None) => Ordering::Greater,
         (None, Some(_)) => Ordering::Less,
+        (None, None) => Ordering::Equal,
+    }
+}
+
+/// A development release is less than a version that is none.
+fn compare_devs(a: Option<Part<'_>>, b: Option<Part<'_>>) -> Ordering
+    ensures { result ≡ on dev_key ranked_cmp (number_in (part_seen a.entry)) (number_in (part_seen b.entry)) }
+{
+    match (a, b) {
+        (Some(a), Some(b)) => compare_digits(a.number, b.number),
+        (Some(_), None) => Ordering::Less,
+        (None, Some(_)) => Ordering::Greater,
         (None, None) => Ordering::Equal,
     }
 }

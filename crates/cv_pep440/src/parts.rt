@@ -1,11 +1,12 @@
 ghost use Rattle.std.specs.Prelude.{◌≡◌, ◌<◌, IfSome, length, map};
 ghost use Rattle.std.specs.List.{position};
 ghost use Rattle.std.specs.Option.{option_copied};
-ghost use Rattle.cv_pep440.specs.Grammar.{is_separator};
+ghost use Rattle.cv_pep440.specs.Bytes.{is_separator};
 ghost use Rattle.cv_pep440.specs.Parts.{after_any, after_epoch, after_mark, after_part, after_release, after_separator, after_word, bare_post_of, begins_with_digit, dev_of, epoch_of, post_of, pre_of, pre_word, release_text, tail_of, with_number, word_of};
 ghost use Rattle.cv_pep440.specs.code.View.{part_seen, tail_seen, word_seen};
 ghost use Rattle.cv_pep440.specs.code.Walk.{after_run, front_run};
 
+use crate::rank::{ALPHA_RANK, BETA_RANK, CANDIDATE_RANK, ONLY_RANK};
 use cv_order::split_digits;
 
 /// Whether the text begins with a digit.
@@ -117,9 +118,9 @@ fn split_word<'a>(rank: u8, text: &'a [u8], words: &[&str]) -> Option<Word<'a>>
 fn split_pre_word(text: &[u8]) -> Option<Word<'_>>
     ensures { word_seen result ≡ pre_word text.now }
 {
-    split_word(1, text, &["alpha", "a"])
-        .or_else(|| split_word(2, text, &["beta", "b"]))
-        .or_else(|| split_word(3, text, &["preview", "pre", "rc", "c"]))
+    split_word(ALPHA_RANK, text, &["alpha", "a"])
+        .or_else(|| split_word(BETA_RANK, text, &["beta", "b"]))
+        .or_else(|| split_word(CANDIDATE_RANK, text, &["preview", "pre", "rc", "c"]))
 }
 
 /// A part of a version: the rank of its word, the digits of its number, none where it is absent, and what comes after it.
@@ -163,7 +164,7 @@ fn split_bare_post(text: &[u8]) -> Option<Part<'_>>
         [b'-', digits @ ..] if begins_with_digit(digits) => {
             let (number, rest) = split_digits(digits);
             Some(Part {
-                rank: 0,
+                rank: ONLY_RANK,
                 number,
                 rest,
             })
@@ -178,7 +179,7 @@ fn split_post(text: &[u8]) -> Option<Part<'_>>
 {
     match split_bare_post(text) {
         Some(part) => Some(part),
-        None => with_number(split_word(0, skip_separator(text), &["post", "rev", "r"])),
+        None => with_number(split_word(ONLY_RANK, skip_separator(text), &["post", "rev", "r"])),
     }
 }
 
@@ -186,7 +187,7 @@ fn split_post(text: &[u8]) -> Option<Part<'_>>
 fn split_dev(text: &[u8]) -> Option<Part<'_>>
     ensures { part_seen result ≡ dev_of text.now }
 {
-    with_number(split_word(0, skip_separator(text), &["dev"]))
+    with_number(split_word(ONLY_RANK, skip_separator(text), &["dev"]))
 }
 
 /// What comes after the part, if the text begins with one.

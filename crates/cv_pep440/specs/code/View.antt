@@ -1,6 +1,6 @@
 -- Words for the clauses of private functions: the parts that the code cuts a text into, as those of the definitions.
 use Rattle.std.specs.Prelude.{Option, option_map}
-use Rattle.cv_pep440.specs.Order.{Key, Ranked, tail_key}
+use Rattle.cv_pep440.specs.Key.{Key, Ranked, tail_key}
 use Rattle.cv_pep440.specs.Parts.{Part, Tail, Word, release_of}
 use Rattle.cv_pep440.specs.declared.order.Ranked as ranked
 use Rattle.cv_pep440.specs.declared.parts.Part as part

@@ -3,7 +3,7 @@ use Rattle.std.specs.Prelude.{ℕ, ◌+◌, ◌==◌, ◌&&◌, not, if◌then�
 use Rattle.std.specs.declared.cmp.Ordering.{Ordering}
 use Rattle.cv_order.specs.Digits.{front_while, after_while, number_cmp}
 use Rattle.cv_order.specs.Filled.{filled_cmp}
-use Rattle.cv_pep440.specs.Grammar.{DOT, is_separator}
+use Rattle.cv_pep440.specs.Bytes.{DOT, is_separator}
 use Rattle.cv_pep440.specs.Parts.{begins_with_digit, release_of, runs}
 
 -- the next number of a release, after a dot; nothing, where no digit follows

@@ -1,7 +1,7 @@
 use Rattle.std.proofs.Common.{◌≡◌}
 use Rattle.std.specs.List.{list_all}
 use Rattle.std.specs.Option.{option_copied}
-use Rattle.cv_pep440.specs.Grammar.{is_run}
+use Rattle.cv_pep440.specs.Bytes.{is_run}
 use Rattle.cv_pep440.specs.Parts.{runs}
 use Rattle.cv_pep440.specs.code.Walk.{remaining_len, runs_after}
 use Rattle.cv_pep440.proofs.grammar.are_runs.Given as goal
