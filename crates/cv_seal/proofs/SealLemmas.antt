@@ -12,5 +12,5 @@ after [] e = append-nil (bytes_of e)
 after (x ∷ xs) e = ap (λ t. bytes_of x ++ t) (after xs e) ∙ sym (append_assoc (bytes_of x) (flat_map bytes_of xs) (bytes_of e))
 
 -- one more entry adds its own bytes at the end
-pub summed_bytes-more : (es : List SealedEntry) (e : SealedEntry) → summed_bytes (es ++ e ∷ []) ≡ summed_bytes es ++ entry_bytes e.entry e.content
-summed_bytes-more es e = ap (λ t. opening ++ t) (after es e) ∙ sym (append_assoc opening (flat_map bytes_of es) (bytes_of e))
+pub summed_more : (es : List SealedEntry) (e : SealedEntry) → summed_bytes (es ++ e ∷ []) ≡ summed_bytes es ++ entry_bytes e.entry e.content
+summed_more es e = ap (λ t. opening ++ t) (after es e) ∙ sym (append_assoc opening (flat_map bytes_of es) (bytes_of e))

@@ -1,2 +1,3 @@
 pub mod Seal
 pub mod Taken
+pub mod code

@@ -4,7 +4,7 @@
 -- `seal_of entries` takes all entries in the order of their paths, whiteouts and reserved ones included, each with the bytes of its
 -- file. Of a file's bytes only those at seven places of package files are summed, by the path alone, and up to the limit of package
 -- files. Numbers have their most significant byte first.
-use Rattle.std.specs.Prelude.{ℕ, Bool, true, false, ◌&&◌, nat_le, if◌then◌else◌, List, [], ◌∷◌, ◌++◌, length, codes, Option, Some}
+use Rattle.std.specs.Prelude.{ℕ, Bool, true, false, ◌&&◌, nat_le, if◌then◌else◌, List, [], ◌∷◌, ◌++◌, length, codes, Option, Some, unwrap_or}
 use Rattle.std.specs.Int.{w32, w64, to_be_bytes}
 use Rattle.std.specs.List.{flat_map}
 use Rattle.sha2.specs.Sha256.{sha256}
@@ -21,6 +21,10 @@ use Rattle.cv_path.specs.declared.places.Place.TheVariants as place
 pub record SealedEntry : Type 0 where
   pub entry : ListEntry
   pub content : List ℕ
+
+-- the entry with the bytes that are given of its file, if any are
+abbrev pub sealed_entry : ListEntry → Option (List ℕ) → SealedEntry
+sealed_entry entry content = record { entry = entry; content = unwrap_or content [] }
 
 -- the line in front of the entries, with the version of this rule
 abbrev pub opening : List ℕ

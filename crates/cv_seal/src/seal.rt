@@ -1,8 +1,8 @@
 ghost use Rattle.std.specs.Prelude.{◌≡◌, ◌++◌, ◌∷◌, [], List, ℕ, is_some, length, unwrap_or};
 ghost use Rattle.std.specs.Option.{ForSome, option_map};
-ghost use Rattle.sha2.specs.Sha256.{sha256};
-ghost use Rattle.cv_seal.specs.Seal.{SealedEntry, entry_bytes, is_summed, letter, opening, seal_of, summed_bytes};
+ghost use Rattle.cv_seal.specs.Seal.{SealedEntry, entry_bytes, is_summed, letter, seal_of, sealed_entry};
 ghost use Rattle.cv_seal.specs.Taken.{HasTaken};
+ghost use Rattle.cv_seal.specs.code.Summed.{HasSummed};
 
 use cv_base::{Digest, Kind, ListEntry};
 use sha2::{Digest as Hasher, Sha256};
@@ -15,9 +15,9 @@ pub struct Seal {
 
 impl Seal {
     /// The seal of no entries.
-    #[tactic(auto, unfolding(crate::specs::Taken::HasTaken))]
+    #[tactic(auto, unfolding(crate::specs::Taken::HasTaken, crate::specs::code::Summed::HasSummed))]
     pub fn new() -> Seal
-        ensures { HasTaken result opening }
+        ensures { HasTaken result [] }
     {
         let mut hasher = Sha256::new();
         hasher.update(b"cvwatch seal 1\n");
@@ -29,7 +29,17 @@ impl Seal {
     pub fn entry(&mut self, entry: &ListEntry, content: Option<&[u8]>)
         requires given { is_some content ≡ is_summed entry.now }
         requires whole { ForSome content (λ bytes. length bytes.now ≡ entry.now.size) }
-        ensures { (bytes : List ℕ) → HasTaken self.old bytes → HasTaken self.new (bytes ++ entry_bytes entry.now (unwrap_or (option_map (λ text. text.now) content.entry) [])) }
+        ensures { (taken : List SealedEntry) → HasTaken self.old taken → HasTaken self.new (taken ++ sealed_entry entry.now (option_map (λ bytes. bytes.now) content.entry) ∷ []) }
+    {
+        self.sum(entry, content);
+    }
+
+    /// Sums the bytes of an entry.
+    #[tactic(auto, unfolding(crate::specs::code::Summed::HasSummed))]
+    fn sum(&mut self, entry: &ListEntry, content: Option<&[u8]>)
+        requires given { is_some content ≡ is_summed entry.now }
+        requires whole { ForSome content (λ bytes. length bytes.now ≡ entry.now.size) }
+        ensures { (bytes : List ℕ) → HasSummed self.old bytes → HasSummed self.new (bytes ++ entry_bytes entry.now (unwrap_or (option_map (λ bytes. bytes.now) content.entry) [])) }
     {
         let path = entry.path.text();
         self.hasher.update([letter(entry.kind)]);
@@ -44,10 +54,9 @@ impl Seal {
     }
 
     /// The seal of the entries that were taken in.
-    #[tactic(auto, unfolding(crate::specs::Taken::HasTaken))]
+    #[tactic(auto, unfolding(crate::specs::Taken::HasTaken, crate::specs::code::Summed::HasSummed))]
     pub fn finish(self) -> Digest
-        ensures sum { (bytes : List ℕ) → HasTaken self bytes → result ≡ sha256 bytes }
-        ensures seal { (entries : List SealedEntry) → HasTaken self (summed_bytes entries) → result ≡ seal_of entries }
+        ensures { (taken : List SealedEntry) → HasTaken self taken → result ≡ seal_of taken }
     {
         Digest::of(self.hasher.finalize())
     }
