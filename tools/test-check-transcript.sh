@@ -16,7 +16,8 @@ folder() { printf 'layers/sha256/%s' "$(printf "$1%.0s" $(seq 64))"; }
 put() { mkdir -p "$(dirname "$(folder "$1")/$2")" && cat >"$(folder "$1")/$2"; }
 
 # the layers a and c with a package of dpkg, b with a whiteout of it, d with packages of npm, e with an opaque mark, f with a status
-# file that is refused, and 0 with a bad mark. The folder of 3 is a file, and 4 has a name that is not UTF-8
+# file that is refused, 0 with a bad mark, 5 and 6 with a Python package, 7 with a whiteout of it, and 8 with metadata that names none
+# and files that are no metadata. The folder of 3 is a file, and 4 has a name that is not UTF-8
 printf 'ID=debian\nVERSION_ID="12"\n' | put a usr/lib/os-release
 mkdir -p "$(folder a)/etc" && ln -s ../usr/lib/os-release "$(folder a)/etc/os-release"
 printf 'Package: libssl3\nStatus: install ok installed\nArchitecture: amd64\nSource: openssl (3.0.9-1)\nVersion: 3.0.9-1+b1\n' | put a var/lib/dpkg/status
@@ -28,6 +29,21 @@ printf '{"name":"y","version":"1.0.0"}' | put d srv/node_modules/y/package.json
 put e app/node_modules/.wh..wh..opq </dev/null
 printf 'Package: a\nStatus: install ok installed\nnocolon\n' | put f var/lib/dpkg/status
 put 0 app/.wh. </dev/null
+printf 'Name: Foo.Bar\nVersion: 1.0\n\ntext\n' | put 5 opt/Foo_Bar-1.0.dist-info/METADATA
+printf 'Metadata-Version: 2.1\r\nNAME:\tFoo.-_Bar \r\n Name: more\r\nversion: 1.0.0\r\nVersion: 2\r\n\r\nVersion: 3\r\n' | put 6 usr/foo.egg-info/PKG-INFO
+put 7 opt/.wh.Foo_Bar-1.0.dist-info </dev/null
+metadata=(
+    '' 'Name: foo-bar\n' 'Version: 1.0\n' '\nName: foo-bar\nVersion: 1.0\n' 'Name:\nName: foo-bar\nVersion: 1.0\n' 'Name: foo-bar\nVersion: 1 0\n'
+    '\xef\xbb\xbfName: foo-bar\nVersion: 1.0\n' ' Name: foo-bar\nVersion: 1.0\n' 'Name : foo-bar\nVersion: 1.0\n' 'Name: foo-bar\r\r\nVersion: 1.0\n'
+)
+for index in "${!metadata[@]}"; do
+    printf '%b' "${metadata[index]}" | put 8 "opt/none-$index.dist-info/METADATA"
+done
+for path in METADATA opt/METADATA opt/.dist-info/METADATA opt/.egg-info/PKG-INFO opt/x.egg-info/METADATA opt/x.dist-info/PKG-INFO opt/x.dist-info/y/METADATA; do
+    printf 'Name: foo-bar\nVersion: 1.0\n' | put 8 "$path"
+done
+mkdir -p "$(folder 8)/opt/dir.dist-info/METADATA" "$(folder 8)/opt/link.dist-info"
+ln -s ../../METADATA "$(folder 8)/opt/link.dist-info/METADATA"
 : >"$(folder 3)"
 put 4 "$(printf 'caf\xe9')" </dev/null
 
@@ -39,9 +55,13 @@ update() { printf '{"do":"update","lane":%s,"feed":"%s","advisories":[%s]}\n' "$
 x() { printf '{"id":"%s","modified":"2024-01-0%sT00:00:00Z","affected":[{"package":{"ecosystem":"Debian:12","name":"openssl"},"ranges":[{"type":"ECOSYSTEM","events":[{"introduced":"0"},{"fixed":"%s"}]}]}]}' "$@"; }
 npm() { printf '{"id":"%s","modified":"2024-01-01T00:00:00Z","affected":[{"package":{"ecosystem":"npm","name":"%s"},"ranges":[{"type":"SEMVER","events":[{"introduced":"0"}]}]}]}' "$@"; }
 
-# members of lines: the findings of openssl by the record $1 of the feed deb, fixed in $2, and of a package of npm
+# a record on the Python package $2 of the range type $3, with versions from $4 below $5
+pypi() { printf '{"id":"%s","modified":"2024-01-01T00:00:00Z","affected":[{"package":{"ecosystem":"PyPI","name":"%s"},"ranges":[{"type":"%s","events":[{"introduced":"%s"},{"fixed":"%s"}]}]}]}' "$@"; }
+
+# members of lines: the findings of openssl by the record $1 of the feed deb, fixed in $2, of a package of npm, and of a Python package
 finding() { printf '{"advisory":"%s","arch":"amd64","ecosystem":"Debian:12","feed":"deb","fixed":"%s","kind":"deb","name":"libssl3","path":"var/lib/dpkg/status","source":"openssl","source_version":"3.0.9-1","version":"3.0.9-1+b1"}' "$@"; }
-found_npm() { printf '{"advisory":"%s","arch":"","ecosystem":"npm","feed":"npm","fixed":null,"kind":"npm","name":"%s","path":"%s/node_modules/%s/package.json","source":"%s","source_version":"1.0.0","version":"1.0.0"}' "$1" "$2" "$3" "$2" "$2"; }
+found_npm() { printf '{"advisory":"%s","arch":"","ecosystem":"npm","feed":"osv","fixed":null,"kind":"npm","name":"%s","path":"%s/node_modules/%s/package.json","source":"%s","source_version":"1.0.0","version":"1.0.0"}' "$1" "$2" "$3" "$2" "$2"; }
+found_pypi() { printf '{"advisory":"%s","arch":"","ecosystem":"PyPI","feed":"osv","fixed":"%s","kind":"pypi","name":"%s","path":"%s","source":"foo-bar","source_version":"%s","version":"%s"}' "$1" "$2" "$3" "$4" "$5" "$5"; }
 row() { printf '{"finding":%s,"image":"%s","reason":"%s"}' "$1" "$2" "$3"; }
 
 # the status and the answer of check-transcript, for the transcript in the file $1 of $2 workers
@@ -404,14 +424,16 @@ $registered
 {"at":3,"event":"fault","layer":"<a>","reply":"requeued","worker":0}
 EOT
 
-# what a scan finds: layers, findings of npm (or -), and why the image is bad
+# what a scan finds: layers, findings (or -), and why the image is bad. The records are on packages of npm and of Python, and of the
+# latter P-2 has a name that is not normalized, P-3 the type of another kind, and P-4 a text that is not a version
 scans() {
     local findings=$3 bad=${4:-} at layer layers
     read -ra layers <<<"$2"
-    { register 0 '<1>' "${layers[@]}"; echo; update 0 npm "$(npm N-1 x)" "$(npm N-2 y)"; echo; report_of 0 '<1>'; } >requests
+    { register 0 '<1>' "${layers[@]}"; echo; update 0 osv "$(npm N-1 x)" "$(npm N-2 y)" "$(pypi P-1 foo-bar ECOSYSTEM 0 1.0.post1)" \
+        "$(pypi P-2 Foo.Bar ECOSYSTEM 0 2)" "$(pypi P-3 foo-bar SEMVER 0 2.0.0)" "$(pypi P-4 foo-bar ECOSYSTEM 0.9- 2)"; echo; report_of 0 '<1>'; } >requests
     {
         echo "$registered"
-        echo '{"at":2,"event":"update","feed":"npm","generation":1,"lane":0,"line":3,"reply":"updated","rows":0}'
+        echo '{"at":2,"event":"update","feed":"osv","generation":1,"lane":0,"line":3,"reply":"updated","rows":0}'
         at=2
         for layer in $(printf '%s\n' "${layers[@]}" | sort -u); do
             printf '{"at":%s,"event":"claim","layer":"%s","reply":"claimed","worker":0}\n' $((at + 1)) "$layer"
@@ -430,10 +452,37 @@ scans 'two packages of npm' '<d>' "$(found_npm N-1 x app),$(found_npm N-2 y srv)
 scans 'an opaque mark' '<d> <e>' "$(found_npm N-2 y srv)"
 scans 'an opaque mark below' '<e> <d>' "$(found_npm N-1 x app),$(found_npm N-2 y srv)"
 scans 'a layer twice' '<d> <e> <d>' "$(found_npm N-1 x app),$(found_npm N-2 y srv)"
+python_one=$(found_pypi P-1 1.0.post1 Foo.Bar opt/Foo_Bar-1.0.dist-info/METADATA 1.0)
+python_two=$(found_pypi P-1 1.0.post1 Foo.-_Bar usr/foo.egg-info/PKG-INFO 1.0.0)
+scans 'a Python package' '<5>' "$python_one"
+scans 'two Python packages, after one of npm' '<6> <5> <d>' "$(found_npm N-1 x app),$(found_npm N-2 y srv),$python_one,$python_two"
+scans 'a whiteout of a Python package' '<5> <6> <7>' "$python_two"
+scans 'metadata that names no package, and files that are no metadata' '<8>' ''
 scans 'a status file that is refused' '<d> <f>' - '{"cause":"bad_file","line":3,"path":"var/lib/dpkg/status","what":"no_colon"}'
 scans 'a whiteout of a status file that is refused' '<f> <b>' ''
 scans 'a bad mark' '<f> <0>' - '{"cause":"bad_tree","entry":1,"layer":1,"what":"bad_mark"}'
 scans 'a layer that is not there' '<0> <9>' - '{"cause":"no_layer","layer":1}'
+
+# prints the places on standard input where a version of Python packages is not after the one before it, or with `equal` not the same
+misplaced() {
+    python3 - "$tools/check-transcript" "${1:-}" "$(cat)" <<'EOT'
+import importlib.machinery, importlib.util, sys
+
+loader = importlib.machinery.SourceFileLoader("check", sys.argv[1])
+check = importlib.util.module_from_spec(importlib.util.spec_from_loader("check", loader))
+sys.dont_write_bytecode = True
+loader.exec_module(check)
+keys = [check.pypi_key(version) for version in sys.argv[3].split()]
+for place, (one, other) in enumerate(zip(keys, keys[1:])):
+    if one is None or other is None or one != other if sys.argv[2] else not one < other:
+        print(place, end=" ")
+EOT
+}
+# the example of PEP 440, "Summary of permitted suffixes and relative ordering"
+same 'versions of Python packages' "$(misplaced <<<'1.dev0 1.0.dev456 1.0a1 1.0a2.dev456 1.0a12.dev456 1.0a12 1.0b1.dev456 1.0b2 1.0b2.post345.dev456 1.0b2.post345 1.0rc1.dev456 1.0rc1
+    1.0 1.0+abc.5 1.0+abc.7 1.0+5 1.0.post456.dev34 1.0.post456 1.0.15 1.1.dev1 1!0.1')" ''
+same 'equal versions' "$(misplaced equal <<<'1.0 1.0.0 1 v1 0!01.00 1.0.0.0')$(misplaced equal <<<'1.0C1 1.0rc1 1rc1 1.pre-1 1_preview1')$(misplaced equal <<<'1-1 1.post1 1.Rev.1 1r1')" ''
+same 'texts that are not versions' "$(misplaced equal <<<'1.0a. 1.0a..dev1 1.0-custom 1..0 a 1.0+ 1.0+a..b 1.0-')" '0 1 2 3 4 5 6 '
 
 # the limits of a round and of the machine
 lists() { seq "$1" | sed 's/.*/{"do":"list","lane":1}/'; }
