@@ -24,7 +24,7 @@ same 'a folder' "$(ids folder)" 'A B C'
 has 'a folder' "$(cat said)" '3 records, of 3 that were read'
 has 'the ecosystems' "$(cat said)" 'Debian: 2, which cvwatch reads'
 has 'the ecosystems' "$(cat said)" 'npm: 1, which cvwatch reads'
-has 'the ecosystems' "$(cat said)" 'PyPI: 1, whose packages cvwatch does not read'
+has 'the ecosystems' "$(cat said)" 'PyPI: 1, which cvwatch reads'
 
 (cd folder && zip -qr ../feed.zip .)
 same 'a zip file' "$(ids feed.zip)" 'A B C'
@@ -46,6 +46,10 @@ same 'a zip file with such a name' "$(ids -- -z.zip)" 'A B C'
 same 'an ecosystem' "$(ids --ecosystem npm folder)" A
 same 'a release' "$(ids --ecosystem Debian:12 folder)" B
 same 'all releases' "$(ids --ecosystem Debian folder)" 'B C'
+same 'packages of Python' "$(ids --ecosystem PyPI folder)" C
+record F Go >f.json
+same 'packages that cvwatch does not read' "$(ids f.json)" F
+has 'packages that cvwatch does not read' "$(cat said)" 'Go: 1, whose packages cvwatch does not read'
 same 'two ecosystems' "$(ids --ecosystem=npm --ecosystem Debian:11 folder)" 'A C'
 record D Debian >d.json
 same 'a record without the release' "$(ids --ecosystem Debian:12 folder d.json)" 'B D'

@@ -318,4 +318,13 @@ END
 else
     echo "chromium is not installed: the page is not looked at" >&2
 fi
+
+# a finding of a Python package has the name of its metadata, and the record has the normalized one
+jq -cn --arg vector $vector 'def entry($ecosystem; $word): {package: {ecosystem: $ecosystem, name: "foo-bar"}, ecosystem_specific: {severity: $word}};
+    {id: "X-PY", affected: [entry("npm"; "low"), entry("PyPI"; "high")]},
+    {id: "X-PY-SCORE", affected: [entry("PyPI"; "low") + {severity: [{type: "CVSS_V3", score: $vector}]}]}' >feed.jsonl
+answer $digest 'X-PY Foo.Bar 1.1' 'X-PY-SCORE Foo.Bar 1.1' | jq -c '.findings[] += {kind: "pypi", ecosystem: "PyPI", source: "foo-bar", arch: "",
+    path: "opt/Foo_Bar-1.0.dist-info/METADATA"}' >answers
+same 'Python packages' "$(table --format csv answers | python3 -c 'import csv, sys
+for row in csv.DictReader(sys.stdin): print(row["advisory"], row["package"], row["severity"], row["score"])')" $'X-PY-SCORE Foo.Bar critical 9.8\nX-PY Foo.Bar high '
 report

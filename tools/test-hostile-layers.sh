@@ -178,6 +178,20 @@ END
 same 'a package file below a name that is not UTF-8' "$status" 1
 has 'a package file below a name that is not UTF-8' "$said" 'a package file would be lost'
 
+for path in x.dist-info/METADATA x.egg-info/PKG-INFO; do
+    unpack <<END
+file a\\xffb/$path text
+END
+    same "a package file below a name that is not UTF-8: $path" "$status" 1
+    has "a package file below a name that is not UTF-8: $path" "$said" 'a package file would be lost'
+done
+for path in METADATA .dist-info/METADATA x.egg-info/METADATA x.dist-info/PKG-INFO; do
+    unpack <<END
+file a\\xffb/$path text
+END
+    same "a file that is no package file below such a name: $path" "$status $made" '0 '
+done
+
 unpack <<END
 link a\\xffb usr/lib
 file a\\xffb/os-release ID=debian
