@@ -5,7 +5,7 @@ use Rattle.clap.proofs.OnLiterals.{clap_on_literals}
 use Rattle.cv_command_arguments.specs.Forms.{comparison_of, drill_app, name_of, order_app, packages_named, scan_app, seed_of, serve_app, takes_scan, workers_of}
 use Rattle.cv_command_arguments.specs.Simple.{rows_by}
 use Rattle.cv_command_arguments.specs.Values.{is_option, values_of}
-use Rattle.cv_command_arguments.specs.declared.order.Packages.TheVariants.{Deb, Apk, Semver}
+use Rattle.cv_command_arguments.specs.declared.order.Packages.TheVariants.{Deb, Apk, Semver, Pypi}
 
 -- a scan has no arguments
 scans : (takes_scan [] ≡ true) × (takes_scan (codes "--" ∷ []) ≡ true) × (takes_scan (codes "walk" ∷ []) ≡ false) × (takes_scan (codes "--help" ∷ []) ≡ false)
@@ -34,20 +34,22 @@ drills = (refl, refl, refl, refl, refl, refl)
 orders : (comparison_of (codes "deb" ∷ codes "1" ∷ codes "2~a" ∷ []) ≡ Some (record { packages = Deb; first = codes "1"; second = codes "2~a" }))
     × (comparison_of (codes "apk" ∷ codes "--" ∷ codes "-1" ∷ codes "-" ∷ []) ≡ Some (record { packages = Apk; first = codes "-1"; second = codes "-" }))
     × (comparison_of (codes "--" ∷ codes "semver" ∷ [] ∷ codes "2" ∷ []) ≡ Some (record { packages = Semver; first = []; second = codes "2" }))
+    × (comparison_of (codes "pypi" ∷ codes "1.0a1" ∷ codes "1!0" ∷ []) ≡ Some (record { packages = Pypi; first = codes "1.0a1"; second = codes "1!0" }))
     × (comparison_of (codes "deb" ∷ codes "1" ∷ []) ≡ None) × (comparison_of (codes "deb" ∷ codes "1" ∷ codes "2" ∷ codes "3" ∷ []) ≡ None)
 unfolding order_app rows_by clap_on_literals
-orders = (refl, refl, refl, refl, refl)
+orders = (refl, refl, refl, refl, refl, refl)
 
--- the packages have one of the three names
+-- the packages have one of the four names
 no_orders : (comparison_of (codes "rpm" ∷ codes "1" ∷ codes "2" ∷ []) ≡ None) × (comparison_of ([] ∷ codes "1" ∷ codes "2" ∷ []) ≡ None)
     × (comparison_of (codes "Deb" ∷ codes "1" ∷ codes "2" ∷ []) ≡ None) × (comparison_of (codes "debian" ∷ codes "1" ∷ codes "2" ∷ []) ≡ None)
-    × (comparison_of (codes "deb" ∷ codes "-1" ∷ codes "2" ∷ []) ≡ None)
+    × (comparison_of (codes "deb" ∷ codes "-1" ∷ codes "2" ∷ []) ≡ None) × (comparison_of (codes "python" ∷ codes "1" ∷ codes "2" ∷ []) ≡ None)
 unfolding order_app rows_by clap_on_literals
-no_orders = (refl, refl, refl, refl, refl)
+no_orders = (refl, refl, refl, refl, refl, refl)
 
 -- each name is that of its packages
 names : (packages_named (name_of Deb) ≡ Some Deb) × (packages_named (name_of Apk) ≡ Some Apk) × (packages_named (name_of Semver) ≡ Some Semver)
-names = (refl, refl, refl)
+    × (packages_named (name_of Pypi) ≡ Some Pypi)
+names = (refl, refl, refl, refl)
 
 -- an option begins with a hyphen, and has more than that
 options : (is_option (codes "-") ≡ false) × (is_option (codes "--") ≡ false) × (is_option [] ≡ false) × (is_option (codes "1-") ≡ false)

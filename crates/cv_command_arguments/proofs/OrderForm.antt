@@ -12,7 +12,7 @@ use Rattle.std.proofs.lemmas.Cmp.{nat_list_eq_equiv}
 use Rattle.clap.proofs.WalkLemmas.{list_any-map}
 use Rattle.cv_command_arguments.specs.Forms.{Names, comparison, comparison_in, comparison_of, names_of, order_app, order_rows, package_names, packages_named}
 use Rattle.cv_command_arguments.specs.declared.order.Packages.{Packages}
-use Rattle.cv_command_arguments.specs.declared.order.Packages.TheVariants.{Deb, Apk, Semver}
+use Rattle.cv_command_arguments.specs.declared.order.Packages.TheVariants.{Deb, Apk, Semver, Pypi}
 use Rattle.cv_command_arguments.specs.Simple.{rows_by}
 use Rattle.cv_command_arguments.specs.Versions.{comparison_by}
 use Rattle.cv_command_arguments.specs.declared.order.Versions.{Versions}
@@ -21,19 +21,22 @@ use Rattle.cv_command_arguments.proofs.Options.{and_then_same, and_then_twice, i
 use Rattle.cv_command_arguments.proofs.WalkLemmas.{nothing}
 use Rattle.cv_command_arguments.proofs.OrderWalk.{after_two, of_values, rows_of_values}
 
-any_of_three : (d a s : Bool) → (d || (a || (s || false))) ≡ is_some (cond d (Some Deb) (cond a (Some Apk) (cond s (Some Semver) None)))
-any_of_three true a s = refl
-any_of_three false true s = refl
-any_of_three false false true = refl
-any_of_three false false false = refl
+any_of_four : (d a s p : Bool)
+    → (d || (a || (s || (p || false)))) ≡ is_some (cond d (Some Deb) (cond a (Some Apk) (cond s (Some Semver) (cond p (Some Pypi) None))))
+any_of_four true a s p = refl
+any_of_four false true s p = refl
+any_of_four false false true p = refl
+any_of_four false false false true = refl
+any_of_four false false false false = refl
 
 -- clap accepts a text for the first argument if it names packages
 pub accepted : (names : Names) (text : Text) → map (λ name. name.now) names.now ≡ package_names → accepts false (parser.Names names) text ≡ is_some (packages_named text)
 accepted names text same =
     list_any-map (λ name. bytes_eq name text) (λ (name : Bor Text). name.now) names.now
     ∙ ap (list_any (λ name. bytes_eq name text)) same
-    ∙ (λ i. nat_list_eq_equiv.symm (codes "deb") text i || (nat_list_eq_equiv.symm (codes "apk") text i || (nat_list_eq_equiv.symm (codes "semver") text i || false)))
-    ∙ any_of_three (bytes_eq text (codes "deb")) (bytes_eq text (codes "apk")) (bytes_eq text (codes "semver"))
+    ∙ (λ i. nat_list_eq_equiv.symm (codes "deb") text i || (nat_list_eq_equiv.symm (codes "apk") text i
+    || (nat_list_eq_equiv.symm (codes "semver") text i || (nat_list_eq_equiv.symm (codes "pypi") text i || false))))
+    ∙ any_of_four (bytes_eq text (codes "deb")) (bytes_eq text (codes "apk")) (bytes_eq text (codes "semver")) (bytes_eq text (codes "pypi"))
 
 same_values : (names : Names) → map (λ name. name.now) names.now ≡ package_names → (values : List Text) → of_values names values ≡ of_values (names_of package_names) values
 same_values names same [] = refl

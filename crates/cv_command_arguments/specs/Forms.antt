@@ -8,7 +8,7 @@ use Rattle.clap.specs.Walk.{Row, Rule, Text, first_of, one_of}
 use Rattle.clap.specs.declared.builder.value_parser.ValueParser.TheVariants as parser
 use Rattle.cv_command_arguments.specs.Simple.{app_named, number_in, rows_by}
 use Rattle.cv_command_arguments.specs.declared.order.Packages.{Packages}
-use Rattle.cv_command_arguments.specs.declared.order.Packages.TheVariants.{Deb, Apk, Semver}
+use Rattle.cv_command_arguments.specs.declared.order.Packages.TheVariants.{Deb, Apk, Semver, Pypi}
 
 -- `scan` has no arguments
 unfoldable pub scan_app : App
@@ -43,10 +43,11 @@ abbrev pub name_of : Packages → Text
 name_of Deb = codes "deb"
 name_of Apk = codes "apk"
 name_of Semver = codes "semver"
+name_of Pypi = codes "pypi"
 
 -- the names that the first argument of `order` may be
 abbrev pub package_names : List Text
-package_names = map name_of (Deb ∷ Apk ∷ Semver ∷ [])
+package_names = map name_of (Deb ∷ Apk ∷ Semver ∷ Pypi ∷ [])
 
 -- a list of texts in memory, as clap sees it
 abbrev pub Names : Type 0
@@ -79,7 +80,8 @@ abbrev pub packages_named : Text → Option Packages
 packages_named name =
     if bytes_eq name (codes "deb") then Some Deb
     else (if bytes_eq name (codes "apk") then Some Apk
-    else (if bytes_eq name (codes "semver") then Some Semver else None))
+    else (if bytes_eq name (codes "semver") then Some Semver
+    else (if bytes_eq name (codes "pypi") then Some Pypi else None)))
 
 -- packages and two texts, if there are all three
 abbrev pub comparison : Option Packages → Option Text → Option Text → Option Comparison

@@ -17,6 +17,8 @@ pub enum Packages {
     Apk,
     /// Those of npm, which have semantic versions.
     Semver,
+    /// Those of Python.
+    Pypi,
 }
 
 /// Two versions that are compared.
@@ -27,7 +29,7 @@ pub struct Versions<'a> {
     pub second: &'a str,
 }
 
-/// The versions that `order` compares, if the arguments are taken: their first one is `deb`, `apk` or `semver`.
+/// The versions that `order` compares, if the arguments are taken: their first one is `deb`, `apk`, `semver` or `pypi`.
 #[tactic(auto, using(crate::proofs::OrderForm::versions_given))]
 pub fn versions_of<'a>(
     alloc: Global,
@@ -98,11 +100,12 @@ fn packages_named(name: &str) -> Option<Packages>
         "deb" => Some(Packages::Deb),
         "apk" => Some(Packages::Apk),
         "semver" => Some(Packages::Semver),
+        "pypi" => Some(Packages::Pypi),
         _ => None,
     }
 }
 
-static NAMES: [&str; 3] = ["deb", "apk", "semver"];
+static NAMES: [&str; 4] = ["deb", "apk", "semver", "pypi"];
 
 /// The names of the packages.
 fn package_names<'a>() -> &'a [&'a str]
