@@ -2,7 +2,7 @@
 use Rattle.std.proofs.Common.{◌≡◌, true, false, List, [], ◌∷◌, refl, codes}
 use Rattle.std.specs.declared.cmp.Ordering.TheVariants.{Less, Equal}
 use Rattle.semver.proofs.OnLiterals.{semver_on_literals}
-use Rattle.cv_base.specs.declared.«package».PackageKind.TheVariants.{Deb, Apk, Npm}
+use Rattle.cv_base.specs.declared.«package».PackageKind.TheVariants.{Deb, Apk, Npm, Pypi}
 use Rattle.cv_base.specs.declared.advisory.Range.{Range}
 use Rattle.cv_base.specs.declared.advisory.RangeKind.{RangeKind}
 use Rattle.cv_base.specs.declared.advisory.RangeKind.TheVariants.{Ecosystem, Semver, Other}
@@ -46,3 +46,12 @@ alpine : (within Apk (range Ecosystem (Introduced (codes "1.2_rc1") ∷ Fixed (c
     × (within Apk (range Ecosystem (Introduced (codes "0") ∷ [])) (codes "1.2~ab") ≡ false)
 unfolding within
 alpine = (refl, refl)
+
+-- the order of Python packages: a post-release comes after its release, and a local version does so too
+python : (within Pypi (range Ecosystem (Introduced (codes "0") ∷ Fixed (codes "1.0.post1") ∷ [])) (codes "1.0") ≡ true)
+    × (within Pypi (range Ecosystem (Introduced (codes "0") ∷ Fixed (codes "1.0") ∷ [])) (codes "v1.0.0rc1") ≡ true)
+    × (within Pypi (range Ecosystem (Introduced (codes "0") ∷ Fixed (codes "1.0") ∷ [])) (codes "1.0+abc") ≡ false)
+    × (within Pypi (range Ecosystem (Introduced (codes "0") ∷ [])) (codes "1.0-x") ≡ false)
+    × (within Pypi (range Semver (Introduced (codes "0") ∷ [])) (codes "1.0") ≡ false)
+unfolding within
+python = (refl, refl, refl, refl, refl)

@@ -12,11 +12,13 @@ use Rattle.semver.specs.Order.{pre_cmp}
 use Rattle.semver.specs.OrderLaws.{pre_total}
 use Rattle.semver.specs.Parse.{Parts, version_parts}
 use Rattle.cv_base.specs.declared.«package».PackageKind.{PackageKind}
-use Rattle.cv_base.specs.declared.«package».PackageKind.TheVariants.{Deb, Apk, Npm}
+use Rattle.cv_base.specs.declared.«package».PackageKind.TheVariants.{Deb, Apk, Npm, Pypi}
 use Rattle.cv_debver.specs.Grammar as deb_grammar
 use Rattle.cv_debver.specs.Version as deb
 use Rattle.cv_apkver.specs.Parts as apk_grammar
 use Rattle.cv_apkver.specs.Order as apk
+use Rattle.cv_pep440.specs.Parts as pep440_grammar
+use Rattle.cv_pep440.specs.Order as pep440
 
 -- precedence: major, minor and patch as numbers, then the pre-releases (SemVer 2.0.0, section 11)
 abbrev pub precedence : Parts → Parts → Ordering
@@ -35,12 +37,14 @@ abbrev pub is_version_of : PackageKind → List ℕ → Bool
 is_version_of Deb = deb_grammar.is_version
 is_version_of Apk = apk_grammar.is_version
 is_version_of Npm = is_semantic
+is_version_of Pypi = pep440_grammar.is_version
 
 -- how two versions of this kind of package compare
 abbrev pub version_cmp_of : PackageKind → List ℕ → List ℕ → Ordering
 version_cmp_of Deb = deb.version_cmp
 version_cmp_of Apk = apk.version_cmp
 version_cmp_of Npm = semantic_cmp
+version_cmp_of Pypi = pep440.version_cmp
 
 -- precedence is a total order (SemVer 2.0.0, section 11)
 pub precedence_total : IsTotalOrder precedence
@@ -56,6 +60,7 @@ pub version_total_of : (kind : PackageKind) → IsTotalOrder (version_cmp_of kin
 version_total_of Deb = deb.version_total
 version_total_of Apk = apk.version_total
 version_total_of Npm = semantic_total
+version_total_of Pypi = pep440.version_total
 
 -- the text as a version of this kind, where it is one
 abbrev pub version_in : PackageKind → List ℕ → Option (List ℕ)

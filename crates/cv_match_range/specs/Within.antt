@@ -10,7 +10,7 @@ use Rattle.std.specs.Cmp.{IsTotalOrder, on_total, then_total, nat_cmp_total}
 use Rattle.std.specs.Cmp.Lexicographic.{options_total}
 use Rattle.cv_base.specs.Texts.{same}
 use Rattle.cv_base.specs.declared.«package».PackageKind.{PackageKind}
-use Rattle.cv_base.specs.declared.«package».PackageKind.TheVariants.{Deb, Apk, Npm}
+use Rattle.cv_base.specs.declared.«package».PackageKind.TheVariants.{Deb, Apk, Npm, Pypi}
 use Rattle.cv_base.specs.declared.advisory.Range.{Range}
 use Rattle.cv_base.specs.declared.advisory.RangeKind.{RangeKind}
 use Rattle.cv_base.specs.declared.advisory.RangeKind.TheVariants.{Ecosystem, Semver, Other}
@@ -107,6 +107,7 @@ belongs kind Ecosystem = true
 belongs Deb Semver = false
 belongs Apk Semver = false
 belongs Npm Semver = true
+belongs Pypi Semver = false
 belongs kind Other = false
 
 -- introduced `0`, limit `*`, or a version of this kind

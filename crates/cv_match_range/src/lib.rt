@@ -18,5 +18,8 @@ mod within;
 pub use placed::{Bound, Placed};
 pub use reading::prepare_range;
 pub use semantic::{SemanticVersion, semantic_order_laws};
-pub use version::{ApkRule, ApkVersion, DebRule, DebVersion, TextVersion, Version, VersionRule};
+pub use version::{
+    ApkRule, ApkVersion, DebRule, DebVersion, PypiRule, PypiVersion, TextVersion, Version,
+    VersionRule,
+};
 pub use within::{fix_in, range_holds};

@@ -77,6 +77,23 @@ impl VersionRule for ApkRule {
     }
 }
 
+/// Versions in the order of PEP 440.
+pub struct PypiRule;
+
+impl VersionRule for PypiRule {
+    ghost use Rattle.cv_base.specs.declared.«package».PackageKind.TheVariants.{Pypi};
+
+    ghost kind = { Pypi };
+
+    fn is_version(text: &[u8]) -> bool {
+        cv_pep440::is_version(text)
+    }
+
+    fn compare(a: &[u8], b: &[u8]) -> Ordering {
+        cv_pep440::compare(a, b)
+    }
+}
+
 /// A version that is compared as a text, by the rule of its kind of package. It is seen as its text.
 #[derive(Drop)]
 pub struct TextVersion<R: VersionRule> {
@@ -89,6 +106,9 @@ pub type DebVersion = TextVersion<DebRule>;
 
 /// A version of an Alpine package.
 pub type ApkVersion = TextVersion<ApkRule>;
+
+/// A version of a Python package.
+pub type PypiVersion = TextVersion<PypiRule>;
 
 impl<R: VersionRule> Model for TextVersion<R> {
     ghost use Rattle.std.specs.Prelude.{ℕ, List};
