@@ -2,6 +2,7 @@
 use Rattle.std.specs.Prelude.{◌≡◌, ℕ, ◌+◌, List, [], ◌∷◌, Some, None, refl}
 use Rattle.std.specs.Ordering.{nat_cmp}
 use Rattle.cv_tree.specs.Entries.{at, costs_of, first_entry, map_values, remade_entries, rows_of, with_entry, without_key}
+use Rattle.cv_tree.specs.Shapes.{Shape, no_nodes, node_over}
 
 two : List (ℕ × ℕ)
 two = (1, 10) ∷ (3, 30) ∷ []
@@ -29,3 +30,11 @@ made = (refl, refl)
 gathered : (rows_of (λ k v. k ∷ v ∷ []) two ≡ 1 ∷ 10 ∷ 3 ∷ 30 ∷ []) × (costs_of (λ k v. v) two ≡ 40)
 unfolding two
 gathered = (refl, refl)
+
+-- a node without branches has one level, and a node over it has two
+leaf : Shape ℕ ℕ
+leaf = node_over no_nodes (1, 10) no_nodes
+
+higher : (leaf ≡ record { entries = (1, 10) ∷ []; height = 1 }) × (node_over leaf (3, 30) no_nodes ≡ record { entries = two; height = 2 })
+unfolding two leaf
+higher = (refl, refl)

@@ -1,4 +1,5 @@
 pub mod Entries
 pub mod Heights
 pub mod Nodes
+pub mod Shapes
 pub mod code

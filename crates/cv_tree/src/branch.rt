@@ -1,6 +1,7 @@
-ghost use Rattle.std.specs.Prelude.{◌≡◌, [], ◌∷◌, ◌++◌, length, IfOk, MatchOption};
+ghost use Rattle.std.specs.Prelude.{◌≡◌, ◌+◌, ◌∷◌, ◌++◌, max, length, IfOk, MatchOption};
 ghost use Rattle.cv_tree.specs.Heights.{IsHeightOf};
-ghost use Rattle.cv_tree.specs.Nodes.{between};
+ghost use Rattle.cv_tree.specs.Nodes.{IsTop};
+ghost use Rattle.cv_tree.specs.Shapes.{AreWithin, no_nodes};
 
 use crate::share::Share;
 use cv_base::NoMemory;
@@ -8,15 +9,15 @@ use std::alloc::Global;
 use std::marker::Model;
 use std::sync::Arc;
 
-/// A search tree, without a bound on its keys. Contracts see its entries from left to right. Nodes are shared, and
-/// never written once they are made.
+/// A balanced search tree, without a bound on its keys. Contracts see its entries from left to right, and its height. Nodes
+/// are shared, and never written once they are made.
 #[cycle(branch)]
 #[derive(Drop)]
 pub struct Branch<K, V> {
     node: Option<Arc<Fork<K, V>, Global>>,
 }
 
-/// A node: an entry between two branches. `height` is how many nodes the longest way down has, as far as 64 bits count.
+/// A node: an entry between two branches. `height` is how many nodes the longest way down has.
 #[cycle(branch)]
 #[derive(Drop)]
 pub struct Fork<K, V> {
@@ -28,18 +29,19 @@ pub struct Fork<K, V> {
 }
 
 impl<K, V> Model for Branch<K, V> {
-    ghost use Rattle.std.specs.Prelude.{List, length};
+    ghost use Rattle.std.specs.Prelude.{length};
+    ghost use Rattle.cv_tree.specs.Shapes.{Shape};
 
-    ghost Value = { List (K × V) };
+    ghost Value = { Shape K V };
 
-    ghost use Rattle.cv_tree.specs.code.Links.{entries, KnowsHeight};
+    ghost use Rattle.cv_tree.specs.code.Links.{shape_at, IsBalancedAt};
     ghost use Rattle.std.proofs.Common.{arith, length-append};
 
-    ghost view = { λ b. entries b.node };
+    ghost view = { λ b. shape_at b.node };
 
-    ghost invariant = { λ b. KnowsHeight b.node };
+    ghost invariant = { λ b. IsBalancedAt b.node };
 
-    ghost size = { length };
+    ghost size = { λ shape. length shape.entries };
 
     ghost size_decreases = { λ b h. Prim.grind (arith, length-append) };
 }
@@ -47,14 +49,14 @@ impl<K, V> Model for Branch<K, V> {
 impl<K, V> Branch<K, V> {
     /// The branch without entries. It takes no memory.
     pub fn empty() -> Branch<K, V>
-        ensures { result ≡ [] }
+        ensures { result ≡ no_nodes }
     {
         Branch { node: None }
     }
 
     /// The node at the top.
     pub fn fork(&self) -> Option<&Fork<K, V>>
-        ensures { MatchOption result (self.now ≡ []) (λ fork. self.now ≡ between fork.now) }
+        ensures { MatchOption result (self.now ≡ no_nodes) (λ fork. IsTop fork.now self.now) }
     {
         match &self.node {
             None => None,
@@ -62,9 +64,10 @@ impl<K, V> Branch<K, V> {
         }
     }
 
-    /// How many nodes the longest way down has, as far as 64 bits count.
+    /// How many nodes the longest way down has.
     pub fn height(&self) -> u64
-        ensures { IsHeightOf result (length self.now) }
+        ensures value { result ≡ self.now.height }
+        ensures bounds { IsHeightOf self.now.height (length self.now.entries) }
     {
         match &self.node {
             None => 0,
@@ -86,11 +89,13 @@ impl<K, V> Share for Branch<K, V> {
 }
 
 impl<K: Drop, V: Drop> Branch<K, V> {
-    /// A node over two branches.
+    /// A node over two branches. A height past 64 bits is answered as out of memory.
     pub fn of(alloc: Global, left: Self, key: K, value: V, right: Self) -> Result<Self, NoMemory>
-        ensures { IfOk result (λ b. b ≡ left ++ (key, value) ∷ right) }
+        requires balanced { AreWithin 1 left.height right.height }
+        ensures entries { IfOk result (λ b. b.entries ≡ left.entries ++ (key, value) ∷ right.entries) }
+        ensures height { IfOk result (λ b. b.height ≡ max left.height right.height + 1) }
     {
-        let height = left.height().max(right.height()).saturating_add(1);
+        let height = height_over(left.height(), right.height())?;
         let fork = Fork {
             left,
             key,
@@ -102,4 +107,11 @@ impl<K: Drop, V: Drop> Branch<K, V> {
             node: Some(Arc::new(alloc, fork)?),
         })
     }
+}
+
+/// The height of a node over branches of these heights, as far as 64 bits count.
+fn height_over(left: u64, right: u64) -> Result<u64, NoMemory>
+    ensures { IfOk result (λ height. height ≡ max left right + 1) }
+{
+    left.max(right).checked_add(1).ok_or(NoMemory)
 }

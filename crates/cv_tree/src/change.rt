@@ -1,5 +1,6 @@
-ghost use Rattle.std.specs.Prelude.{◌≡◌, ◌++◌, drop, IfOk};
+ghost use Rattle.std.specs.Prelude.{◌≡◌, ◌++◌, max, drop, IfOk};
 ghost use Rattle.cv_tree.specs.Entries.{IsAscending, with_entry, without_key};
+ghost use Rattle.cv_tree.specs.Shapes.{AreWithin, IsSameOrNext};
 
 use crate::branch::Branch;
 use crate::search::first;
@@ -15,7 +16,8 @@ pub fn set<K: Ord + Copy, V: Share + Drop>(
     key: K,
     value: V,
 ) -> Result<Branch<K, V>, NoMemory>
-    ensures { IsAscending K.cmp branch.now → IfOk result (λ b. b ≡ with_entry K.cmp branch.now key value) }
+    ensures entries { IsAscending K.cmp branch.now.entries → IfOk result (λ b. b.entries ≡ with_entry K.cmp branch.now.entries key value) }
+    ensures height { IfOk result (λ b. IsSameOrNext branch.now.height b.height) }
 {
     let Some(fork) = branch.fork() else {
         return Branch::of(alloc, Branch::empty(), key, value, Branch::empty());
@@ -47,7 +49,8 @@ pub fn without<K: Ord + Copy, V: Share + Drop>(
     branch: &Branch<K, V>,
     key: &K,
 ) -> Result<Branch<K, V>, NoMemory>
-    ensures { IsAscending K.cmp branch.now → IfOk result (λ b. b ≡ without_key K.cmp branch.now key.now) }
+    ensures entries { IsAscending K.cmp branch.now.entries → IfOk result (λ b. b.entries ≡ without_key K.cmp branch.now.entries key.now) }
+    ensures height { IfOk result (λ b. IsSameOrNext b.height branch.now.height) }
 {
     let Some(fork) = branch.fork() else {
         return Ok(Branch::empty());
@@ -72,13 +75,15 @@ pub fn without<K: Ord + Copy, V: Share + Drop>(
     }
 }
 
-/// Two branches in a row, whose heights differ by at most one.
+/// The entries of two branches in a row.
 fn appended<K: Copy, V: Share + Drop>(
     alloc: Global,
     left: Branch<K, V>,
     right: &Branch<K, V>,
 ) -> Result<Branch<K, V>, NoMemory>
-    ensures { IfOk result (λ b. b ≡ left ++ right.now) }
+    requires balanced { AreWithin 1 left.height right.now.height }
+    ensures entries { IfOk result (λ b. b.entries ≡ left.entries ++ right.now.entries) }
+    ensures height { IfOk result (λ b. IsSameOrNext (max left.height right.now.height) b.height) }
 {
     let Some((key, value)) = first(right) else {
         return Ok(left);
@@ -93,7 +98,8 @@ fn without_first<K: Copy, V: Share + Drop>(
     alloc: Global,
     branch: &Branch<K, V>,
 ) -> Result<Branch<K, V>, NoMemory>
-    ensures { IfOk result (λ b. b ≡ drop 1 branch.now) }
+    ensures entries { IfOk result (λ b. b.entries ≡ drop 1 branch.now.entries) }
+    ensures height { IfOk result (λ b. IsSameOrNext b.height branch.now.height) }
 {
     let Some(fork) = branch.fork() else {
         return Ok(Branch::empty());

@@ -1,6 +1,7 @@
-ghost use Rattle.std.specs.Prelude.{◌≡◌, ◌+◌, ◌≤◌, ◌∷◌, ◌++◌, unwrap_or, IfOk, OnOk};
+ghost use Rattle.std.specs.Prelude.{◌≡◌, ◌+◌, ◌≤◌, ◌∷◌, ◌++◌, max, unwrap_or, IfOk, OnOk};
 ghost use Rattle.cv_tree.specs.Entries.{costs_of, remade_entries, rows_of};
-ghost use Rattle.cv_tree.specs.Nodes.{between};
+ghost use Rattle.cv_tree.specs.Nodes.{shape_of};
+ghost use Rattle.cv_tree.specs.Shapes.{AreWithin};
 
 use crate::branch::{Branch, Fork};
 use crate::remake::Remake;
@@ -17,9 +18,10 @@ pub fn remade<K: Copy, V: Share + Drop, M: Remake<K, V>>(
     rows: &mut Vec<M::Row>,
     tally: &mut M::Tally,
 ) -> Result<Option<Branch<K, V>>, NoMemory>
-    ensures value { IfOk result (λ new. unwrap_or new branch.now ≡ remade_entries (M.made maker.now) branch.now) }
-    ensures rows { OnOk result (rows.new.items ≡ rows.old.items ++ rows_of (M.added maker.now) branch.now) }
-    ensures counted { M.costs tally.new ≤ M.costs tally.old + costs_of (M.cost maker.now) branch.now }
+    ensures value { IfOk result (λ new. (unwrap_or new branch.now).entries ≡ remade_entries (M.made maker.now) branch.now.entries) }
+    ensures height { IfOk result (λ new. (unwrap_or new branch.now).height ≡ branch.now.height) }
+    ensures rows { OnOk result (rows.new.items ≡ rows.old.items ++ rows_of (M.added maker.now) branch.now.entries) }
+    ensures counted { M.costs tally.new ≤ M.costs tally.old + costs_of (M.cost maker.now) branch.now.entries }
 {
     let Some(fork) = branch.fork() else {
         return Ok(None);
@@ -38,7 +40,9 @@ fn rebuilt<K: Copy, V: Share + Drop>(
     value: Option<V>,
     right: Option<Branch<K, V>>,
 ) -> Result<Option<Branch<K, V>>, NoMemory>
-    ensures { IfOk result (λ new. unwrap_or new (between fork.now) ≡ unwrap_or left fork.now.left ++ (fork.now.key, unwrap_or value fork.now.value) ∷ unwrap_or right fork.now.right) }
+    requires balanced { AreWithin 1 (unwrap_or left fork.now.left).height (unwrap_or right fork.now.right).height }
+    ensures entries { IfOk result (λ new. (unwrap_or new (shape_of fork.now)).entries ≡ (unwrap_or left fork.now.left).entries ++ (fork.now.key, unwrap_or value fork.now.value) ∷ (unwrap_or right fork.now.right).entries) }
+    ensures height { IfOk result (λ new. (unwrap_or new (shape_of fork.now)).height ≡ max (unwrap_or left fork.now.left).height (unwrap_or right fork.now.right).height + 1) }
 {
     if left.is_none() && value.is_none() && right.is_none() {
         return Ok(None);

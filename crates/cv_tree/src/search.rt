@@ -1,4 +1,4 @@
-ghost use Rattle.std.specs.Prelude.{◌≡◌, ◌++◌, map, OnOk};
+ghost use Rattle.std.specs.Prelude.{◌≡◌, ◌++◌, map, IfNone, OnOk};
 ghost use Rattle.std.specs.Map.{keys_of};
 ghost use Rattle.std.specs.Option.{option_map};
 ghost use Rattle.cv_tree.specs.Entries.{IsAscending, at, first_entry};
@@ -9,7 +9,8 @@ use std::cmp::Ordering;
 
 /// The leftmost entry.
 pub fn first<K, V>(branch: &Branch<K, V>) -> Option<(&K, &V)>
-    ensures { option_map (λ e. (e.0.now, e.1.now)) result ≡ first_entry branch.now }
+    ensures entry { option_map (λ e. (e.0.now, e.1.now)) result ≡ first_entry branch.now.entries }
+    ensures none { IfNone result (branch.now.height ≡ 0) }
 {
     let fork = branch.fork()?;
     match first(&fork.left) {
@@ -20,7 +21,7 @@ pub fn first<K, V>(branch: &Branch<K, V>) -> Option<(&K, &V)>
 
 /// The value at a key, if the keys ascend.
 pub fn get<'a, K: Ord, V>(branch: &'a Branch<K, V>, key: &K) -> Option<&'a V>
-    ensures { IsAscending K.cmp branch.now → option_map (λ v. v.now) result ≡ at K.cmp branch.now key.now }
+    ensures { IsAscending K.cmp branch.now.entries → option_map (λ v. v.now) result ≡ at K.cmp branch.now.entries key.now }
 {
     let fork = branch.fork()?;
     match key.cmp(&fork.key) {
@@ -32,7 +33,7 @@ pub fn get<'a, K: Ord, V>(branch: &'a Branch<K, V>, key: &K) -> Option<&'a V>
 
 /// Appends the keys, from left to right.
 pub fn push_keys<K: Copy, V>(branch: &Branch<K, V>, keys: &mut Vec<K>) -> Result<(), NoMemory>
-    ensures { OnOk result (keys.new.items ≡ keys.old.items ++ keys_of branch.now) }
+    ensures { OnOk result (keys.new.items ≡ keys.old.items ++ keys_of branch.now.entries) }
 {
     let Some(fork) = branch.fork() else {
         return Ok(());
@@ -47,7 +48,7 @@ pub fn push_entries<'a, K: Copy, V>(
     branch: &'a Branch<K, V>,
     entries: &mut Vec<(K, &'a V)>,
 ) -> Result<(), NoMemory>
-    ensures { OnOk result (map (λ e. (e.0, e.1.now)) entries.new.items ≡ map (λ e. (e.0, e.1.now)) entries.old.items ++ branch.now) }
+    ensures { OnOk result (map (λ e. (e.0, e.1.now)) entries.new.items ≡ map (λ e. (e.0, e.1.now)) entries.old.items ++ branch.now.entries) }
 {
     let Some(fork) = branch.fork() else {
         return Ok(());

@@ -2,6 +2,7 @@ ghost use Rattle.std.specs.Prelude.{◌≡◌, ◌+◌, ◌≤◌, [], ◌++◌,
 ghost use Rattle.std.specs.Map.{keys_of};
 ghost use Rattle.std.specs.Option.{option_map};
 ghost use Rattle.cv_tree.specs.Entries.{IsAscending, at, costs_of, first_entry, remade_entries, rows_of, with_entry, without_key};
+ghost use Rattle.cv_tree.specs.Heights.{IsHeightOf};
 
 use crate::branch::Branch;
 use crate::rebuild::remade;
@@ -28,9 +29,9 @@ impl<K: Ord, V> Model for Tree<K, V> {
 
     ghost use Rattle.cv_tree.specs.code.Trees.{IsTree};
 
-    ghost view = { λ t. t.root };
+    ghost view = { λ t. t.root.entries };
 
-    ghost invariant = { λ t. IsTree K.cmp t.root t.count };
+    ghost invariant = { λ t. IsTree K.cmp t.root.entries t.count };
 }
 
 impl<K: Ord, V> Tree<K, V> {
@@ -56,6 +57,13 @@ impl<K: Ord, V> Tree<K, V> {
         ensures { result ≡ is_none (first_entry self.now) }
     {
         self.first().is_none()
+    }
+
+    /// How many nodes the longest way down has: at most twice the logarithm of the number of entries and one more.
+    pub fn height(&self) -> u64
+        ensures { IsHeightOf result (length self.now) }
+    {
+        self.root.height()
     }
 
     /// The value at a key.

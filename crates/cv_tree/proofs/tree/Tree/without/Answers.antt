@@ -10,4 +10,4 @@ returns-then-not-contains g c =
 pub invariant_of-result : goal.invariant_of-result
 invariant_of-result g c =
     let tree = c.self.invariant in
-    tree_cut g.K.Ord.cmp c.self.inside.root c.args.key.now _ _ _ tree (rw (c.self.view_is, ← c.contains.ensures) c.if-not-contains.false) (c.in_ok-root.ensures tree.ascends) (rw c.self.view_is (c.saturating_sub-count.ensures ∙ ap (λ (n : ℕ). n - 1) c.len.ensures))
+    tree_cut g.K.Ord.cmp c.self.inside.root.entries c.args.key.now _ _ _ tree (rw (c.self.view_is, ← c.contains.ensures) c.if-not-contains.false) (c.in_ok-root.ensures.entries tree.ascends) (rw c.self.view_is (c.saturating_sub-count.ensures ∙ ap (λ (n : ℕ). n - 1) c.len.ensures))
