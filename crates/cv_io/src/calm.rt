@@ -1,4 +1,4 @@
-ghost use Rattle.std.specs.Prelude.{◌≡◌, ◌≤◌, ◌<◌, [], Some, length, min, IfOk, IsOkAnd, OnErr};
+ghost use Rattle.std.specs.Prelude.{◌≡◌, ◌≤◌, ◌<◌, [], Some, false, length, min, IfOk, IsOkAnd, OnErr};
 ghost use Rattle.std.specs.Io.{ReadsAtMost};
 ghost use Rattle.std.specs.Io.KnownBytes.{ReadConsumes};
 ghost use Rattle.cv_seq.specs.Cause.{CausedBy};
@@ -115,6 +115,7 @@ impl Sink for CalmSink {
         ensures progress { IfOk result (λ n. 0 < length bytes.now → 0 < n) }
         ensures bytes { WritesFront (Some self.old.bytes) (Some self.new.bytes) result bytes.now }
         ensures kept { OnErr result (self.new.bytes ≡ self.old.bytes) }
+        ensures never { is_failed result ≡ false }
         ensures cause { CausedBy 0 0 (is_failed result) }
         ensures count { IfOk result (λ n. n ≡ min (length bytes.now) self.old.piece) }
         ensures piece { self.new.piece ≡ self.old.piece }

@@ -12,6 +12,7 @@ mod calm;
 mod chunk;
 mod copies;
 mod counted;
+mod failures;
 mod fault;
 mod gather;
 mod gathering;

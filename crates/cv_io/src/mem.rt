@@ -1,4 +1,4 @@
-ghost use Rattle.std.specs.Prelude.{◌≡◌, ◌≤◌, ℕ, List, [], Some, length, drop, min, IfOk, OnOk, OnErr, take, ◌++◌, ◌<◌};
+ghost use Rattle.std.specs.Prelude.{◌≡◌, ◌≤◌, ◌<◌, [], Some, length, min, IfOk, OnErr};
 ghost use Rattle.std.specs.Io.{ReadsAtMost};
 ghost use Rattle.std.specs.Io.KnownBytes.{ReadConsumes};
 ghost use Rattle.cv_seq.specs.Cause.{CausedBy, is_to_fail, next_count};
@@ -6,7 +6,8 @@ ghost use Rattle.cv_io.specs.Fault.{is_failed};
 ghost use Rattle.cv_io.specs.Memory.{faults_after};
 ghost use Rattle.cv_io.specs.Writes.{WritesFront};
 
-use crate::copies::copy_front;
+use crate::calm::{CalmSink, CalmSource};
+use crate::failures::Failures;
 use crate::fault::IoFault;
 use crate::sink::Sink;
 use crate::source::Source;
@@ -17,23 +18,22 @@ use std::marker::Model;
 /// Bytes in memory, which are read in pieces. Some calls fail, numbered from 1, and take nothing.
 #[derive(Debug, Drop)]
 pub struct MemSource {
-    bytes: Seq<u8>,
-    at: usize,
-    piece: usize,
-    fails: Seq<u64>,
-    calls: u64,
-    faults: u64,
+    source: CalmSource,
+    failures: Failures,
 }
 
 impl Model for MemSource {
-    ghost use Rattle.std.specs.Prelude.{◌≤◌, length, drop};
     ghost use Rattle.cv_io.specs.Memory.{Supply};
 
     ghost Value = { Supply };
 
-    ghost view = { λ s. record { remaining = drop s.at s.bytes; piece = s.piece; fails = s.fails; calls = s.calls; faults = s.faults } };
-
-    ghost invariant = { λ s. (1 ≤ s.piece) × (s.at ≤ length s.bytes) };
+    ghost view = { λ s. record {
+      remaining = s.source.bytes;
+      piece = s.source.piece;
+      fails = s.failures.fails;
+      calls = s.failures.calls;
+      faults = s.failures.faults;
+    } };
 }
 
 impl MemSource {
@@ -43,12 +43,8 @@ impl MemSource {
         ensures { result ≡ record { remaining = bytes; piece = piece; fails = fails; calls = 0; faults = 0 } }
     {
         MemSource {
-            bytes,
-            at: 0,
-            piece,
-            fails,
-            calls: 0,
-            faults: 0,
+            source: CalmSource::new(bytes, piece),
+            failures: Failures::new(fails),
         }
     }
 }
@@ -58,7 +54,6 @@ impl Source for MemSource {
 
     ghost faults = { λ s. s.faults };
 
-    #[tactic(auto, using(crate::proofs::Streams::read_consumes))]
     fn read(&mut self, buf: &mut [u8]) -> Result<usize, IoFault>
         ensures bound { ReadsAtMost result buf.new }
         ensures bytes { ReadConsumes (Some self.old.remaining) (Some self.new.remaining) result buf.new }
@@ -70,37 +65,30 @@ impl Source for MemSource {
         ensures piece { self.new.piece ≡ self.old.piece }
         ensures fails { self.new.fails ≡ self.old.fails }
     {
-        self.calls = self.calls.saturating_add(1);
-        if self.fails.as_slice().contains(&self.calls) {
-            self.faults = self.faults.saturating_add(1);
-            return Err(IoFault::Failed);
-        }
-        let (_, rest) = self.bytes.as_slice().split_at(self.at);
-        let count = copy_front(rest, self.piece, buf);
-        self.at += count;
-        Ok(count)
+        self.failures.call()?;
+        self.source.read(buf)
     }
 }
 
 /// Memory that is written in pieces. Some calls fail, numbered from 1, and append nothing.
 #[derive(Debug, Drop)]
 pub struct MemSink {
-    bytes: Vec<u8>,
-    piece: usize,
-    fails: Seq<u64>,
-    calls: u64,
-    faults: u64,
+    sink: CalmSink,
+    failures: Failures,
 }
 
 impl Model for MemSink {
-    ghost use Rattle.std.specs.Prelude.{◌≤◌};
     ghost use Rattle.cv_io.specs.Memory.{Store};
 
     ghost Value = { Store };
 
-    ghost view = { λ s. record { contents = s.bytes.items; piece = s.piece; fails = s.fails; calls = s.calls; faults = s.faults } };
-
-    ghost invariant = { λ s. 1 ≤ s.piece };
+    ghost view = { λ s. record {
+      contents = s.sink.bytes;
+      piece = s.sink.piece;
+      fails = s.failures.fails;
+      calls = s.failures.calls;
+      faults = s.failures.faults;
+    } };
 }
 
 impl MemSink {
@@ -110,11 +98,8 @@ impl MemSink {
         ensures { result ≡ record { contents = []; piece = piece; fails = fails; calls = 0; faults = 0 } }
     {
         MemSink {
-            bytes: Vec::new(alloc),
-            piece,
-            fails,
-            calls: 0,
-            faults: 0,
+            sink: CalmSink::new(alloc, piece),
+            failures: Failures::new(fails),
         }
     }
 
@@ -122,7 +107,7 @@ impl MemSink {
     pub fn bytes(&self) -> &[u8]
         ensures { result.now ≡ self.now.contents }
     {
-        self.bytes.as_slice()
+        self.sink.bytes()
     }
 }
 
@@ -131,7 +116,6 @@ impl Sink for MemSink {
 
     ghost faults = { λ s. s.faults };
 
-    #[tactic(auto, using(crate::proofs::Streams::prefix_kept))]
     fn write(&mut self, bytes: &[u8]) -> Result<usize, IoFault>
         ensures bound { IfOk result (λ n. n ≤ length bytes.now) }
         ensures progress { IfOk result (λ n. 0 < length bytes.now → 0 < n) }
@@ -145,16 +129,7 @@ impl Sink for MemSink {
         ensures piece { self.new.piece ≡ self.old.piece }
         ensures fails { self.new.fails ≡ self.old.fails }
     {
-        self.calls = self.calls.saturating_add(1);
-        if self.fails.as_slice().contains(&self.calls) {
-            self.faults = self.faults.saturating_add(1);
-            return Err(IoFault::Failed);
-        }
-        let count = bytes.len().min(self.piece);
-        let (front, _) = bytes.split_at(count);
-        match self.bytes.extend_from_slice(front) {
-            Ok(()) => Ok(count),
-            Err(_) => Err(IoFault::NoMemory),
-        }
+        self.failures.call()?;
+        self.sink.write(bytes)
     }
 }
