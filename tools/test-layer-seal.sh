@@ -51,6 +51,11 @@ done
 sealed 'the package.json of a package, and others' npm \
     "$(entry d node_modules)$(entry d node_modules/@)$(file node_modules/@/package.json 2 '{}')$(entry d node_modules/@s)$(file node_modules/@s/package.json 2 '{}')$(entry d node_modules/@s/x)$(file node_modules/@s/x/package.json 2 '{}')$(file node_modules/package.json 2)$(entry d node_modules/x)$(entry d node_modules/x/lib)$(file node_modules/x/lib/package.json 2)$(file node_modules/x/package.json 2 '{}')"
 
+mkdir -p python/x.dist-info python/x.egg-info
+printf 'Name: x\nVersion: 1\n' | tee python/x.dist-info/METADATA >python/x.egg-info/PKG-INFO
+sealed 'the metadata of Python packages counts by its size' python \
+    "$(entry d x.dist-info)$(file x.dist-info/METADATA 19)$(entry d x.egg-info)$(file x.egg-info/PKG-INFO 19)"
+
 mkdir -p large/lib/apk/db large/big
 truncate -s 33554433 large/lib/apk/db/installed
 truncate -s 4294967554 large/big/file
