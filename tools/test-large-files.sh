@@ -14,7 +14,7 @@ name() { printf %s "$1" | digits; }
 folder() { echo "layers/sha256/$(name "$1")"; }
 # makes the file $2 of the layer $1 from standard input
 put() { mkdir -p "$(dirname "$(folder "$1")/$2")" && cat >"$(folder "$1")/$2"; }
-# text $1, and blanks behind it up to $2 bytes
+# the text $1, filled up to $2 bytes with the byte $3
 padded() { printf '%b' "$1" && head -c "$(($2 - $(printf '%b' "$1" | wc -c)))" /dev/zero | tr '\0' "$3"; }
 
 # a record on each of the packages
