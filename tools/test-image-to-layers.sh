@@ -15,6 +15,9 @@ paragraph() { printf 'Package: %s\\nStatus: install ok installed\\nArchitecture:
 # the text of a package.json
 package() { printf '{"name":"%s","version":"%s"}' "$1" "$2"; }
 
+# the text of the metadata of a Python package
+metadata() { printf 'Metadata-Version: 2.1\\nName: %s\\nVersion: %s\\n\\nName: in the body\\n' "$1" "$2"; }
+
 # layer 1: a Debian root with a link to a directory, hard links, names with spaces and newlines, and a device
 "$tools/test-tar" 1.tar <<END
 dir ./
@@ -45,6 +48,13 @@ file ./opt/node_modules/g/package.json $(package g 1.0.0)
 file ./opt/node_modules/h/package.json $(package h 1.0.0)
 file ./twice/node_modules/i/package.json $(package i 1.0.0)
 file ./twice/node_modules/i/package.json $(package i 2.0.0)
+file ./usr/lib/python3/dist-packages/Foo_Bar-1.0.dist-info/METADATA $(metadata Foo.Bar 1.0)
+hard ./opt/venv/Foo_Bar-1.0.dist-info/METADATA ./usr/lib/python3/dist-packages/Foo_Bar-1.0.dist-info/METADATA
+file ./usr/lib/python3/dist-packages/gone.egg-info/PKG-INFO $(metadata gone 1.0)
+file ./usr/lib/python3/dist-packages/file.egg-info $(metadata file 1.0)
+link ./opt/venv/linked.dist-info Foo_Bar-1.0.dist-info
+link ./python lib/python3/dist-packages
+file ./python/through.dist-info/METADATA $(metadata through 1.0)
 char ./dev/null
 fifo ./run/pipe
 END
@@ -63,6 +73,8 @@ dir app/node_modules/under
 file app/node_modules/under/package.json $(package under 1.0.0)
 link app/node_modules/two\\x20words a
 file app/node_modules/.wh.new\\nline
+file usr/lib/python3/dist-packages/.wh.gone.egg-info
+file opt/venv/Foo_Bar-1.0.dist-info/METADATA $(metadata Foo.Bar 1.0.post1)
 file app/node_modules/new\\nline/package.json $(package new-line 2.0.0)
 END
 
@@ -100,6 +112,8 @@ same 'the folder of layer 3' "$(tree "first/layers/sha256/$(digits <3.tar)")" "$
 one=first/layers/sha256/$(digits <1.tar)
 same 'a hard link' "$(cat "$one/app/node_modules/hard/package.json")" "$(package a 1.0.0)"
 same 'a link' "$(readlink "$one/srv")" /app
+same 'a hard link of metadata' "$(head -n 3 "$one/opt/venv/Foo_Bar-1.0.dist-info/METADATA" | tail -n 1)" 'Version: 1.0'
+same 'metadata through a link' "$(sed -n 's/^Name: //p' "$one/usr/lib/python3/dist-packages/through.dist-info/METADATA" | head -n 1)" through
 same 'the last of two entries of a path' "$(cat "$one/twice/node_modules/i/package.json")" "$(package i 2.0.0)"
 same 'the owner' "$(find first -printf '%U:%G\n' | sort -u)" "$(id -u):$(id -g)"
 
