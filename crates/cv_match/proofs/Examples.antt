@@ -1,7 +1,7 @@
 -- The definitions, computed on examples.
 use Rattle.std.proofs.Common.{◌≡◌, ℕ, Bool, true, false, List, [], ◌∷◌, Option, Some, None, refl, codes}
 use Rattle.cv_base.specs.declared.«package».Package.{Package}
-use Rattle.cv_base.specs.declared.«package».PackageKind.TheVariants.{Deb}
+use Rattle.cv_base.specs.declared.«package».PackageKind.TheVariants.{Deb, Pypi}
 use Rattle.cv_base.specs.declared.advisory.Advisory.{Advisory}
 use Rattle.cv_base.specs.declared.advisory.Affected.{Affected}
 use Rattle.cv_base.specs.declared.advisory.Range.{Range}
@@ -125,6 +125,28 @@ ecosystems : (affects (zlib_of (codes "Debian")) zlib1g ≡ true) × (affects (z
     × (fixed (zlib_of (codes "Debian")) zlib1g ≡ Some (codes "1:1.3"))
 unfolding affects within fixed
 ecosystems = (refl, refl, refl, refl, refl)
+
+-- records name a Python package by its normalized name, which is its source, and its version is that of the source
+abbrev foo_bar : Package
+foo_bar = record {
+  kind = Pypi;
+  path = codes "opt" ∷ codes "Foo_Bar-1.0.dist-info" ∷ codes "METADATA" ∷ [];
+  name = codes "Foo.Bar";
+  version = codes "1.0";
+  source = codes "foo-bar";
+  source_version = codes "1.0";
+  arch = [];
+  ecosystem = codes "PyPI";
+}
+
+abbrev python_record : List ℕ → Advisory
+python_record name = advisory (codes "P-1") false
+    (entry (codes "PyPI") name (range Ecosystem (Introduced (codes "0") ∷ Fixed (codes "1.0.post1") ∷ []) ∷ []) [] ∷ [])
+
+python : (fixed (python_record (codes "foo-bar")) foo_bar ≡ Some (codes "1.0.post1")) × (affects (python_record (codes "foo-bar")) foo_bar ≡ true)
+    × (affects (python_record (codes "Foo.Bar")) foo_bar ≡ false)
+unfolding affects within fixed
+python = (refl, refl, refl)
 
 -- findings are in order of package, feed and advisory, and each stands once, though the package is listed twice
 abbrev finding : List ℕ → List ℕ → List ℕ → Option (List ℕ) → Finding

@@ -5,3 +5,4 @@ pub mod Keyed
 pub mod Keys
 pub mod Mapped
 pub mod Meaning
+pub mod PackageOrder

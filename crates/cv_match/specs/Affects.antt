@@ -6,7 +6,7 @@ use Rattle.cv_base.specs.Texts.{same}
 use Rattle.cv_base.specs.declared.«package».Package.{Package}
 use Rattle.cv_base.specs.declared.«package».PackageName.{PackageName}
 use Rattle.cv_base.specs.declared.«package».PackageKind.{PackageKind}
-use Rattle.cv_base.specs.declared.«package».PackageKind.TheVariants.{Deb, Apk, Npm}
+use Rattle.cv_base.specs.declared.«package».PackageKind.TheVariants.{Deb, Apk, Npm, Pypi}
 use Rattle.cv_base.specs.declared.advisory.Advisory.{Advisory}
 use Rattle.cv_base.specs.declared.advisory.Affected.{Affected}
 use Rattle.cv_base.specs.declared.advisory.Range.{Range}
@@ -31,17 +31,20 @@ family ecosystem = cut_at ecosystem (position is_colon ecosystem)
 abbrev pub matches_ecosystem : List ℕ → List ℕ → Bool
 matches_ecosystem of_record of_package = same of_record of_package || same of_record (family of_package)
 
--- advisories name the source of a package for deb and apk, and the package itself for npm
+-- advisories name the source of a package for deb, apk and pypi, and the package itself for npm. The source of a Python package
+-- is its normalized name
 abbrev pub key_name_of : PackageKind → Package → List ℕ
 key_name_of Deb p = p.source
 key_name_of Apk p = p.source
 key_name_of Npm p = p.name
+key_name_of Pypi p = p.source
 
 -- the version that counts is that of what they name
 abbrev pub version_of : PackageKind → Package → List ℕ
 version_of Deb p = p.source_version
 version_of Apk p = p.source_version
 version_of Npm p = p.version
+version_of Pypi p = p.source_version
 
 -- the name under which a record has this package; takes a package
 abbrev pub key_name : Package → List ℕ

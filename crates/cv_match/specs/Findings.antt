@@ -8,7 +8,7 @@ use Rattle.std.specs.Cmp.Lexicographic.{slice_cmp, lists_total, nat_list_cmp_tot
 use Rattle.cv_base.specs.InOrder.{in_order}
 use Rattle.cv_base.specs.declared.«package».Package.{Package}
 use Rattle.cv_base.specs.declared.«package».PackageKind.{PackageKind}
-use Rattle.cv_base.specs.declared.«package».PackageKind.TheVariants.{Deb, Apk, Npm}
+use Rattle.cv_base.specs.declared.«package».PackageKind.TheVariants.{Deb, Apk, Npm, Pypi}
 use Rattle.cv_base.specs.declared.advisory.Advisory.{Advisory}
 use Rattle.cv_base.specs.declared.finding.Finding.{Finding}
 use Rattle.cv_match.specs.Affects.{affects, fixed}
@@ -18,6 +18,7 @@ abbrev pub kind_rank : PackageKind → ℕ
 kind_rank Deb = 0
 kind_rank Apk = 1
 kind_rank Npm = 2
+kind_rank Pypi = 3
 
 -- texts by bytes
 abbrev pub text_cmp : List ℕ → List ℕ → Ordering

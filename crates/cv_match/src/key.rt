@@ -18,7 +18,7 @@ pub fn key_name(package: &Package) -> &Text
     ensures { result.now ≡ key_name «package».now }
 {
     match package.kind {
-        PackageKind::Deb | PackageKind::Apk => &package.source,
+        PackageKind::Deb | PackageKind::Apk | PackageKind::Pypi => &package.source,
         PackageKind::Npm => &package.name,
     }
 }

@@ -26,5 +26,5 @@ pub use evaluate::{affects, fixed_text};
 pub use key::{family, key_name, package_keys};
 pub use kinds::{PreparedForKinds, prepare_for_kinds};
 pub use laws::{findings_laws, key_laws};
-pub use order::in_order;
+pub use order::{compare_packages, in_order};
 pub use prepared::{ReadyAdvisory, ReadyPackage, prepare, prepare_package};

@@ -1,9 +1,9 @@
 ghost use Rattle.std.specs.Prelude.{◌≡◌, IfOk};
 ghost use Rattle.std.specs.List.Sorted.{IsStrictlySortedBy};
 ghost use Rattle.cv_base.specs.InOrder.{in_order};
-ghost use Rattle.cv_match.specs.Findings.{finding_cmp};
+ghost use Rattle.cv_match.specs.Findings.{finding_cmp, package_cmp};
 
-use cv_base::{Finding, NoMemory, Seq};
+use cv_base::{Finding, NoMemory, Package, Seq};
 use std::alloc::Global;
 use std::cmp::Ordering;
 use std::collections::BTreeSet;
@@ -64,11 +64,17 @@ impl Ord for KeyedFinding {
 
     fn cmp(&self, other: &KeyedFinding) -> Ordering {
         let (one, two) = (&self.finding, &other.finding);
-        one.package
-            .cmp(&two.package)
+        compare_packages(&one.package, &two.package)
             .then_with(|| one.feed.cmp(&two.feed))
             .then_with(|| one.advisory.cmp(&two.advisory))
     }
+}
+
+/// How two packages stand in the order of findings: by their fields, the first one first.
+pub fn compare_packages(one: &Package, other: &Package) -> Ordering
+    ensures { result ≡ package_cmp one.now other.now }
+{
+    one.cmp(other)
 }
 
 /// Findings sorted by package, feed and id of the advisory, each once: of those that are the same by these three the last

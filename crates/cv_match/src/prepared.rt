@@ -1,6 +1,7 @@
 ghost use Rattle.std.specs.Prelude.{◌≡◌, IfOk, map};
 ghost use Rattle.cv_match.specs.Affects.{matched_version};
 ghost use Rattle.cv_match.specs.Answer.{Answers};
+ghost use Rattle.cv_match.specs.Prepared.{prepared_for};
 ghost use Rattle.cv_match.specs.code.Hit.{hit_of, key_of};
 ghost use Rattle.cv_match.specs.code.Kinds.{entries_kind, entries_text, version_kind, version_text};
 ghost use Rattle.cv_match_range.specs.Order.{version_in};
@@ -12,7 +13,7 @@ use crate::key::{PackageKey, key_name};
 use crate::matching::hit;
 use crate::reading::prepare_entries;
 use cv_base::{Advisory, Affected, NoMemory, Package, PackageKind, Text};
-use cv_match_range::{ApkVersion, DebVersion, SemanticVersion, Version};
+use cv_match_range::{ApkVersion, DebVersion, PypiVersion, SemanticVersion, Version};
 use std::alloc::{AllocError, Global};
 use std::marker::Model;
 use std::snapshot::Snapshot;
@@ -54,15 +55,16 @@ pub struct PreparedRecord {
 
 impl Model for PreparedRecord {
     ghost use Rattle.std.specs.Prelude.{◌≡◌, map};
-    ghost use Rattle.cv_match.specs.Prepared.{Prepared};
+    ghost use Rattle.cv_match.specs.Prepared.{Prepared, prepared_for};
     ghost use Rattle.cv_match.specs.code.Kinds.{entries_kind, entries_text};
     ghost use Rattle.cv_match.specs.code.Entries.{prepared_entry};
 
     ghost Value = { Prepared };
 
-    ghost view = { λ a. record { kind = entries_kind a.entries; advisory = a.source.value } };
+    ghost view = { λ a. prepared_for (entries_kind a.entries) a.source.value };
 
-    ghost invariant = { λ a. (a.withdrawn ≡ a.source.value.withdrawn) × (entries_text a.entries ≡ map (prepared_entry (entries_kind a.entries)) a.source.value.affected) };
+    ghost invariant = { λ a. (a.withdrawn ≡ a.source.value.withdrawn)
+        × (entries_text a.entries ≡ map (prepared_entry (entries_kind a.entries)) a.source.value.affected) };
 }
 
 /// A package with its version read. Contracts see the package.
@@ -85,7 +87,9 @@ impl Model for ReadyPackage {
 
     ghost view = { λ p. p.source.value };
 
-    ghost invariant = { λ p. (version_kind p.version ≡ p.source.value.kind) × (p.key ≡ key_of p.source.value) × (version_text p.version ≡ version_in p.source.value.kind (matched_version p.source.value)) };
+    ghost invariant = { λ p. (version_kind p.version ≡ p.source.value.kind)
+        × (p.key ≡ key_of p.source.value)
+        × (version_text p.version ≡ version_in p.source.value.kind (matched_version p.source.value)) };
 }
 
 /// Reads the versions of a record once, for one kind of package. All entries and versions of the record are read, those of
@@ -95,7 +99,7 @@ pub fn prepare(
     advisory: &Advisory,
     kind: PackageKind,
 ) -> Result<ReadyAdvisory, NoMemory>
-    ensures { IfOk result (λ prepared. prepared ≡ record { kind = kind; advisory = advisory.now }) }
+    ensures { IfOk result (λ prepared. prepared ≡ prepared_for kind advisory.now) }
 {
     let record = prepare_record(alloc, advisory, kind)?;
     Ok(ReadyAdvisory {
@@ -108,7 +112,7 @@ fn prepare_record(
     advisory: &Advisory,
     kind: PackageKind,
 ) -> Result<PreparedRecord, NoMemory>
-    ensures { IfOk result (λ prepared. prepared ≡ record { kind = kind; advisory = advisory.now }) }
+    ensures { IfOk result (λ prepared. prepared ≡ prepared_for kind advisory.now) }
 {
     Ok(PreparedRecord {
         withdrawn: advisory.withdrawn,
@@ -129,6 +133,7 @@ fn entries_for(
         PackageKind::Deb => Ok(PreparedEntries::Deb(prepare_entries(alloc, kind, entries)?)),
         PackageKind::Apk => Ok(PreparedEntries::Apk(prepare_entries(alloc, kind, entries)?)),
         PackageKind::Npm => Ok(PreparedEntries::Npm(prepare_entries(alloc, kind, entries)?)),
+        PackageKind::Pypi => Ok(PreparedEntries::Pypi(prepare_entries(alloc, kind, entries)?)),
     }
 }
 
@@ -148,7 +153,7 @@ fn key_of(package: &Package) -> Result<PackageKey, NoMemory>
     ensures { IfOk result (λ key. key ≡ key_of «package».now) }
 {
     let version = match package.kind {
-        PackageKind::Deb | PackageKind::Apk => &package.source_version,
+        PackageKind::Deb | PackageKind::Apk | PackageKind::Pypi => &package.source_version,
         PackageKind::Npm => &package.version,
     };
     Ok(PackageKey {
@@ -166,6 +171,7 @@ fn read_version(alloc: Global, text: &Text, kind: PackageKind) -> Result<Prepare
         PackageKind::Deb => Ok(PreparedVersion::Deb(DebVersion::read(alloc, text)?)),
         PackageKind::Apk => Ok(PreparedVersion::Apk(ApkVersion::read(alloc, text)?)),
         PackageKind::Npm => Ok(PreparedVersion::Npm(SemanticVersion::read(alloc, text)?)),
+        PackageKind::Pypi => Ok(PreparedVersion::Pypi(PypiVersion::read(alloc, text)?)),
     }
 }
 
@@ -206,6 +212,10 @@ fn entries_hit(entries: &PreparedEntries, key: &PackageKey, version: &PreparedVe
         },
         PreparedEntries::Npm(entries) => match version {
             PreparedVersion::Npm(version) => hit(entries.as_slice(), key, version),
+            _ => unreachable!(),
+        },
+        PreparedEntries::Pypi(entries) => match version {
+            PreparedVersion::Pypi(version) => hit(entries.as_slice(), key, version),
             _ => unreachable!(),
         },
     }
