@@ -5,8 +5,8 @@ use Rattle.std.proofs.Math.ListN.{set}
 use Rattle.std.proofs.lemmas.Option.{same_Some}
 use Rattle.cv_base.specs.declared.advisory.Advisory.{Advisory}
 use Rattle.cv_base.specs.declared.«package».PackageKind.{PackageKind}
-use Rattle.cv_match.specs.Prepared.{Prepared}
-use Rattle.cv_match_feed.specs.code.Slots.{AreSlots, IsSlot, no_slot, prepared_for}
+use Rattle.cv_match.specs.Prepared.{Prepared, prepared_for}
+use Rattle.cv_match_feed.specs.code.Slots.{AreSlots, IsSlot, no_slot}
 
 -- empty slots
 none_held : (kind : PackageKind) (records : List Advisory) → AreSlots kind (map no_slot records) records

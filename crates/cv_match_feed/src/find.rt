@@ -2,9 +2,10 @@ ghost use Rattle.std.specs.Prelude.{◌≡◌, ◌∷◌, ◌++◌, [], ◌<◌,
 ghost use Rattle.std.specs.List.{flat_map};
 ghost use Rattle.std.specs.Option.{option_map, option_to_list};
 ghost use Rattle.cv_match.specs.Findings.{findings};
+ghost use Rattle.cv_match.specs.Prepared.{prepared_for};
 ghost use Rattle.cv_match_feed.specs.code.Found.{found_all, found_by};
 ghost use Rattle.cv_match_feed.specs.code.Index.{Indexes, found_at};
-ghost use Rattle.cv_match_feed.specs.code.Slots.{AreSlots, AreSlotsByKind, prepared_for};
+ghost use Rattle.cv_match_feed.specs.code.Slots.{AreSlots, AreSlotsByKind};
 
 use crate::finding::find_one;
 use crate::index::{Names, index_records, indices_for};
@@ -69,9 +70,9 @@ fn find_in<L: Ledger>(
     steps: &mut Steps<L>,
 ) -> Result<Vec<Finding>, NoMemory>
     requires indexed { Indexes names.now advisories.now }
-    requires slots { AreSlotsByKind slots.old.deb.items slots.old.apk.items slots.old.npm.items advisories.now }
+    requires slots { AreSlotsByKind slots.old advisories.now }
     ensures found { IfOk result (λ found. found.items ≡ found_by feed.now advisories.now «package».now) }
-    ensures slots { AreSlotsByKind slots.new.deb.items slots.new.apk.items slots.new.npm.items advisories.now }
+    ensures slots { AreSlotsByKind slots.new advisories.now }
 {
     let indices = indices_for(alloc, names, package)?;
     find_by_kind(alloc, package, feed, advisories, &indices, slots, steps)
@@ -87,9 +88,9 @@ fn find_by_kind<L: Ledger>(
     slots: &mut SlotsByKind,
     steps: &mut Steps<L>,
 ) -> Result<Vec<Finding>, NoMemory>
-    requires { AreSlotsByKind slots.old.deb.items slots.old.apk.items slots.old.npm.items advisories.now }
+    requires { AreSlotsByKind slots.old advisories.now }
     ensures found { IfOk result (λ found. found.items ≡ flat_map (found_at «package».now feed.now advisories.now) indices.now) }
-    ensures slots { AreSlotsByKind slots.new.deb.items slots.new.apk.items slots.new.npm.items advisories.now }
+    ensures slots { AreSlotsByKind slots.new advisories.now }
 {
     match package.kind {
         PackageKind::Deb => {
@@ -122,6 +123,17 @@ fn find_by_kind<L: Ledger>(
                 advisories,
                 indices,
                 &mut slots.npm,
+                steps,
+            )
+        }
+        PackageKind::Pypi => {
+            find_indexed(
+                alloc,
+                package,
+                feed,
+                advisories,
+                indices,
+                &mut slots.pypi,
                 steps,
             )
         }

@@ -2,6 +2,7 @@ ghost use Rattle.std.specs.Prelude.{◌≡◌, ◌+◌, IfOk, option_and_then};
 ghost use Rattle.std.specs.Option.{option_to_list};
 ghost use Rattle.cv_match.specs.Answer.{text_at};
 ghost use Rattle.cv_match.specs.Findings.{found};
+ghost use Rattle.cv_match.specs.Prepared.{prepared_for};
 
 use cv_base::{Advisory, Finding, NoMemory, Package, Steps, Text};
 use cv_match::{FixedAt, Hit, ReadyAdvisory, ReadyPackage, affects, fixed_text};
@@ -20,7 +21,7 @@ pub fn find_one<L: Ledger>(
     steps: &mut Steps<L>,
 ) -> Result<Option<Finding>, NoMemory>
     requires prepared { prepared.now ≡ «package».now }
-    requires prepared_record { prepared_record.now ≡ record { kind = «package».now.kind; advisory = advisory.now } }
+    requires prepared_record { prepared_record.now ≡ prepared_for «package».now.kind advisory.now }
     ensures found { IfOk result (λ finding. option_to_list finding ≡ found «package».now feed.now advisory.now) }
     ensures counted { steps.new ≡ steps.old + 1 }
 {

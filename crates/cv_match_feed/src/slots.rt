@@ -1,6 +1,7 @@
 ghost use Rattle.std.specs.Prelude.{◌≡◌, IfOk, map, slice_get, option_and_then};
 ghost use Rattle.std.specs.Option.{option_map};
-ghost use Rattle.cv_match_feed.specs.code.Slots.{AreSlots, AreSlotsByKind, no_slot, prepared_for};
+ghost use Rattle.cv_match.specs.Prepared.{prepared_for};
+ghost use Rattle.cv_match_feed.specs.code.Slots.{AreSlots, AreSlotsByKind, no_slot};
 
 use cv_base::{Advisory, NoMemory, PackageKind};
 use cv_match::{ReadyAdvisory, prepare};
@@ -15,17 +16,19 @@ pub(crate) struct SlotsByKind {
     pub deb: Slots,
     pub apk: Slots,
     pub npm: Slots,
+    pub pypi: Slots,
 }
 
 /// Empty slots for these records.
 #[tactic(auto, using(crate::proofs::SlotLemmas::empty_held))]
 pub(crate) fn empty_slots(alloc: Global, advisories: &[Advisory]) -> Result<SlotsByKind, NoMemory>
-    ensures { IfOk result (λ slots. AreSlotsByKind slots.deb.items slots.apk.items slots.npm.items advisories.now) }
+    ensures { IfOk result (λ slots. AreSlotsByKind slots advisories.now) }
 {
     Ok(SlotsByKind {
         deb: empty(alloc, advisories)?,
         apk: empty(alloc, advisories)?,
         npm: empty(alloc, advisories)?,
+        pypi: empty(alloc, advisories)?,
     })
 }
 

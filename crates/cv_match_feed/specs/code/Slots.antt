@@ -3,12 +3,9 @@ use Rattle.std.specs.Prelude.{◌≡◌, List, Option, None, IfSome}
 use Rattle.std.specs.List.{AllZip}
 use Rattle.cv_base.specs.declared.advisory.Advisory.{Advisory}
 use Rattle.cv_base.specs.declared.«package».PackageKind.{PackageKind}
-use Rattle.cv_base.specs.declared.«package».PackageKind.TheVariants.{Deb, Apk, Npm}
-use Rattle.cv_match.specs.Prepared.{Prepared}
-
--- a record, prepared for a kind of package
-abbrev pub prepared_for : PackageKind → Advisory → Prepared
-prepared_for kind a = record { kind = kind; advisory = a }
+use Rattle.cv_base.specs.declared.«package».PackageKind.TheVariants.{Deb, Apk, Npm, Pypi}
+use Rattle.cv_match.specs.Prepared.{Prepared, prepared_for}
+use Rattle.cv_match_feed.specs.declared.slots.SlotsByKind.{SlotsByKind}
 
 -- an empty slot for a record
 abbrev pub no_slot : Advisory → Option Prepared
@@ -23,7 +20,8 @@ abbrev pub AreSlots : PackageKind → List (Option Prepared) → List Advisory �
 AreSlots kind slots records = AllZip (IsSlot kind) slots records
 
 -- the slots for each kind of package
-pub record AreSlotsByKind (debs apks npms : List (Option Prepared)) (records : List Advisory) : Type 0 where
-  pub deb : AreSlots Deb debs records
-  pub apk : AreSlots Apk apks records
-  pub npm : AreSlots Npm npms records
+pub record AreSlotsByKind (slots : SlotsByKind) (records : List Advisory) : Type 0 where
+  pub deb : AreSlots Deb slots.deb.items records
+  pub apk : AreSlots Apk slots.apk.items records
+  pub npm : AreSlots Npm slots.npm.items records
+  pub pypi : AreSlots Pypi slots.pypi.items records

@@ -7,5 +7,5 @@ use Rattle.cv_match_feed.proofs.find.find_counted.Given as goal
 abbrev pub invariant-loop-package : goal.invariant-loop-package
 invariant-loop-package g l = record {
   found : l.out.items ++ found_all l.feed l.advisories (drop l.package-index l.packages) ≡ found_all l.feed l.advisories l.packages;
-  slots : AreSlotsByKind l.slots.deb.items l.slots.apk.items l.slots.npm.items l.advisories;
+  slots : AreSlotsByKind l.slots l.advisories;
 }

@@ -3,7 +3,8 @@ use Rattle.std.proofs.lemmas.Option.{slice_get_read, slice_get_within}
 use Rattle.std.proofs.lemmas.Slice.Zip.{AllZip-long}
 use Rattle.std.specs.Option.{option_map}
 use Rattle.cv_match.specs.Prepared.{Prepared}
-use Rattle.cv_match_feed.specs.code.Slots.{IsSlot, prepared_for}
+use Rattle.cv_match.specs.Prepared.{prepared_for}
+use Rattle.cv_match_feed.specs.code.Slots.{IsSlot}
 use Rattle.cv_match_feed.proofs.SlotLemmas.{filled, slot_holds}
 use Rattle.cv_match_feed.proofs.slots.prepared_at.Goals as goal
 
