@@ -74,7 +74,7 @@ Tells which container images hold packages with known vulnerabilities.
       Serves requests, one JSON object a line; an empty line ends a round. N is from 1 to 8; without it, 4.
       Example: cd examples/service && cvwatch serve --workers 2 <input.jsonl
 
-  cvwatch order deb|apk|semver A B
+  cvwatch order deb|apk|semver|pypi A B
       Compares two versions, and prints <, = or >.
       Example: cvwatch order deb 1.0~rc1 1.0
 
