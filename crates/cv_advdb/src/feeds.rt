@@ -6,6 +6,7 @@ ghost use Rattle.std.specs.Map.{keys_of};
 ghost use Rattle.std.specs.Option.{option_map};
 ghost use Rattle.cv_base.specs.declared.package.Package.{Package};
 ghost use Rattle.cv_match.specs.Findings.{found_in, text_cmp};
+ghost use Rattle.cv_match.specs.Prepared.{prepared_for};
 ghost use Rattle.cv_advdb.specs.Feeds.{AreSorted, by_id, id_cmp, is_full, listed_under, records_of, replaced};
 ghost use Rattle.cv_advdb.specs.Touched.{IsTouched, is_touched};
 
@@ -102,7 +103,7 @@ impl Feeds {
     /// names that the records of each feed have.
     pub fn under(&self, key: &PackageName, kind: PackageKind, index: u64) -> Option<Listed<'_>>
         ensures value { option_map (λ listed. (listed.feed.now, listed.advisory.now)) result ≡ slice_get (listed_under key.now self.now.feeds) index }
-        ensures prepared { IfSome result (λ listed. listed.ready.now ≡ record { kind = kind; advisory = listed.advisory.now }) }
+        ensures prepared { IfSome result (λ listed. listed.ready.now ≡ prepared_for kind listed.advisory.now) }
     {
         let mut skipped = index;
         for (name, stock) in &self.feeds {

@@ -1,4 +1,5 @@
 ghost use Rattle.std.specs.Prelude.{◌≡◌, IfOk};
+ghost use Rattle.cv_match.specs.Prepared.{prepared_for};
 ghost use Rattle.cv_advdb.specs.Feeds.{by_id};
 
 use cv_base::{Advisory, NoMemory, PackageKind};
@@ -50,7 +51,7 @@ impl PreparedRecord {
     }
 
     fn prepared_for(&self, kind: PackageKind) -> &ReadyAdvisory
-        ensures { result.now ≡ record { kind = kind; advisory = self.now } }
+        ensures { result.now ≡ prepared_for kind self.now }
     {
         self.prepared.for_kind(kind)
     }
@@ -76,7 +77,7 @@ impl StoredRecord {
 
     /// The record as it is prepared for this kind.
     pub fn prepared_for(&self, kind: PackageKind) -> &ReadyAdvisory
-        ensures { result.now ≡ record { kind = kind; advisory = self.now } }
+        ensures { result.now ≡ prepared_for kind self.now }
     {
         self.inner.prepared_for(kind)
     }
