@@ -17,7 +17,7 @@ use Rattle.cv_base.specs.declared.advisory.Advisory.{Advisory}
 use Rattle.cv_base.specs.declared.finding.Finding.{Finding}
 use Rattle.cv_base.specs.declared.«package».Package.{Package}
 use Rattle.cv_base.specs.declared.«package».PackageKind.{PackageKind}
-use Rattle.cv_base.specs.declared.«package».PackageKind.TheVariants.{Apk, Deb, Npm}
+use Rattle.cv_base.specs.declared.«package».PackageKind.TheVariants.{Apk, Deb, Npm, Pypi}
 use Rattle.cv_base.proofs.Orders.{equal_of}
 use Rattle.cv_match.specs.Affects.{affects, fixed}
 use Rattle.cv_match.specs.Findings.{finding_cmp, finding_total, findings, found, found_in, kind_rank, package_cmp, package_total, pair_findings, text_cmp}
@@ -39,6 +39,7 @@ same_kind : (k l : PackageKind) → kind_rank k ≡ kind_rank l → k ≡ l
 same_kind Deb Deb h = refl
 same_kind Apk Apk h = refl
 same_kind Npm Npm h = refl
+same_kind Pypi Pypi h = refl
 same_kind k l h = cc
 
 pub same_package : (p q : Package) → package_cmp p q ≡ Equal → p ≡ q

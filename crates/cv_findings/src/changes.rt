@@ -5,6 +5,7 @@ ghost use Rattle.cv_findings.specs.Rows.{row_about, rows_of, same_fix};
 ghost use Rattle.cv_findings.specs.code.Walk.{change_between, walked};
 
 use cv_base::{Digest, Finding, NoMemory, Reason, Row, Seq, Text};
+use cv_match::compare_packages;
 use std::alloc::Global;
 use std::cmp::Ordering;
 
@@ -65,8 +66,7 @@ fn walk(
 fn compare(one: &Finding, other: &Finding) -> Ordering
     ensures { result ≡ finding_cmp one.now other.now }
 {
-    one.package
-        .cmp(&other.package)
+    compare_packages(&one.package, &other.package)
         .then_with(|| one.feed.cmp(&other.feed))
         .then_with(|| one.advisory.cmp(&other.advisory))
 }

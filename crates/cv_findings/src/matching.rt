@@ -3,6 +3,7 @@ ghost use Rattle.std.specs.List.{flat_map};
 ghost use Rattle.std.specs.Option.{option_copied};
 ghost use Rattle.cv_match.specs.Findings.{findings};
 ghost use Rattle.cv_match.specs.Keys.{is_key, is_named};
+ghost use Rattle.cv_match.specs.Prepared.{prepared_for};
 ghost use Rattle.cv_findings.specs.Pairs.{about_count, pair_count};
 ghost use Rattle.cv_findings.specs.code.Lookup.{found_by, found_once, found_under, is_tried, looked_up, tries_by, tries_once, tries_under};
 
@@ -145,7 +146,7 @@ fn match_listed<L: Ledger>(
     steps: &mut Steps<L>,
 ) -> Result<(), NoMemory>
     requires prepared { prepared.now ≡ «package».now }
-    requires prepared_record { listed.now.ready.now ≡ record { kind = «package».now.kind; advisory = listed.now.advisory.now } }
+    requires prepared_record { listed.now.ready.now ≡ prepared_for «package».now.kind listed.now.advisory.now }
     ensures found { OnOk result (out.new.items ≡ out.old.items ++ found_once (option_copied earlier.entry) «package».now (listed.now.feed.now, listed.now.advisory.now)) }
     ensures counted { steps.new ≤ steps.old + tries_once (option_copied earlier.entry) (listed.now.feed.now, listed.now.advisory.now) }
 {
