@@ -1,7 +1,7 @@
 -- The definitions, computed on examples.
 use Rattle.std.proofs.Common.{◌≡◌, ℕ, List, [], ◌∷◌, ◌++◌, refl, codes, Option, None, Some}
 use Rattle.std.specs.Str.{is_utf8, chars}
-use Rattle.cv_base.specs.declared.package.PackageKind.TheVariants.{Deb, Apk, Npm}
+use Rattle.cv_base.specs.declared.package.PackageKind.TheVariants.{Deb, Apk, Npm, Pypi}
 use Rattle.cv_osrel.specs.Ecosystem.{branch, eco}
 use Rattle.cv_osrel.specs.System.{os_of, trimmed, value_by}
 use Rattle.cv_osrel.specs.Value.{value_of}
@@ -61,4 +61,5 @@ table : (eco (at (codes "debian") (Some (codes "12"))) Npm ≡ codes "npm") × (
     × (eco (at (codes "debian") (Some (codes "12"))) Deb ≡ codes "Debian:12") × (eco (at (codes "debian") None) Deb ≡ codes "Debian")
     × (eco (at (codes "alpine") (Some (codes "3.18.4"))) Apk ≡ codes "Alpine:v3.18") × (eco (at (codes "alpine") (Some (codes "edge"))) Apk ≡ codes "Alpine")
     × (eco (at (codes "alpine") None) Apk ≡ codes "Alpine") × (eco (at (codes "ubuntu") (Some (codes "22.04"))) Deb ≡ codes "ubuntu:22.04") × (eco (at (codes "arch") None) Deb ≡ codes "arch")
-table = (refl, refl, refl, refl, refl, refl, refl, refl, refl, refl, refl)
+    × (eco (at (codes "debian") (Some (codes "12"))) Pypi ≡ codes "PyPI") × (eco None Pypi ≡ codes "PyPI")
+table = (refl, refl, refl, refl, refl, refl, refl, refl, refl, refl, refl, refl, refl)

@@ -1,11 +1,11 @@
--- The ecosystem of a package: a table defined by this project, in the form of the OSV schema (`Debian:12`, `Alpine:v3.18`, `npm`).
+-- The ecosystem of a package: a table defined by this project, in the form of the OSV schema (`Debian:12`, `Alpine:v3.18`, `npm`, `PyPI`).
 --
 -- `eco os kind` takes the system, or none where the root has no file os-release, and the kind of the package.
 use Rattle.std.specs.Prelude.{ℕ, ◌==◌, if◌then◌else◌, List, [], ◌∷◌, ◌++◌, codes, Option, None, Some}
 use Rattle.std.specs.Option.{option_map_or}
 use Rattle.cv_base.specs.Texts.{same}
 use Rattle.cv_base.specs.declared.package.PackageKind.{PackageKind}
-use Rattle.cv_base.specs.declared.package.PackageKind.TheVariants.{Deb, Apk, Npm}
+use Rattle.cv_base.specs.declared.package.PackageKind.TheVariants.{Deb, Apk, Npm, Pypi}
 use Rattle.cv_order.specs.Digits.{after_digits, front_digits}
 use Rattle.cv_osrel.specs.declared.name.OsName.{OsName}
 
@@ -41,8 +41,9 @@ system (Some os) =
     if same os.id (codes "debian") then versioned (codes "Debian") os.version
     else (if same os.id (codes "alpine") then alpine os.version else versioned os.id os.version)
 
--- the ecosystem of a package
+-- the ecosystem of a package: packages of npm and of Python have one ecosystem on every system
 abbrev pub eco : Option OsName → PackageKind → List ℕ
 eco os Deb = system os
 eco os Apk = system os
 eco os Npm = codes "npm"
+eco os Pypi = codes "PyPI"

@@ -8,13 +8,14 @@ use crate::name::OsName;
 use cv_base::{NoMemory, PackageKind, Text};
 use std::alloc::Global;
 
-/// The ecosystem of a package in the form of OSV, as `Debian:12`, `Alpine:v3.18` or `npm`. There is no system if the
+/// The ecosystem of a package in the form of OSV, as `Debian:12`, `Alpine:v3.18`, `npm` or `PyPI`. There is no system if the
 /// root has no file os-release.
 pub fn ecosystem(alloc: Global, os: Option<&OsName>, kind: PackageKind) -> Result<Text, NoMemory>
     ensures { IfOk result (λ text. text ≡ eco (option_map (λ o. o.now) os.entry) kind) }
 {
     match kind {
         PackageKind::Npm => Text::of(alloc, "npm"),
+        PackageKind::Pypi => Text::of(alloc, "PyPI"),
         PackageKind::Deb | PackageKind::Apk => system(alloc, os),
     }
 }
