@@ -31,10 +31,10 @@ module _ (T V A : RattleType) (g : Allocator.Ghosts A.Denot) where
 pub seat_sync : IsSync seat.the_row
 seat_sync = search (pass_sync, stealer_sync, crosses, sendable, declared_sync, declared_send) depth 60 fits 20000
 
--- so may a queue_owners
-pub chest_sync : IsSync queue_owners.the_row
-chest_sync = search (end_sync, inner_sent.the_send, inner_sent.the_sync, crosses, sendable, declared_sync, declared_send) depth 60 fits 20000
+-- so may the owners of the queues
+pub owners_sync : IsSync queue_owners.the_row
+owners_sync = search (end_sync, inner_sent.the_send, inner_sent.the_sync, crosses, sendable, declared_sync, declared_send) depth 60 fits 20000
 
 -- and a hand
 pub hand_sync : IsSync hand.the_row
-hand_sync = search (seat_sync, chest_sync, crosses, sendable, declared_sync) depth 60 fits 20000
+hand_sync = search (seat_sync, owners_sync, crosses, sendable, declared_sync) depth 60 fits 20000

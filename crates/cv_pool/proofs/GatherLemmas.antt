@@ -164,14 +164,14 @@ from_to : (fill : Fill) (from : ℕ) (hs : List HandState) (to : ℕ) → AreHan
 from_to fill from [] to hands = (let e = hands in omega arith)
 from_to fill from (h ∷ hs) to hands = let e = from_to fill (from + 1) hs to hands.2 in omega arith
 
--- the queue_owners of the first hand, which fits the hands of its fill
+-- the owners of the queues, which lie in the first hand and fit the hands of its fill
 pub record Opened (fill : Fill) (c : QueueOwners) (rest : List HandState) : Type 0 where
   pub kept : ℕ
   pub queue_owners : AreQueueOwners fill.jobs fill.deques kept c
   pub of : AreOfDeques (map owner_deque c.owners.items) rest
   pub count : length fill.deques ≡ length rest + 1
 
--- the first hand has the queue_owners
+-- the first hand has the owners of the queues
 pub opened : (n index : ℕ) (seats : List Seat) (list : Vec ℕ) (queue_owners : Option QueueOwners) (c : QueueOwners) (first : HandState) (rest : List HandState) (fill : Fill)
     → hand_state n index seats list.items ≡ first → IsHand n index seats list queue_owners → queue_owners ≡ Some c → AreHandsOf fill (first ∷ rest) → Opened fill c rest
 opened n index seats list queue_owners c first rest fill is hand some all =

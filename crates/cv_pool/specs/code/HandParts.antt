@@ -14,7 +14,7 @@ use Rattle.cv_pool.specs.code.Owners.{owner_deque, IsOwner, owners_dealt}
 abbrev pub hand_state : ℕ → ℕ → List Seat → List ℕ → HandState
 hand_state jobs index seats list = record { fill = record { deques = map seat_deque seats; jobs = jobs; dealt = map seat_jobs seats }; index = index; list = list; done = not (any_more seats) }
 
--- a queue_owners has the owners of the deques, each with the shares that no hand has, and an empty list with room for all lists
+-- the queue owners are the owners of the deques, each with the shares that no hand has, and an empty list with room for all lists
 pub record AreQueueOwners (jobs : ℕ) (deques : List ((ℕ × ℕ) × Global)) (kept : ℕ) (c : QueueOwners) : Type 0 where
   pub deques_of : map owner_deque c.owners.items ≡ deques
   pub keeps_a_share : 0 < kept
@@ -24,12 +24,12 @@ pub record AreQueueOwners (jobs : ℕ) (deques : List ((ℕ × ℕ) × Global)) 
   pub empty : c.lists.items ≡ []
   pub room : length deques ≤ vec_capacity c.lists
 
--- the queue_owners holds these deques, if there is one
+-- the owners of the queues hold these deques, if there is one
 abbrev pub HasQueueOwners : ℕ → List ((ℕ × ℕ) × Global) → Option QueueOwners → Type 0
 HasQueueOwners jobs deques None = ⊥
 HasQueueOwners jobs deques (Some c) = (kept : ℕ) × AreQueueOwners jobs deques kept c
 
--- a hand: its list has the jobs that it took at its seats, and room for all jobs; the first hand has the queue_owners
+-- a hand: its list has the jobs that it took at its seats, and room for all jobs; the first hand has the owners of the queues
 pub record IsHand (jobs index : ℕ) (seats : List Seat) (list : Vec ℕ) (queue_owners : Option QueueOwners) : Type 0 where
   pub place : index < length seats
   pub seated : AllByRecursion IsSeated seats

@@ -6,7 +6,7 @@ use Rattle.cv_pool.specs.code.Gathering.{AreOfDeques}
 use Rattle.cv_pool.proofs.GatherLemmas.{Opened, opened}
 use Rattle.cv_pool.proofs.taken.gather.Goals as goal
 
--- the first hand's queue_owners
+-- the owners of the queues, which the first hand has
 queue_owners : (c : goal.After-lists-1) → Opened c.requires.0 c.in-Some-queue_owners.queue_owners c.pop_front.new.self.items
 queue_owners c =
     let all : AreHandsOf c.requires.0 (c.in-Some.first ∷ c.pop_front.new.self.items) = subst (AreHandsOf c.requires.0) (sym c.from_vec-hands.ensures.items ∙ c.in-Some.ensures.items) c.requires.1 in
