@@ -3,15 +3,15 @@ use Rattle.std.proofs.Common.{◌≡◌, ℕ, Bool, true, false, List, [], ◌�
 use Rattle.serde_json.specs.View.{items_of}
 use Rattle.serde_json.specs.Written.{has_float, items_have_float}
 use Rattle.cv_drill.specs.Lines.{numbers}
-use Rattle.cv_drill.specs.Records.{affected_data, debian_data, entry_data, fixed_data, is_kept, last_affected_data, minor, npm_data, range_data, record_data, update_data}
+use Rattle.cv_drill.specs.Records.{affected_data, debian_data, entry_data, fixed_data, introduced_data, is_kept, last_affected_data, minor, npm_data, package_data, range_data, record_data, update_data}
 use Rattle.cv_drill.specs.declared.record.Update.{Update}
 
 debian_has_none : (m j : ℕ) → has_float (debian_data m j) ≡ false
-unfolding debian_data entry_data range_data fixed_data
+unfolding debian_data entry_data package_data range_data introduced_data fixed_data
 debian_has_none m j = refl
 
 npm_has_none : (m j : ℕ) → has_float (npm_data m j) ≡ false
-unfolding npm_data entry_data range_data last_affected_data
+unfolding npm_data entry_data package_data range_data introduced_data last_affected_data
 npm_has_none m j = refl
 
 affected_has_none : (m j : ℕ) (even : Bool) → nat_eq (j % 2) 0 ≡ even → has_float (affected_data m j) ≡ false

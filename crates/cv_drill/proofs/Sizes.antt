@@ -15,7 +15,7 @@ use Rattle.serde_json.specs.Written.{comma_if, compact_text, items_text, members
 use Rattle.cv_base.specs.Digest.{digest_text}
 use Rattle.cv_drill.specs.Images.{role_digest, lane, layer_data, layers, lower_layers, register_data, report_data}
 use Rattle.cv_drill.specs.Lines.{json_text, lines_text}
-use Rattle.cv_drill.specs.Records.{affected_data, debian_data, entry_data, fixed_data, is_kept, last_affected_data, minor, name, npm_data, range_data, record_data, record_id, update_data}
+use Rattle.cv_drill.specs.Records.{affected_data, debian_data, entry_data, fixed_data, introduced_data, is_kept, last_affected_data, minor, name, npm_data, package_data, range_data, record_data, record_id, update_data}
 use Rattle.cv_drill.specs.Script.{list_data, register_lines, report_lines, round_end, script, script_lines}
 use Rattle.cv_drill.specs.declared.digest.Role.{Role}
 use Rattle.cv_drill.specs.declared.digest.Role.TheVariants.{System, Database, Modules, Opaque, Image}
@@ -141,11 +141,11 @@ minor_within Second j h = by (nat_eq (j % 3) 1) (div-le_self j 40) where
   by false less = omega (arith, h, less)
 
 debian_within : (m j : ℕ) → m < 2 ^ 64 → most (debian_data m j) ≤ 1200
-unfolding debian_data entry_data range_data fixed_data
+unfolding debian_data entry_data package_data range_data introduced_data fixed_data
 debian_within m j h = omega (arith, name_within (codes "p") j refl, version_within m (codes "-1") h refl)
 
 npm_within : (m j : ℕ) → m < 2 ^ 64 → most (npm_data m j) ≤ 1200
-unfolding npm_data entry_data range_data last_affected_data
+unfolding npm_data entry_data package_data range_data introduced_data last_affected_data
 npm_within m j h = omega (arith, name_within (codes "n") j refl, version_within m (codes ".0") h refl)
 
 affected_within : (m j : ℕ) → m < 2 ^ 64 → most (affected_data m j) ≤ 1200

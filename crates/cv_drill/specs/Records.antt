@@ -25,19 +25,23 @@ abbrev pub minor : Update → ℕ → ℕ
 minor First j = j / 40
 minor Second j = if j % 3 == 1 then j / 40 + 1 else j / 40
 
+-- the event of the first version
+unfoldable pub introduced_data : Data
+introduced_data = object (member (codes "introduced") (string (codes "0")) no_members)
+
 -- the versions of a type, from the first one on to an event
 unfoldable pub range_data : List ℕ → Data → Data
 range_data kind last =
-    object (member (codes "events")
-    (array (item (object (member (codes "introduced") (string (codes "0")) no_members)) (item last no_items)))
-    (member (codes "type") (string kind) no_members))
+    object (member (codes "events") (array (item introduced_data (item last no_items))) (member (codes "type") (string kind) no_members))
+
+-- a package by its ecosystem and its name
+unfoldable pub package_data : List ℕ → List ℕ → Data
+package_data ecosystem called = object (member (codes "ecosystem") (string ecosystem) (member (codes "name") (string called) no_members))
 
 -- a package of an ecosystem, with a range
 unfoldable pub entry_data : List ℕ → List ℕ → Data → Data
 entry_data ecosystem called range =
-    object (member (codes "package")
-    (object (member (codes "ecosystem") (string ecosystem) (member (codes "name") (string called) no_members)))
-    (member (codes "ranges") (array (item range no_items)) no_members))
+    object (member (codes "package") (package_data ecosystem called) (member (codes "ranges") (array (item range no_items)) no_members))
 
 -- the version that has the fix
 unfoldable pub fixed_data : ℕ → Data

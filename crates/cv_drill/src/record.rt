@@ -1,7 +1,7 @@
 ghost use Rattle.std.specs.Prelude.{◌≡◌, ◌≤◌, ◌<◌, IfOk, map, string_bytes, codes};
 ghost use Rattle.serde_json.specs.Data.{array};
 ghost use Rattle.serde_json.specs.View.{items_of, view};
-ghost use Rattle.cv_drill.specs.Records.{affected_data, debian_data, entry_data, fixed_data, is_kept, last_affected_data, minor, name, npm_data, range_data, record_data, record_id, records, update_data};
+ghost use Rattle.cv_drill.specs.Records.{affected_data, debian_data, entry_data, fixed_data, introduced_data, is_kept, last_affected_data, minor, name, npm_data, package_data, range_data, record_data, record_id, records, update_data};
 
 use cv_base::NoMemory;
 use serde_json::{Value, json};
@@ -108,7 +108,16 @@ fn npm_value(alloc: Global, minor: u32, number: u32) -> Result<Value, NoMemory>
 fn entry_value(alloc: Global, ecosystem: &str, name: &str, range: Value) -> Result<Value, NoMemory>
     ensures { IfOk result (λ value. view value ≡ entry_data ecosystem.now name.now (view range)) }
 {
-    Ok(json!(in alloc; {"package": {"ecosystem": ecosystem, "name": name}, "ranges": [range]})?)
+    let package = package_value(alloc, ecosystem, name)?;
+    Ok(json!(in alloc; {"package": package, "ranges": [range]})?)
+}
+
+/// A package by its ecosystem and its name.
+#[tactic(auto, unfolding(crate::specs::Records::package_data))]
+fn package_value(alloc: Global, ecosystem: &str, name: &str) -> Result<Value, NoMemory>
+    ensures { IfOk result (λ value. view value ≡ package_data ecosystem.now name.now) }
+{
+    Ok(json!(in alloc; {"ecosystem": ecosystem, "name": name})?)
 }
 
 /// A range of a type, from the first version on to an event.
@@ -116,7 +125,16 @@ fn entry_value(alloc: Global, ecosystem: &str, name: &str, range: Value) -> Resu
 fn range_value(alloc: Global, kind: &str, last: Value) -> Result<Value, NoMemory>
     ensures { IfOk result (λ value. view value ≡ range_data kind.now (view last)) }
 {
-    Ok(json!(in alloc; {"events": [{"introduced": "0"}, last], "type": kind})?)
+    let first = introduced_value(alloc)?;
+    Ok(json!(in alloc; {"events": [first, last], "type": kind})?)
+}
+
+/// The event of the first version.
+#[tactic(auto, unfolding(crate::specs::Records::introduced_data))]
+fn introduced_value(alloc: Global) -> Result<Value, NoMemory>
+    ensures { IfOk result (λ value. view value ≡ introduced_data) }
+{
+    Ok(json!(in alloc; {"introduced": "0"})?)
 }
 
 /// The event of the version that has the fix.
