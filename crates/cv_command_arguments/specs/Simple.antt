@@ -1,12 +1,17 @@
 -- The simple commands of clap (version 4, by the meaning that its specification in Rattle's kit gives them), and what is read by
 -- them.
-use Rattle.std.specs.Prelude.{ℕ, Bool, true, false, ◌&&◌, nat_le, nat_lt, if◌then◌else◌, List, [], ◌∷◌, Option, Some, None, option_and_then}
+use Rattle.std.specs.Prelude.{ℕ, Bool, true, false, ◌&&◌, nat_le, nat_lt, if◌then◌else◌, List, [], ◌∷◌, map, Option, Some, None, option_and_then, string_bytes}
+use Rattle.std.specs.declared.string.String.{String}
 use Rattle.std.specs.Str.Parse.{digits_value, without_leading_plus}
 use Rattle.clap.specs.Kinds.{Kinds}
 use Rattle.clap.specs.Faults.{fault_of}
 use Rattle.clap.specs.Simple.{App, matches_of, new_app, on_top}
 use Rattle.clap.specs.ValueTests.{is_numeral}
 use Rattle.clap.specs.Walk.{Row, Text}
+
+-- arguments as texts
+abbrev pub texts_of : {Z : Type 0} → List (String Z) → List Text
+texts_of arguments = map (λ argument. string_bytes argument) arguments
 
 -- a command without arguments, of which all arguments are read and none is for help
 abbrev pub app_named : Text → App

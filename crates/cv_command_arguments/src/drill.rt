@@ -1,6 +1,7 @@
-ghost use Rattle.std.specs.Prelude.{◌≡◌, true, is_some, IfOk, map, string_bytes};
+ghost use Rattle.std.specs.Prelude.{◌≡◌, true, is_some, IfOk};
 ghost use Rattle.clap.specs.Words.{app_of, found_of, is_simple_and_free, rows_of};
 ghost use Rattle.cv_command_arguments.specs.Forms.{drill_app, drill_rows, seed_in, seed_of};
+ghost use Rattle.cv_command_arguments.specs.Simple.{texts_of};
 
 use crate::simple::{command_named, number_in, read};
 use clap::builder::ValueParser;
@@ -11,8 +12,8 @@ use std::alloc::{AllocError, Global};
 /// The seed of a drill, if the arguments are taken.
 #[tactic(auto, using(crate::proofs::DrillForm::seed_given))]
 pub fn seed_of(alloc: Global, arguments: &[String]) -> Result<Option<u32>, NoMemory>
-    ensures value { IfOk result (λ found. found ≡ seed_of (map (λ argument. string_bytes argument) arguments.now)) }
-    ensures taken { IfOk result (λ found. is_some found ≡ is_some (drill_rows (map (λ argument. string_bytes argument) arguments.now))) }
+    ensures value { IfOk result (λ found. found ≡ seed_of (texts_of arguments.now)) }
+    ensures taken { IfOk result (λ found. is_some found ≡ is_some (drill_rows (texts_of arguments.now))) }
 {
     let command = drill_command(alloc)?;
     match read(command, arguments)? {

@@ -1,7 +1,8 @@
-ghost use Rattle.std.specs.Prelude.{◌≡◌, ◌∷◌, [], true, codes, is_some, IfOk, map, option_and_then, string_bytes};
+ghost use Rattle.std.specs.Prelude.{◌≡◌, ◌∷◌, [], true, codes, is_some, IfOk, map, option_and_then};
 ghost use Rattle.std.specs.Option.{option_map};
 ghost use Rattle.clap.specs.Words.{app_of, first_of, found_of, is_simple_and_free, rows_of, with_rule};
 ghost use Rattle.cv_command_arguments.specs.Forms.{comparison, comparison_in, comparison_of, order_app, order_rows, package_names, packages_named, packages_rule, required_rule};
+ghost use Rattle.cv_command_arguments.specs.Simple.{texts_of};
 ghost use Rattle.cv_command_arguments.specs.Versions.{comparison_by};
 
 use crate::simple::{command_named, read, text_in};
@@ -35,8 +36,8 @@ pub fn versions_of<'a>(
     alloc: Global,
     arguments: &'a [String],
 ) -> Result<Option<Versions<'a>>, NoMemory>
-    ensures value { IfOk result (λ found. option_map comparison_by found ≡ comparison_of (map (λ argument. string_bytes argument) arguments.entry.now)) }
-    ensures taken { IfOk result (λ found. is_some found ≡ is_some (order_rows (map (λ argument. string_bytes argument) arguments.entry.now))) }
+    ensures value { IfOk result (λ found. option_map comparison_by found ≡ comparison_of (texts_of arguments.entry.now)) }
+    ensures taken { IfOk result (λ found. is_some found ≡ is_some (order_rows (texts_of arguments.entry.now))) }
 {
     match order_matches(alloc, arguments)? {
         Some(matches) => Ok(versions_in(&matches)),
@@ -49,7 +50,7 @@ fn order_matches<'a>(
     alloc: Global,
     arguments: &'a [String],
 ) -> Result<Option<ArgMatches<'a>>, NoMemory>
-    ensures { IfOk result (λ found. option_map (λ matches. rows_of (found_of matches)) found ≡ order_rows (map (λ argument. string_bytes argument) arguments.entry.now)) }
+    ensures { IfOk result (λ found. option_map (λ matches. rows_of (found_of matches)) found ≡ order_rows (texts_of arguments.entry.now)) }
 {
     let command = order_command(alloc, package_names())?;
     read(command, arguments)

@@ -1,6 +1,7 @@
-ghost use Rattle.std.specs.Prelude.{◌≡◌, true, IfOk, map, string_bytes};
+ghost use Rattle.std.specs.Prelude.{◌≡◌, true, IfOk};
 ghost use Rattle.clap.specs.Words.{app_of, found_of, is_simple_and_free, rows_of};
 ghost use Rattle.cv_command_arguments.specs.Forms.{serve_app, workers_in, workers_of};
+ghost use Rattle.cv_command_arguments.specs.Simple.{texts_of};
 
 use crate::simple::{command_named, number_in, read};
 use clap::builder::ValueParser;
@@ -10,7 +11,7 @@ use std::alloc::{AllocError, Global};
 
 /// What the arguments of a service say of its workers: a number from 1 to 8, or nothing. None, if they are not taken.
 pub fn workers_of(alloc: Global, arguments: &[String]) -> Result<Option<Option<u32>>, NoMemory>
-    ensures { IfOk result (λ found. found ≡ workers_of (map (λ argument. string_bytes argument) arguments.now)) }
+    ensures { IfOk result (λ found. found ≡ workers_of (texts_of arguments.now)) }
 {
     let command = serve_command(alloc)?;
     match read(command, arguments)? {

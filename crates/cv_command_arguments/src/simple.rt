@@ -1,7 +1,7 @@
-ghost use Rattle.std.specs.Prelude.{◌≡◌, ◌≢◌, ◌≤◌, ◌<◌, ◌^◌, true, IfOk, map, string_bytes, option_and_then};
+ghost use Rattle.std.specs.Prelude.{◌≡◌, ◌≢◌, ◌≤◌, ◌<◌, ◌^◌, true, IfOk, option_and_then};
 ghost use Rattle.std.specs.Option.{option_map};
 ghost use Rattle.clap.specs.Words.{app_of, first_of, found_of, is_simple_and_free, one_of, rows_of};
-ghost use Rattle.cv_command_arguments.specs.Simple.{app_named, number, number_in, rows_by};
+ghost use Rattle.cv_command_arguments.specs.Simple.{app_named, number, number_in, rows_by, texts_of};
 
 use clap::error::ErrorKind;
 use clap::{ArgMatches, Command};
@@ -23,7 +23,7 @@ pub fn read<'a>(
     arguments: &'a [String],
 ) -> Result<Option<ArgMatches<'a>>, NoMemory>
     requires simple { is_simple_and_free (app_of command) ≡ true }
-    ensures { IfOk result (λ found. option_map (λ matches. rows_of (found_of matches)) found ≡ rows_by (app_of command.entry) (map (λ argument. string_bytes argument) arguments.entry.now)) }
+    ensures { IfOk result (λ found. option_map (λ matches. rows_of (found_of matches)) found ≡ rows_by (app_of command.entry) (texts_of arguments.entry.now)) }
 {
     match command.try_get_matches_from(arguments) {
         Ok(matches) => Ok(Some(matches)),
