@@ -20,10 +20,13 @@ fn ecosystems_have_the_form_of_osv(rt: HostRuntime) -> Result<(), Fail> {
         let id = Text::of(alloc, id)?;
         let os = OsName { id, version };
         let deb = ecosystem(alloc, Some(&os), PackageKind::Deb)?;
-        assert_eq!(rt; deb.as_str(), want, "{want}");
+        let pypi = ecosystem(alloc, Some(&os), PackageKind::Pypi)?;
+        assert_eq!(rt; (deb.as_str(), pypi.as_str()), (want, "PyPI"), "{want}");
     }
     let none = ecosystem(alloc, None, PackageKind::Apk)?;
     let npm = ecosystem(alloc, None, PackageKind::Npm)?;
-    assert_eq!(rt; (none.as_str(), npm.as_str()), ("unknown", "npm"));
+    let pypi = ecosystem(alloc, None, PackageKind::Pypi)?;
+    let found = (none.as_str(), npm.as_str(), pypi.as_str());
+    assert_eq!(rt; found, ("unknown", "npm", "PyPI"));
     Ok(())
 }
