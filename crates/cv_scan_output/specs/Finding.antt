@@ -4,13 +4,14 @@ use Rattle.std.specs.List.{join_with_byte}
 use Rattle.serde_json.specs.Data.{Data, Items, no_items, item, no_members, member, null, string, array, object}
 use Rattle.cv_base.specs.declared.finding.Finding.{Finding}
 use Rattle.cv_base.specs.declared.package.PackageKind.{PackageKind}
-use Rattle.cv_base.specs.declared.package.PackageKind.TheVariants.{Deb, Apk, Npm}
+use Rattle.cv_base.specs.declared.package.PackageKind.TheVariants.{Deb, Apk, Npm, Pypi}
 
 -- a kind by its word
 abbrev pub kind_text : PackageKind → List ℕ
 kind_text Deb = codes "deb"
 kind_text Apk = codes "apk"
 kind_text Npm = codes "npm"
+kind_text Pypi = codes "pypi"
 
 -- a text, or null if there is none
 abbrev pub fixed_data : Option (List ℕ) → Data

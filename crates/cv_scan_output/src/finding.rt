@@ -58,5 +58,6 @@ fn kind_text(kind: PackageKind) -> &'static str
         PackageKind::Deb => "deb",
         PackageKind::Apk => "apk",
         PackageKind::Npm => "npm",
+        PackageKind::Pypi => "pypi",
     }
 }
