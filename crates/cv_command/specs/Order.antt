@@ -1,5 +1,5 @@
--- What the command `order` prints (defined by this project): how two versions compare, by the order of Debian, of Alpine or
--- of semantic versions, or which of the two is not a valid version.
+-- What the command `order` prints (defined by this project): how two versions compare, by the order of Debian, of Alpine, of
+-- semantic versions or of PEP 440, or which of the two is not a valid version.
 use Rattle.std.specs.Prelude.{ℕ, if◌then◌else◌, List, codes}
 use Rattle.std.specs.Option.{option_map_or}
 use Rattle.std.specs.declared.cmp.Ordering.TheVariants.{Less, Equal, Greater}
@@ -7,7 +7,7 @@ use Rattle.cv_command_arguments.specs.Forms.{Comparison, comparison_of}
 use Rattle.cv_command_arguments.specs.declared.order.Packages.{Packages}
 use Rattle.cv_command_arguments.specs.declared.order.Packages.TheVariants as packages
 use Rattle.cv_base.specs.declared.«package».PackageKind.{PackageKind}
-use Rattle.cv_base.specs.declared.«package».PackageKind.TheVariants.{Deb, Apk, Npm}
+use Rattle.cv_base.specs.declared.«package».PackageKind.TheVariants.{Deb, Apk, Npm, Pypi}
 use Rattle.cv_match.specs.Order.{is_version_of, version_cmp_of}
 use Rattle.cv_command.specs.Printed.{Printed, usage}
 use Rattle.cv_command.specs.declared.order.Compared.{Compared}
@@ -20,6 +20,7 @@ abbrev pub kind_of : Packages → PackageKind
 kind_of packages.Deb = Deb
 kind_of packages.Apk = Apk
 kind_of packages.Semver = Npm
+kind_of packages.Pypi = Pypi
 
 -- how two texts compare, or the first one that is not a valid version
 abbrev pub compared_as : PackageKind → List ℕ → List ℕ → Compared

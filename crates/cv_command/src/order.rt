@@ -13,7 +13,7 @@ use cv_base::{NoMemory, PackageKind, Text};
 use cv_command_arguments::{Packages, Versions, versions_of};
 use cv_io::Sink;
 use cv_match::SemanticVersion;
-use cv_match_range::{ApkRule, DebRule, VersionRule};
+use cv_match_range::{ApkRule, DebRule, PypiRule, VersionRule};
 use std::alloc::Global;
 use std::cmp::Ordering;
 
@@ -27,7 +27,7 @@ pub enum Compared {
     NotSecond,
 }
 
-/// Prints how two versions compare. The arguments are `deb`, `apk` or `semver`, and the two; all other arguments print
+/// Prints how two versions compare. The arguments are `deb`, `apk`, `semver` or `pypi`, and the two; all other arguments print
 /// the usage line.
 #[tactic(auto, unfolding(crate::specs::Order::order_of))]
 pub fn order_command<K: Sink>(alloc: Global, arguments: &[String], output: &mut K) -> Status
@@ -61,6 +61,7 @@ fn kind_of(packages: Packages) -> PackageKind
         Packages::Deb => PackageKind::Deb,
         Packages::Apk => PackageKind::Apk,
         Packages::Semver => PackageKind::Npm,
+        Packages::Pypi => PackageKind::Pypi,
     }
 }
 
@@ -76,6 +77,7 @@ fn compare_as(
         PackageKind::Deb => Ok(compare_by::<DebRule>(first.as_bytes(), second.as_bytes())),
         PackageKind::Apk => Ok(compare_by::<ApkRule>(first.as_bytes(), second.as_bytes())),
         PackageKind::Npm => compare_semantic(alloc, first, second),
+        PackageKind::Pypi => Ok(compare_by::<PypiRule>(first.as_bytes(), second.as_bytes())),
     }
 }
 
