@@ -91,12 +91,13 @@ fn texts(alloc: Global, words: &[&str]) -> Result<Vec<Text>, NoMemory> {
     Ok(out)
 }
 
-/// What is found for an npm package and a Debian one.
+/// What is found for a Python package, an npm package and a Debian one.
 fn found_rows(alloc: Global, given: &[(&str, &[(&str, &str, &str)])]) -> Result<Vec<Text>, Fail> {
     let advisories = records(alloc, given)?;
     let npm = installed(alloc, PackageKind::Npm, "lodash", "zlib", "npm")?;
     let deb = installed(alloc, PackageKind::Deb, "zlib1g", "zlib", "Debian:12")?;
-    let packages = vec![in alloc; npm, deb]?;
+    let pypi = installed(alloc, PackageKind::Pypi, "Foo.Bar", "foo-bar", "PyPI")?;
+    let packages = vec![in alloc; pypi, npm, deb]?;
     let feed = Text::of(alloc, "a")?;
     let found = find_all(alloc, packages.as_slice(), &feed, advisories.as_slice())?;
     Ok(rows(alloc, found.as_slice())?)
@@ -105,7 +106,7 @@ fn found_rows(alloc: Global, given: &[(&str, &[(&str, &str, &str)])]) -> Result<
 #[test]
 fn packages_have_the_findings_of_the_records_that_name_them(rt: HostRuntime) -> Result<(), Fail> {
     let alloc = rt.alloc();
-    let releases: [(&str, &[(&str, &str, &str)]); 7] = [
+    let releases: [(&str, &[(&str, &str, &str)]); 9] = [
         ("X-3", &[("Debian", "zlib", "3")]),
         ("X-2", &[("Debian:12", "zlib", "2")]),
         ("X-4", &[("Debian:11", "zlib", "2")]),
@@ -116,10 +117,30 @@ fn packages_have_the_findings_of_the_records_that_name_them(rt: HostRuntime) -> 
         ),
         ("X-6", &[("npm", "zlib", "2")]),
         ("X-7", &[("npm", "lodash", "4.17.21")]),
+        ("X-8", &[("PyPI", "foo-bar", "1.0.0.post1")]),
+        ("X-9", &[("PyPI", "Foo.Bar", "2")]),
     ];
     let want = [
-        "zlib1g", "a", "X-1", "4", "zlib1g", "a", "X-2", "2", "zlib1g", "a", "X-3", "3", "lodash",
-        "a", "X-7", "4.17.21",
+        "zlib1g",
+        "a",
+        "X-1",
+        "4",
+        "zlib1g",
+        "a",
+        "X-2",
+        "2",
+        "zlib1g",
+        "a",
+        "X-3",
+        "3",
+        "lodash",
+        "a",
+        "X-7",
+        "4.17.21",
+        "Foo.Bar",
+        "a",
+        "X-8",
+        "1.0.0.post1",
     ];
     assert_eq!(rt;
         found_rows(alloc, &releases)?.as_slice(),

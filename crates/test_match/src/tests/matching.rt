@@ -41,12 +41,20 @@ deb Debian:11 ecosystem introduced=0,fixed=1:1.3 1:1.2.13.dfsg-1 no
 deb Debian:12 ecosystem introduced=0,fixed=3.0.11-1 3.0.9-1 3.0.11-1
 apk Alpine:v3.18 ecosystem introduced=0,fixed=3.1.2-r0 3.1.1-r1 3.1.2-r0
 npm npm semver introduced=0,fixed=1.0.1 1.0.0 1.0.1
+pypi PyPI ecosystem introduced=0,fixed=1.0.post1 1.0 1.0.post1
+pypi PyPI ecosystem introduced=0,fixed=1.0 v1.0.0RC1 1.0
+pypi PyPI ecosystem introduced=0,fixed=1.0 1.0+abc no
+pypi PyPI ecosystem introduced=0,last_affected=2!1 2!1+1 no
+pypi PyPI ecosystem introduced=0,fixed=1.0 0.9x no
+pypi PyPI semver introduced=0,fixed=1.2.0 1.1.0 no
+pypi npm ecosystem introduced=0 1.0 no
 ";
 
 fn package_kind(word: &str) -> PackageKind {
     match word {
         "deb" => PackageKind::Deb,
         "apk" => PackageKind::Apk,
+        "pypi" => PackageKind::Pypi,
         _ => PackageKind::Npm,
     }
 }
@@ -136,13 +144,14 @@ fn package(
     })
 }
 
-/// A package of the source `a`, itself named `b`, for deb and apk, whose source has this version; for npm the package itself is `a`
-/// and has it.
+/// A package of the source `a`, itself named `b`, for deb, apk and pypi, whose source has this version; for npm the package itself
+/// is `a` and has it.
 fn installed(alloc: Global, kind: PackageKind, version: &str) -> Result<Package, Fail> {
     match kind {
         PackageKind::Deb => package(alloc, (kind, "Debian:12"), ("b", "9"), ("a", version)),
         PackageKind::Apk => package(alloc, (kind, "Alpine:v3.18"), ("b", "9"), ("a", version)),
         PackageKind::Npm => package(alloc, (kind, "npm"), ("a", version), ("b", "9")),
+        PackageKind::Pypi => package(alloc, (kind, "PyPI"), ("b", "9"), ("a", version)),
     }
 }
 
@@ -222,6 +231,7 @@ fn a_package_has_a_key_for_its_ecosystem_and_one_for_the_part_before_the_colon(
 ) -> Result<(), Fail> {
     assert_eq!(rt; key_count(rt.alloc(), PackageKind::Deb)?, 2);
     assert_eq!(rt; key_count(rt.alloc(), PackageKind::Npm)?, 1);
+    assert_eq!(rt; key_count(rt.alloc(), PackageKind::Pypi)?, 1);
     Ok(())
 }
 
