@@ -68,6 +68,12 @@ alpine =
     ∷ dir (codes "lib") ∷ dir (codes "lib/apk") ∷ dir (codes "lib/apk/db")
     ∷ file (codes "lib/apk/db/installed") (codes "P:libcrypto3\nV:3.1.1-r1\nA:x86_64\no:openssl\n\n") ∷ []
 
+-- a Python package
+abbrev pub python : List Row
+python =
+    dir (codes "opt") ∷ dir (codes "opt/Foo_Bar-1.0.dist-info")
+    ∷ file (codes "opt/Foo_Bar-1.0.dist-info/METADATA") (codes "Name: Foo.Bar\nVersion: 1.0\n\ntext\n") ∷ []
+
 -- a status file whose line 3 has no colon
 abbrev pub broken : List Row
 broken = with_dpkg (status_file (codes "Package: a\nStatus: install ok installed\nnocolon\n") ∷ [])
@@ -88,7 +94,8 @@ rows_by byte =
     else (if byte == 85 then Some (file (codes ".wh.") [] ∷ [])
     else (if byte == 102 then Some (file (codes ".wh..wh..opq") [] ∷ [])
     else (if byte == 119 then Some (debian short_status)
-    else None))))))))))))
+    else (if byte == 136 then Some python
+    else None)))))))))))))
 
 -- the rows of a digest, by its first byte
 abbrev pub rows_of : List ℕ → Option (List Row)

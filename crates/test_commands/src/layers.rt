@@ -82,6 +82,16 @@ static FOLDER: [TableEntry; 4] = dpkg_rows![entry!("var/lib/dpkg/status")];
 /// Takes all that the layers below have away.
 static EMPTIED: [TableEntry; 1] = [entry!(".wh..wh..opq", b"")];
 
+/// A Python package.
+static PYTHON: [TableEntry; 3] = [
+    entry!("opt"),
+    entry!("opt/Foo_Bar-1.0.dist-info"),
+    entry!(
+        "opt/Foo_Bar-1.0.dist-info/METADATA",
+        b"Name: Foo.Bar\nVersion: 1.0\n\ntext\n"
+    ),
+];
+
 /// Layers by the first byte of their digests.
 pub struct Layers;
 
@@ -104,6 +114,7 @@ impl Table for Layers {
             0x55 => Some(&MARKED),
             0x66 => Some(&EMPTIED),
             0x77 => Some(&SHORT),
+            0x88 => Some(&PYTHON),
             _ => None,
         }
     }

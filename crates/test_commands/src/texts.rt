@@ -2,7 +2,7 @@ use cv_base::NoMemory;
 use std::alloc::Global;
 
 /// Texts that stand in the tests for their names.
-static TEXTS: [(&str, &str); 10] = [
+static TEXTS: [(&str, &str); 14] = [
     // Debian's source package openssl, fixed in 3.0.11-1
     (
         "openssl",
@@ -40,6 +40,24 @@ static TEXTS: [(&str, &str); 10] = [
     (
         "module-y-found",
         r#"{"advisory":"N-2","arch":"","ecosystem":"npm","feed":"scan","fixed":null,"kind":"npm","name":"y","path":"srv/node_modules/y/package.json","source":"y","source_version":"1.0.0","version":"1.0.0"}"#,
+    ),
+    // the Python package foo-bar, fixed in 1.0.post1; by a semantic range; and under the name as the package itself writes it
+    (
+        "python-foo-bar",
+        r#"{"id":"P-1","modified":"2024-01-01T00:00:00Z","affected":[{"package":{"ecosystem":"PyPI","name":"foo-bar"},"ranges":[{"type":"ECOSYSTEM","events":[{"introduced":"0"},{"fixed":"1.0.post1"}]}]}]}"#,
+    ),
+    (
+        "python-semantic",
+        r#"{"id":"P-2","modified":"2024-01-01T00:00:00Z","affected":[{"package":{"ecosystem":"PyPI","name":"foo-bar"},"ranges":[{"type":"SEMVER","events":[{"introduced":"0"}]}]}]}"#,
+    ),
+    (
+        "python-written",
+        r#"{"id":"P-3","modified":"2024-01-01T00:00:00Z","affected":[{"package":{"ecosystem":"PyPI","name":"Foo.Bar"},"ranges":[{"type":"ECOSYSTEM","events":[{"introduced":"0"}]}]}]}"#,
+    ),
+    // what is found of foo-bar
+    (
+        "python-found",
+        r#"{"advisory":"P-1","arch":"","ecosystem":"PyPI","feed":"scan","fixed":"1.0.post1","kind":"pypi","name":"Foo.Bar","path":"opt/Foo_Bar-1.0.dist-info/METADATA","source":"foo-bar","source_version":"1.0","version":"1.0"}"#,
     ),
     // a finding of openssl by a feed of a service
     (

@@ -45,12 +45,13 @@ fn versions_are_read(rt: HostRuntime) -> Result<(), Fail> {
 }
 
 #[test]
-fn packages_have_one_of_three_names(rt: HostRuntime) -> Result<(), Fail> {
+fn packages_have_one_of_four_names(rt: HostRuntime) -> Result<(), Fail> {
     let alloc = rt.alloc();
     for (name, want) in [
         ("deb", Some(Packages::Deb)),
         ("apk", Some(Packages::Apk)),
         ("semver", Some(Packages::Semver)),
+        ("pypi", Some(Packages::Pypi)),
         ("rpm", None),
         ("npm", None),
         ("DEB", None),

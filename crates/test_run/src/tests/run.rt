@@ -32,9 +32,25 @@ fn a_scan_prints_its_findings(rt: HostRuntime) -> Result<(), NoMemory> {
 }
 
 #[test]
+fn a_scan_finds_a_python_package(rt: HostRuntime) -> Result<(), NoMemory> {
+    let input = scan_input(rt.alloc(), "8", "<python-foo-bar>")?;
+    let output = r#"{"findings":[<python-found>],"image":"<1>","reply":"good"}
+"#;
+    let want = (Status::Done, output);
+    let is_same = runs_to(&rt, rt.alloc(), &["scan"], input.as_str(), &CALM, want)?;
+    assert!(rt; is_same);
+    Ok(())
+}
+
+#[test]
 fn versions_compare(rt: HostRuntime) -> Result<(), NoMemory> {
-    let arguments = &["order", "deb", "1.0~rc1", "1.0"];
-    try_command(&rt, rt.alloc(), arguments, (Status::Done, "<\n"))
+    for arguments in [
+        &["order", "deb", "1.0~rc1", "1.0"],
+        &["order", "pypi", "1.0rc1", "1.0"],
+    ] {
+        try_command(&rt, rt.alloc(), arguments, (Status::Done, "<\n"))?;
+    }
+    Ok(())
 }
 
 #[test]

@@ -17,7 +17,7 @@ macro_rules! refused {
 }
 
 /// Images that are scanned: their layers, the lines of records, and the line with the findings. `<X-1>` is a record of openssl.
-pub static GOOD: [(&str, &str, &str); 15] = [
+pub static GOOD: [(&str, &str, &str); 16] = [
     ("a", "", good!("")),
     ("a", "<X-1>", good!("<openssl-found>")),
     // empty lines, and a record of another package
@@ -67,6 +67,12 @@ pub static GOOD: [(&str, &str, &str); 15] = [
     ("aba", "<X-1>", good!("<openssl-found>")),
     // a malformed file that is hidden
     ("fb", "<X-1>", good!("")),
+    // a Python package, which records have by its normalized name, and for which a semantic range does not count
+    (
+        "8",
+        "<python-semantic>\n<python-foo-bar>\n<python-written>",
+        good!("<python-found>"),
+    ),
 ];
 
 /// Images and inputs that are refused: the layers, the records, and the line that says why.

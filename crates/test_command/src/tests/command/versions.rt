@@ -14,6 +14,14 @@ pub static ORDERS: [(Status, &str, &[&[&str]]); 5] = [
             &["apk", "1.2a", "1.2.0"],
             &["apk", "1.2.0", "1.2.0-r1"],
             &["semver", "1.0.0-rc.1", "1.0.0"],
+            &["pypi", "1.0.dev1", "1.0a1"],
+            &["pypi", "1.0a1", "1.0a1.post1"],
+            &["pypi", "1.0a1.post1", "1.0rc1"],
+            &["pypi", "1.0rc1", "1.0"],
+            &["pypi", "1.0", "1.0+abc"],
+            &["pypi", "1.0+abc", "1.0+5"],
+            &["pypi", "1.0+5", "1.0.post1"],
+            &["pypi", "1.0.post1", "1!0"],
         ],
     ),
     (
@@ -22,6 +30,9 @@ pub static ORDERS: [(Status, &str, &[&[&str]]); 5] = [
         &[
             &["deb", "1.0", "1.0-0"],
             &["semver", "--", "1.0.0", "1.0.0"],
+            &["pypi", "1.0", "1.0.0"],
+            &["pypi", "1.0-1", "1.0.post1"],
+            &["pypi", "v1.0c1", "1.0RC1"],
         ],
     ),
     (
@@ -39,7 +50,11 @@ pub static ORDERS: [(Status, &str, &[&[&str]]); 5] = [
     (
         Status::Refused,
         "not a version: first\n",
-        &[&["deb", "a:1", "1"], &["deb", "a:1", "a:1"]],
+        &[
+            &["deb", "a:1", "1"],
+            &["deb", "a:1", "a:1"],
+            &["pypi", "1.0a. 1", "1"],
+        ],
     ),
     (
         Status::Refused,
@@ -49,8 +64,9 @@ pub static ORDERS: [(Status, &str, &[&[&str]]); 5] = [
 ];
 
 /// Arguments that are not a comparison.
-pub static USAGES: [&[&str]; 5] = [
+pub static USAGES: [&[&str]; 6] = [
     &["rpm", "1", "2"],
+    &["PyPI", "1", "2"],
     &["Deb", "1", "2"],
     &["", "1", "2"],
     &["deb", "1"],
