@@ -1,14 +1,16 @@
 -- A board answers as its state does.
-use Rattle.std.specs.Prelude.{◌≡◌, ℕ, Bool, true, false, cond, List, [], ◌∷◌, map, Option, Some, None, unwrap_or, refl}
+use Rattle.std.specs.Prelude.{◌≡◌, ℕ, Bool, true, false, cond, List, [], ◌∷◌, map, Option, Some, None, Ok, Err, unwrap_or, refl}
 use Rattle.std.specs.BTreeMap.{is_at}
 use Rattle.std.specs.Option.{option_map}
 use Rattle.std.proofs.Common.{ap, ◌∙◌}
 use Rattle.cv_match.specs.Findings.{text_cmp}
 use Rattle.cv_core_records.specs.declared.read.Answer.TheVariants as answer
 use Rattle.cv_core_records.specs.declared.read.ReportOutcome.TheVariants as report
-use Rattle.cv_core_machine.specs.Answer.{Heads, Page, Read, Report, answer_to, report_at}
+use Rattle.cv_scan.specs.Scan.{Scanned}
+use Rattle.cv_core_machine.specs.Answer.{Heads, Page, Read, Report, answer_to, pending_report, report_at, waiting_in}
 use Rattle.cv_core_machine.specs.Board.{board_answer, board_of}
-use Rattle.cv_core_machine.specs.Scans.{Trees}
+use Rattle.cv_core_machine.specs.Layers.{first_pending}
+use Rattle.cv_core_machine.specs.Scans.{Trees, image_scan}
 use Rattle.cv_core_machine.specs.State.{State, value_at}
 
 -- what is found where each value became another one
@@ -25,6 +27,17 @@ report_found : (trees : Trees) (state : State) (found : Option (List (List ℕ))
     → unwrap_or (option_map (λ (layers : List (List ℕ)). report_at (Some layers) trees state) found) report.NotRegistered ≡ report_at found trees state
 report_found trees state None = refl
 report_found trees state (Some layers) = refl
+
+by_pending : (first : Option (List ℕ)) (generation : ℕ) (scanned : Scanned) → waiting_in (pending_report first generation scanned) ≡ Some first
+by_pending (Some layer) generation scanned = refl
+by_pending None generation (Ok findings) = refl
+by_pending None generation (Err bad) = refl
+
+-- what a report says of the layer for which an image waits
+pub waiting_found : (trees : Trees) (state : State) (found : Option (List (List ℕ)))
+    → waiting_in (report_at found trees state) ≡ option_map (first_pending state.layers) found
+waiting_found trees state None = refl
+waiting_found trees state (Some layers) = by_pending (first_pending state.layers layers) state.generation (image_scan trees state.feeds layers)
 
 pub same_answers : (trees : Trees) (state : State) (read : Read) → board_answer (board_of trees state) read ≡ answer_to trees state read
 same_answers trees state (Report image) =

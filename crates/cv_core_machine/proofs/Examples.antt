@@ -10,17 +10,19 @@ use Rattle.cv_match.specs.Affects.{affects, fixed}
 use Rattle.cv_match.specs.Findings.{findings}
 use Rattle.cv_overlay.specs.declared.fault.ImageFault.TheVariants.{NoLayer}
 use Rattle.cv_packages.specs.Packages.{packages}
+use Rattle.cv_core_records.specs.Pages.{heads, page_of}
 use Rattle.cv_core_records.specs.declared.read.PageOutcome.TheVariants as page
 use Rattle.cv_core_records.specs.declared.read.ReportOutcome.TheVariants as report
 use Rattle.cv_core_records.specs.declared.reply.Reply.TheVariants as reply
 use Rattle.cv_scan.specs.Root.{root_entries}
 use Rattle.cv_scan.specs.Scan.{scan}
 use Rattle.cv_findings.specs.Rows.{rows_of}
-use Rattle.cv_core_machine.specs.Answer.{heads, page_of, report_of}
+use Rattle.cv_core_machine.specs.Answer.{report_of, waiting_for}
 use Rattle.cv_core_machine.specs.History.{replies, state_after}
 use Rattle.cv_core_machine.specs.Layers.{queued}
 use Rattle.cv_core_machine.specs.Scans.{Trees}
 use Rattle.cv_core_machine.specs.State.{State, opening}
+use Rattle.cv_core_machine.specs.Step.{update_with}
 use Rattle.cv_core_machine.specs.declared.event.MachineEvent.TheVariants.{Ack, Claim, DropImage, Fault, Indexed, Memory, Register, Update}
 use Rattle.cv_core_machine.specs.declared.status.Status.TheVariants as status
 use Rattle.cv_packages.proofs.Examples.{zlib_of}
@@ -106,6 +108,10 @@ updated : replies no_trees small (Update (codes "p") [] ∷ Update (codes "q") [
     ≡ reply.Updated 1 0 ∷ reply.TooManyFeeds ∷ reply.Updated 2 0 ∷ []
 updated = refl
 
+-- the generation is the number of updates that were made
+counted : (state_after no_trees small (Update (codes "p") [] ∷ Update (codes "q") [] ∷ Update (codes "p") [] ∷ [])).generation ≡ 2
+counted = refl
+
 -- the records of a feed stand by their ids, and take the place of those before
 replaced : ((state_after no_trees small (Update (codes "p") (listed (codes "X-2") ∷ listed (codes "X-1") ∷ []) ∷ [])).feeds
     ≡ (codes "p", listed (codes "X-1") ∷ listed (codes "X-2") ∷ []) ∷ [])
@@ -171,6 +177,11 @@ two = record small {
   notifications = (2, row 1 ∷ []) ∷ (4, row 1 ∷ row 2 ∷ []) ∷ [];
 }
 
+-- an update notifies of its rows under the next generation, and its reply counts them
+noted : ((update_with (row 1 ∷ []) two (codes "p") []).1 ≡ reply.Updated 6 1)
+    × ((update_with (row 1 ∷ []) two (codes "p") []).0.notifications ≡ (2, row 1 ∷ []) ∷ (4, row 1 ∷ row 2 ∷ []) ∷ (6, row 1 ∷ []) ∷ [])
+noted = (refl, refl)
+
 -- an acknowledgement removes the notification of its number and no other
 acked : ((state_after no_trees two (Ack 2 ∷ [])).notifications ≡ (4, row 1 ∷ row 2 ∷ []) ∷ [])
     × ((state_after no_trees two (Ack 4 ∷ [])).notifications ≡ (2, row 1 ∷ []) ∷ [])
@@ -191,6 +202,10 @@ reports : (report_of trees indexed (3 ∷ []) ≡ report.NotRegistered)
     × (report_of trees (state_after trees indexed (Update (codes "p") (listed (codes "X-1") ∷ []) ∷ [])) (2 ∷ []) ≡ report.Good 1 (zlib (codes "X-1") None ∷ []))
 unfolding rows_of scan root_entries packages findings affects fixed
 reports = (refl, refl, refl, refl, refl)
+
+-- only the second image waits, for the layer that is not indexed
+waiting_images : (waiting_for indexed (1 ∷ []) ≡ Some (Some b)) × (waiting_for indexed (2 ∷ []) ≡ Some None) × (waiting_for indexed (3 ∷ []) ≡ None)
+waiting_images = (refl, refl, refl)
 
 -- a state with a notification of three rows
 abbrev three : State

@@ -1,12 +1,13 @@
 -- What a board shows of a state (defined by this project): all that reads are answered from, with no type of a desk in it.
 use Rattle.std.specs.Prelude.{ℕ, List, map, Some, unwrap_or}
+use Rattle.cv_core_records.specs.Pages.{Notifications, heads, page_of}
 use Rattle.cv_core_records.specs.declared.read.Answer.{Answer}
 use Rattle.cv_core_records.specs.declared.read.Answer.TheVariants as answer
 use Rattle.cv_core_records.specs.declared.read.ReportOutcome.{ReportOutcome}
 use Rattle.cv_core_records.specs.declared.read.ReportOutcome.TheVariants as report
-use Rattle.cv_core_machine.specs.Answer.{Heads, Page, Read, Report, heads, page_of, report_at}
+use Rattle.cv_core_machine.specs.Answer.{Heads, Page, Read, Report, report_at}
 use Rattle.cv_core_machine.specs.Scans.{Trees}
-use Rattle.cv_core_machine.specs.State.{Notifications, State, value_at}
+use Rattle.cv_core_machine.specs.State.{State, value_at}
 
 -- the report of each registered image, in ascending order of their hashes, and the notifications
 pub record BoardView : Type 0 where

@@ -33,6 +33,11 @@ abbrev pub IsGenerationAfter : ℕ → Reply → ℕ → Type 0
 IsGenerationAfter before (reply.Updated generation rows) now = (now ≡ before + 1) × (generation ≡ now)
 IsGenerationAfter before _ now = now ≡ before
 
+-- the reply of an update that was made
+abbrev pub is_updated : Reply → Bool
+is_updated (reply.Updated generation rows) = true
+is_updated _ = false
+
 -- with these replies an event changes the notifications: Updated may add one, and Acked removes one
 abbrev pub changes_notifications : Reply → Bool
 changes_notifications (reply.Updated generation rows) = true

@@ -8,6 +8,7 @@ use Rattle.std.specs.Ordering.{nat_cmp}
 use Rattle.cv_base.specs.declared.advisory.Advisory.{Advisory}
 use Rattle.cv_base.specs.declared.finding.Row.{Row}
 use Rattle.cv_match.specs.Findings.{text_cmp}
+pub use Rattle.cv_core_records.specs.Pages.{Notifications, notification_at}
 use Rattle.cv_core_machine.specs.declared.limits.Limits.{Limits}
 use Rattle.cv_core_machine.specs.declared.status.Status.{Status}
 
@@ -22,10 +23,6 @@ Layers = List (List ℕ × Status)
 -- feeds: the name of each with its records, in ascending order of their ids
 abbrev pub Feeds : Type 0
 Feeds = List (List ℕ × List Advisory)
-
--- notifications: the number of each with its rows
-abbrev pub Notifications : Type 0
-Notifications = List (ℕ × List Row)
 
 -- what the machine holds
 pub record State : Type 0 where
@@ -51,10 +48,6 @@ with_value entries key value = insert_entry text_cmp entries key value
 -- a list without what it has at a digest or a name
 abbrev pub without_value : {V : Type 0} → List (List ℕ × V) → List ℕ → List (List ℕ × V)
 without_value entries key = remove_entry (is_at (text_cmp key)) entries
-
--- the rows of a notification
-abbrev pub notification_at : Notifications → ℕ → Option (List Row)
-notification_at notifications number = lookup (is_at (nat_cmp number)) notifications
 
 -- notifications with one more after the others, of which none has a higher number
 abbrev pub with_notification : Notifications → ℕ → List Row → Notifications

@@ -98,12 +98,16 @@ updated state feeds rows = (
 abbrev pub is_full : State → List ℕ → Bool
 is_full state feed = is_full_table (record { feeds = state.feeds; limit = state.limits.feeds }) feed
 
--- Update of a feed: TooManyFeeds if it is new and there are as many feeds as may be, or else Updated: the feed has these
--- records in place of those before
+-- Update of a feed that notifies of these rows: TooManyFeeds if the feed is new and there are as many feeds as may be, or else
+-- Updated: the feed has these records in place of those before
+abbrev pub update_with : List Row → State → List ℕ → List Advisory → State × Reply
+update_with rows state feed records =
+    if is_full state feed then (state, reply.TooManyFeeds) else updated state (with_value state.feeds feed (by_id records)) rows
+
+-- Update of a feed, which notifies of the rows of all images that are indexed
 abbrev pub update : Trees → State → List ℕ → List Advisory → State × Reply
 update trees state feed records =
-    let feeds = with_value state.feeds feed (by_id records) in
-    if is_full state feed then (state, reply.TooManyFeeds) else updated state feeds (rows_of trees state feeds)
+    update_with (rows_of trees state (with_value state.feeds feed (by_id records))) state feed records
 
 -- Ack, by the notification of this number: NoNotification if there is none, or else Acked: it goes
 abbrev pub ack_at : Option (List Row) → State → ℕ → State × Reply

@@ -1,14 +1,14 @@
-ghost use Rattle.std.specs.Prelude.{◌≡◌, ◌==◌, ℕ, true, false, if◌then◌else◌, List, length, map, Option, Some, None};
+ghost use Rattle.std.specs.Prelude.{◌≡◌, ◌==◌, ℕ, true, false, if◌then◌else◌, List, length, filter, map, Option, Some, None};
 ghost use Rattle.std.specs.Option.{option_or};
 ghost use Rattle.cv_base.specs.Texts.{has_text};
 ghost use Rattle.cv_base.specs.declared.advisory.Advisory.{Advisory};
 ghost use Rattle.cv_base.specs.declared.finding.Row.{Row};
 ghost use Rattle.cv_desk.specs.Stored.{Stored};
 ghost use Rattle.cv_scan.specs.Layers.{stored_layers};
-ghost use Rattle.cv_core_machine.specs.Answer.{Read, answer_to};
+ghost use Rattle.cv_core_machine.specs.Answer.{Read, answer_to, report_of, waiting_for, waiting_in};
 ghost use Rattle.cv_core_machine.specs.Board.{board_answer, board_of};
-ghost use Rattle.cv_core_machine.specs.History.{state_after};
-ghost use Rattle.cv_core_machine.specs.Laws.{HaveRows, IsConsistent, IsGenerationAfter, acknowledges, changes_nothing, changes_notifications, rows_if_any};
+ghost use Rattle.cv_core_machine.specs.History.{replies, state_after};
+ghost use Rattle.cv_core_machine.specs.Laws.{HaveRows, IsConsistent, IsGenerationAfter, acknowledges, changes_nothing, changes_notifications, is_updated, rows_if_any};
 ghost use Rattle.cv_core_machine.specs.Rows.{rows_of};
 ghost use Rattle.cv_core_machine.specs.Scans.{StatesEveryLayer, Trees, trees_of};
 ghost use Rattle.cv_core_machine.specs.State.{Layers, State, notification_at, opening, value_at};
@@ -29,6 +29,12 @@ pub fn step_laws()
     ensures opening { (limits : Limits) → IsConsistent (opening limits) }
     ensures consistent { (trees : Trees) (state : State) (act : MachineEvent) → IsConsistent state → IsConsistent (step trees state act).0 }
     ensures reachable { (trees : Trees) (limits : Limits) (acts : List MachineEvent) → IsConsistent (state_after trees (opening limits) acts) }
+{}
+
+/// The generation is how many events were replied to with `Updated`.
+pub fn generation_law()
+    ensures { (trees : Trees) (limits : Limits) (acts : List MachineEvent)
+        → (state_after trees (opening limits) acts).generation ≡ length (filter is_updated (replies trees (opening limits) acts)) }
 {}
 
 /// What holds of the notifications. One stays as it is until an event acknowledges its number, `kept`. An event leaves all of them
@@ -62,6 +68,12 @@ pub fn entered_law()
 /// The layers of an image as the scan of one image reads them are those of the machine, if a desk's type is known.
 pub fn scan_law()
     ensures { (tree : List ℕ → Option (Option (List Stored))) (layers : List (List ℕ)) → StatesEveryLayer tree → stored_layers tree layers ≡ Some (map (trees_of tree) layers) }
+{}
+
+/// A report is `NotRegistered` exactly if the image is not registered, and `Pending` exactly of the first of its layers that is not
+/// indexed, whatever the layers have.
+pub fn waiting_law()
+    ensures { (trees : Trees) (state : State) (image : List ℕ) → waiting_in (report_of trees state image) ≡ waiting_for state image }
 {}
 
 /// A board of a state answers each read as the state does.

@@ -14,6 +14,8 @@ mod limits;
 mod status;
 
 pub use event::MachineEvent;
-pub use laws::{board_law, entered_law, notification_laws, scan_law, step_laws};
+pub use laws::{
+    board_law, entered_law, generation_law, notification_laws, scan_law, step_laws, waiting_law,
+};
 pub use limits::{Limits, MAX_FEEDS, MAX_IMAGES};
 pub use status::Status;

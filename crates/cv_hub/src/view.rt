@@ -1,12 +1,12 @@
 ghost use Rattle.std.specs.Prelude.{◌≡◌, ◌+◌, ◌≤◌, ◌<◌, ◌^◌, drop, length, IfOk, IfSome, OnErr};
 ghost use mathlib.Core.List.{IsPrefix};
-ghost use Rattle.cv_core_machine.specs.Answer.{heads, report_of};
+ghost use Rattle.cv_core_records.specs.Pages.{heads, page_of};
+ghost use Rattle.cv_core_machine.specs.Answer.{report_of};
 ghost use Rattle.cv_core_machine.specs.Layers.{queued};
 ghost use Rattle.cv_core_machine.specs.Scans.{StatesEveryLayer, trees_of};
 ghost use Rattle.cv_hub.specs.Core.{IsSound, act_of};
 ghost use Rattle.cv_hub.specs.Reports.{shown};
 ghost use Rattle.cv_notice.specs.Pages.{shown as shown_page};
-ghost use Rattle.cv_notice.specs.Notices.{page_at};
 ghost use Rattle.cv_hub_seats.specs.Events.{entries_from, state_of};
 ghost use Rattle.cv_hub_seats.specs.Seats.{AreAllReceipts, AreNumbered, HaveSeen, IsApplied};
 ghost use Rattle.cv_hub.specs.code.Locked.{IsAfter};
@@ -77,7 +77,7 @@ impl<'a, D: Desk + Drop, L: Identity> View<'a, D, L> {
     pub fn page(&self, number: u64, size: u64, page: u64) -> Result<Page<'_>, PageError>
         requires size { 1 ≤ size }
         requires page { 1 ≤ page }
-        ensures { StatesEveryLayer D.tree → shown_page result ≡ page_at (state_of (trees_of D.tree) L.limits self.now).notifications number size page }
+        ensures { StatesEveryLayer D.tree → shown_page result ≡ page_of (state_of (trees_of D.tree) L.limits self.now).notifications number size page }
     {
         self.core().notices().page(number, size, page)
     }

@@ -4,7 +4,7 @@ use Rattle.std.specs.List.{flat_map, range_with_len}
 use Rattle.std.proofs.Common.{ap, arith, drop-drop, length-drop, length-take, suc, sym, take-add, take_all, zero, ◌∙◌}
 use Rattle.std.proofs.Math.Nat.{mul-le-mul_left}
 use Rattle.cv_base.specs.declared.finding.Row.{Row}
-use Rattle.cv_notice.specs.Pages.{page_count, page_rows}
+use Rattle.cv_core_records.specs.Pages.{page_count, page_rows}
 
 -- as many pages as are counted have room for all
 enough_by : (n size r : ℕ) → 1 ≤ size → n % size ≡ r → n ≤ (n / size + min 1 r) * size

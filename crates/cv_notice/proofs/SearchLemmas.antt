@@ -16,7 +16,7 @@ use Rattle.cv_seq.proofs.Orders.{turned}
 use Rattle.cv_base.specs.declared.finding.Row.{Row}
 use Rattle.cv_tree.specs.Entries.{IsAscending, at}
 use Rattle.cv_tree.proofs.EntryLemmas.{returned}
-use Rattle.cv_notice.specs.Notices.{Notifications}
+use Rattle.cv_core_records.specs.Pages.{Notifications}
 use Rattle.cv_notice.specs.code.Places.{HasNumber}
 
 -- the number at an index

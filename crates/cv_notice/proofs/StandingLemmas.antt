@@ -14,7 +14,7 @@ use Rattle.cv_base.proofs.InOrder.{nat_less}
 use Rattle.cv_tree.specs.Entries.{IsAscending, at, without_key}
 use Rattle.cv_tree.proofs.ChangeLemmas.{without_ascending}
 use Rattle.cv_tree.proofs.EntryLemmas.{at_here, without_here}
-use Rattle.cv_notice.specs.Notices.{Notifications}
+use Rattle.cv_core_records.specs.Pages.{Notifications}
 use Rattle.cv_notice.specs.code.Places.{HasNumber}
 
 split_is : (es : Notifications) (i : ℕ) (e : ℕ × List Row) → i < length es → e ≡ slice_index_or es i e → es ≡ take i es ++ e ∷ drop (suc i) es

@@ -2,8 +2,8 @@ ghost use Rattle.std.specs.Prelude.{◌≡◌, ◌<◌, ◌≤◌, [], ◌∷◌
 ghost use Rattle.std.specs.Map.{keys_of};
 ghost use Rattle.std.specs.Option.{option_map};
 ghost use Rattle.std.specs.Ordering.{nat_cmp};
+ghost use Rattle.cv_core_records.specs.Pages.{heads, page_of};
 ghost use Rattle.cv_tree.specs.Entries.{at, without_key};
-ghost use Rattle.cv_notice.specs.Notices.{heads, page_at};
 ghost use Rattle.cv_notice.specs.Pages.{shown};
 ghost use Rattle.cv_notice.specs.code.Places.{HasNumber};
 
@@ -67,7 +67,7 @@ impl Notices {
     pub fn page(&self, number: u64, size: u64, page: u64) -> Result<Page<'_>, PageError>
         requires size { 1 ≤ size }
         requires page { 1 ≤ page }
-        ensures { shown result ≡ page_at self.now number size page }
+        ensures { shown result ≡ page_of self.now number size page }
     {
         match self.rows_of(number) {
             None => Err(PageError::NoNotification),

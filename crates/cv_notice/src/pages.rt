@@ -1,7 +1,8 @@
 ghost use Rattle.std.specs.Prelude.{◌≡◌, ◌<◌, ◌≤◌, ℕ, List, length};
 ghost use Rattle.std.specs.List.{flat_map, range_with_len};
 ghost use Rattle.cv_base.specs.declared.finding.Row.{Row};
-ghost use Rattle.cv_notice.specs.Pages.{page_count, page_in, page_rows, shown};
+ghost use Rattle.cv_core_records.specs.Pages.{page_count, page_in, page_rows};
+ghost use Rattle.cv_notice.specs.Pages.{shown};
 
 use crate::error::PageError;
 use cv_base::Row;

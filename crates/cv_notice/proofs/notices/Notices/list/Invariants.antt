@@ -1,5 +1,5 @@
 use Rattle.std.proofs.Common.{◌≡◌, take}
-use Rattle.cv_notice.specs.Notices.{heads}
+use Rattle.cv_core_records.specs.Pages.{heads}
 use Rattle.cv_notice.proofs.notices.Notices.list.Given as goal
 
 abbrev pub invariant-loop-notice : goal.invariant-loop-notice
