@@ -1,10 +1,10 @@
 -- What is registered (defined by this project): the part of the machine that knows the images, the status of their layers, and
 -- how many images there may be.
-use Rattle.std.specs.Prelude.{◌≡◌, ℕ, List, map, filter}
+use Rattle.std.specs.Prelude.{ℕ, List, map, filter}
 use Rattle.cv_base.specs.Texts.{has_text}
 use Rattle.cv_core_records.specs.declared.reply.Reply.{Reply}
-use Rattle.cv_core_machine.specs.Laws.{IsConsistent}
-use Rattle.cv_core_machine.specs.State.{Images, Layers, State, opening}
+use Rattle.cv_core_machine.specs.Parts.{IsRegularIn, LeadsIn, alone_in}
+use Rattle.cv_core_machine.specs.State.{Images, Layers, State}
 
 -- the images with their layers, the layers with their status, and how many images there may be
 pub record Registrations : Type 0 where
@@ -16,19 +16,18 @@ pub record Registrations : Type 0 where
 abbrev pub holding : State → Registrations → State
 holding state r = record state { images = r.images; layers = r.layers; limits = record state.limits { images = r.limit } }
 
--- a step of the machine, such as `claim` with a layer and a worker, leads from registrations to others and to a reply: from
--- every state that holds the first ones to the same state with the others
+-- a step of the machine leads from registrations to others and to a reply
 abbrev pub Leads : (State → State × Reply) → Registrations → Registrations × Reply → Type 0
-Leads event before after = (state : State) → event (holding state before) ≡ (holding state after.0, after.1)
+Leads = LeadsIn holding
 
 -- the machine that holds these registrations and nothing else
 abbrev pub alone : Registrations → State
-alone r = holding (opening (record { images = 0; feeds = 0 })) r
+alone = alone_in holding
 
 -- registrations are consistent: both lists are in ascending order of their keys, there are no more images than may be, and a
 -- layer is in the table exactly if a registered image names it or it is Claimed
 abbrev pub IsRegular : Registrations → Type 0
-IsRegular r = IsConsistent (alone r)
+IsRegular = IsRegularIn holding
 
 -- the images that name a layer, in ascending order
 abbrev pub users_of : Images → List ℕ → List (List ℕ)
