@@ -2,6 +2,7 @@ ghost use Rattle.std.specs.Prelude.{◌≡◌, ◌+◌, ◌^◌, ◌<◌, false,
 ghost use Rattle.cv_core_machine.specs.Board.{board_of};
 ghost use Rattle.cv_core_machine.specs.Scans.{StatesEveryLayer, Trees, trees_of};
 ghost use Rattle.cv_core_machine.specs.Step.{step};
+ghost use Rattle.cv_core.specs.Boards.{ShowsWaiting};
 ghost use Rattle.cv_core.specs.Core.{IsSound, act_of, counted, is_update};
 ghost use Rattle.cv_core.specs.Planned.{plan_of};
 
@@ -104,7 +105,8 @@ impl<D: Desk + Drop> Planned<D> {
 
     /// The board of the core after the event.
     pub fn board(&self) -> Result<Board, NoMemory>
-        ensures { StatesEveryLayer D.tree → IfOk result (λ board. board ≡ board_of (trees_of D.tree) self.now.after.state) }
+        ensures waiting { IfOk result (λ board. ShowsWaiting self.now.after.state board) }
+        ensures board { StatesEveryLayer D.tree → IfOk result (λ board. board ≡ board_of (trees_of D.tree) self.now.after.state) }
     {
         self.after.board()
     }

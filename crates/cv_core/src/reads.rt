@@ -1,7 +1,8 @@
 ghost use Rattle.std.specs.Prelude.{◌≡◌, IfOk};
-ghost use Rattle.cv_core_machine.specs.Answer.{report_of};
+ghost use Rattle.cv_core_machine.specs.Answer.{report_of, waiting_for, waiting_in};
 ghost use Rattle.cv_core_machine.specs.Board.{board_of};
 ghost use Rattle.cv_core_machine.specs.Scans.{StatesEveryLayer, trees_of};
+ghost use Rattle.cv_core.specs.Boards.{ShowsWaiting};
 ghost use Rattle.cv_core.specs.Reports.{shown};
 
 use crate::board::Board;
@@ -12,9 +13,11 @@ use cv_desk::Desk;
 use cv_tree::Share;
 
 impl<D: Desk + Drop> Core<D> {
-    /// The report of an image. It is read from the outcome that is kept of the image: it matches nothing and takes no memory.
+    /// The report of an image. It is read from the outcome that is kept of the image: it matches nothing and takes no memory. It is
+    /// `NotRegistered` and `Pending` exactly if the machine's is, whatever the layers have.
     pub fn report(&self, image: &Digest) -> Result<Report<'_>, ReportRefusal<'_>>
-        ensures { StatesEveryLayer D.tree → shown result ≡ report_of (trees_of D.tree) self.now.state image.now }
+        ensures waiting { waiting_in (shown result) ≡ waiting_for self.now.state image.now }
+        ensures report { StatesEveryLayer D.tree → shown result ≡ report_of (trees_of D.tree) self.now.state image.now }
     {
         let outcome = self.inventory().outcome(image);
         report_by(self.generation(), outcome)
@@ -22,7 +25,8 @@ impl<D: Desk + Drop> Core<D> {
 
     /// The board of the core as it is. It takes no memory, and fails only if a count of owners is at its last value.
     pub fn board(&self) -> Result<Board, NoMemory>
-        ensures { StatesEveryLayer D.tree → IfOk result (λ board. board ≡ board_of (trees_of D.tree) self.now.state) }
+        ensures waiting { IfOk result (λ board. ShowsWaiting self.now.state board) }
+        ensures board { StatesEveryLayer D.tree → IfOk result (λ board. board ≡ board_of (trees_of D.tree) self.now.state) }
     {
         let outcomes = self.inventory().outcomes()?;
         let notices = self.shared_notices().share()?;

@@ -23,7 +23,7 @@ use Rattle.cv_core_outcome.specs.Outcome.{FactTable, outcome_at}
 use Rattle.cv_core_outcome.specs.Truth.{AreFactsOf}
 use Rattle.cv_core_outcome.proofs.FactLemmas.{agree}
 use Rattle.cv_tree.specs.Entries.{map_values}
-use Rattle.cv_core_inventory.specs.Changes.{remaining_facts}
+use Rattle.cv_core_inventory.specs.code.Changes.{remaining_facts}
 
 -- ---- layers enter the table: none of them is Indexed
 

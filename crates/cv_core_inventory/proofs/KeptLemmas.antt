@@ -29,8 +29,8 @@ use Rattle.cv_core_outcome.proofs.TruthLemmas.{all_rematched, board_is, report_i
 use Rattle.cv_core_registry.specs.Registrations.{IsRegular as IsRegularRegistry, Registrations}
 use Rattle.cv_tree.specs.Entries.{map_values, remade_entries, rows_of}
 use Rattle.cv_tree.proofs.ValueLemmas.{mapped_at, mapped_with, mapped_without}
-use Rattle.cv_core_inventory.specs.Changes.{feeds_replaced, image_added, image_dropped, layer_indexed}
-use Rattle.cv_core_inventory.specs.Knowledge.{KnowledgeView, Outcomes, nothing_known, report_by}
+use Rattle.cv_core_inventory.specs.code.Changes.{feeds_replaced, image_added, image_dropped, layer_indexed}
+use Rattle.cv_core_inventory.specs.Knowledge.{AreOutcomesOf, IsOutcomeOf, KnowledgeView, Outcomes, nothing_known, report_by}
 use Rattle.cv_core_inventory.proofs.FactTables.{entered_indexed, facts_entered, facts_remaining, remaining_known}
 use Rattle.cv_core_inventory.proofs.RenewedLemmas.{all_known}
 use Rattle.cv_core_inventory.specs.Holdings.{Holdings, IsRegular, alone, feed_table, holding}
@@ -204,6 +204,24 @@ regular_holdings trees r k now kept was h sorted = subst IsRegular was (record {
 })
 
 -- ---- reads
+
+-- the outcome that is kept of an image is that of facts and feeds
+pub outcome_kept : (tree : List ℕ → Option (Option (List Stored))) (r : Registrations) (k : KnowledgeView) (now : Holdings) (image : List ℕ) (found : Option Outcome)
+    → IsKept tree r k → holdings_of r k.feeds ≡ now → found ≡ value_at k.outcomes image → IsOutcomeOf tree now image found
+outcome_kept tree r k now image found kept was is = subst (λ (h : Holdings). IsOutcomeOf tree h image found) was (record {
+  facts = k.facts;
+  right = kept.right;
+  made = is ∙ ap (λ (o : Outcomes). value_at o image) kept.made ∙ mapped_at text_cmp (outcome_at k.facts k.feeds.feeds) r.images image;
+})
+
+-- and so are the outcomes of all images
+pub outcomes_kept : (tree : List ℕ → Option (Option (List Stored))) (r : Registrations) (k : KnowledgeView) (shared : Outcomes) (now : Holdings)
+    → IsKept tree r k → holdings_of r k.feeds ≡ now → shared ≡ k.outcomes → AreOutcomesOf tree now shared
+outcomes_kept tree r k shared now kept was is = subst (λ (h : Holdings). AreOutcomesOf tree h shared) was (record {
+  facts = k.facts;
+  right = kept.right;
+  made = is ∙ kept.made;
+})
 
 report_same : (tree : List ℕ → Option (Option (List Stored))) (state : State) (facts : FactTable) (found : Option (List (List ℕ))) → StatesEveryLayer tree → AreFactsOf tree state.layers facts
     → report_by state.generation (option_map (outcome_at facts state.feeds) found) ≡ report_at found (trees_of tree) state

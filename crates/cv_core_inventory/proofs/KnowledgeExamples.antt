@@ -1,15 +1,18 @@
 -- The definitions on worked examples.
-use Rattle.std.specs.Prelude.{◌≡◌, ℕ, List, [], ◌∷◌, None, refl}
+use Rattle.std.specs.Prelude.{◌≡◌, ℕ, List, [], ◌∷◌, Option, None, refl}
+use Rattle.cv_desk.specs.Stored.{Stored}
 use Rattle.cv_facts.specs.Reduction.{Known}
 use Rattle.cv_facts.specs.declared.reduction.Shape.TheVariants.{NoLayer}
 use Rattle.cv_core_machine.specs.State.{Images}
+use Rattle.cv_core_machine.specs.declared.limits.Limits.{Limits}
 use Rattle.cv_core_machine.specs.declared.status.Status.TheVariants as status
 use Rattle.cv_core_machine.proofs.Examples.{a, b, c}
 use Rattle.cv_core_outcome.specs.Outcome.{outcome_at}
 use Rattle.cv_core_outcome.specs.declared.outcome.Outcome.TheVariants.{Pending}
 use Rattle.cv_core_records.specs.declared.read.ReportOutcome.TheVariants as report
-use Rattle.cv_core_inventory.specs.Changes.{all_renewed, image_dropped, layer_indexed, remaining_facts}
-use Rattle.cv_core_inventory.specs.Knowledge.{KnowledgeView, nothing_known, report_by}
+use Rattle.cv_core_inventory.specs.code.Changes.{all_renewed, image_dropped, layer_indexed, remaining_facts}
+use Rattle.cv_core_inventory.specs.Holdings.{nothing}
+use Rattle.cv_core_inventory.specs.Knowledge.{AreOutcomesOf, KnowledgeView, nothing_known, report_by}
 
 -- the facts of a digest that names no layer
 abbrev known : List ℕ → Known
@@ -45,6 +48,14 @@ indexed = refl
 dropped : image_dropped waiting c (a ∷ b ∷ []) [] ≡ nothing_known 1
 unfolding waiting
 dropped = refl
+
+-- where no image is registered there are no outcomes
+no_outcomes : (trees : List ℕ → Option (Option (List Stored))) (limits : Limits) → AreOutcomesOf trees (nothing limits) []
+no_outcomes trees limits = record {
+  facts = [];
+  right = record { indexed = λ q. refl; own = λ q known is. absurd (cc is); right = λ q known is. absurd (cc is) };
+  made = refl;
+}
 
 -- the report of an image that is not registered
 no_image : report_by 7 None ≡ report.NotRegistered

@@ -24,7 +24,7 @@ use Rattle.cv_core_registry.specs.Registrations.{users_of}
 use Rattle.cv_core_registry.proofs.ListLemmas.{same_entries}
 use Rattle.cv_tree.specs.Entries.{map_values}
 use Rattle.cv_tree.proofs.ValueLemmas.{mapped_at, mapped_keys}
-use Rattle.cv_core_inventory.specs.Changes.{all_renewed, is_waiting, renewed, with_outcome}
+use Rattle.cv_core_inventory.specs.code.Changes.{all_renewed, is_waiting, renewed, with_outcome}
 use Rattle.cv_core_inventory.specs.Knowledge.{Outcomes}
 
 -- ---- image by image

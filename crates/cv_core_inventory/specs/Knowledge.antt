@@ -1,17 +1,34 @@
 -- What is known of registered images (defined by this project).
 use Rattle.std.specs.Prelude.{◌≡◌, ℕ, ◌≤◌, List, [], length, Option, Some, None}
+use Rattle.std.specs.Option.{option_map}
 use Rattle.cv_advdb.specs.Feeds.{FeedTable}
 use Rattle.cv_base.specs.declared.limits.TheConstants.{MAX_LAYERS}
+use Rattle.cv_desk.specs.Stored.{Stored}
 use Rattle.cv_core_machine.specs.State.{Images, value_at}
-use Rattle.cv_core_outcome.specs.Outcome.{FactTable}
-use Rattle.cv_core_outcome.specs.Truth.{report_with}
+use Rattle.cv_core_outcome.specs.Outcome.{FactTable, outcome_at}
+use Rattle.cv_core_outcome.specs.Truth.{AreFactsOf, report_with}
 use Rattle.cv_core_outcome.specs.declared.outcome.Outcome.{Outcome}
 use Rattle.cv_core_records.specs.declared.read.ReportOutcome.{ReportOutcome}
 use Rattle.cv_core_records.specs.declared.read.ReportOutcome.TheVariants as report
+use Rattle.cv_tree.specs.Entries.{map_values}
+use Rattle.cv_core_inventory.specs.Holdings.{Holdings}
 
 -- the outcome of each image, under its hash
 abbrev pub Outcomes : Type 0
 Outcomes = List (List ℕ × Outcome)
+
+-- the outcome of each registered image is that of the facts of its layers and of the feeds. There are facts of exactly the layers
+-- that are Indexed, and they are right for the trees of a desk's type
+pub record AreOutcomesOf (trees : List ℕ → Option (Option (List Stored))) (h : Holdings) (outcomes : Outcomes) : Type 0 where
+  pub facts : FactTable
+  pub right : AreFactsOf trees h.layers facts
+  pub made : outcomes ≡ map_values (outcome_at facts h.feeds) h.images
+
+-- the same of one image, if it is registered
+pub record IsOutcomeOf (trees : List ℕ → Option (Option (List Stored))) (h : Holdings) (image : List ℕ) (outcome : Option Outcome) : Type 0 where
+  pub facts : FactTable
+  pub right : AreFactsOf trees h.layers facts
+  pub made : outcome ≡ option_map (outcome_at facts h.feeds) (value_at h.images image)
 
 -- the facts of layers, the outcomes of images, and the feeds with which the outcomes are made
 pub record KnowledgeView : Type 0 where

@@ -1,4 +1,3 @@
-pub mod Changes
 pub mod Holdings
 pub mod Knowledge
 pub mod code

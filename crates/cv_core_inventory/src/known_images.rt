@@ -2,7 +2,7 @@ ghost use Rattle.std.specs.Prelude.{◌≡◌, ◌≤◌, length, IfOk};
 ghost use Rattle.std.specs.Option.{is_some};
 ghost use Rattle.cv_base.specs.declared.limits.TheConstants.{MAX_LAYERS};
 ghost use Rattle.cv_core_machine.specs.State.{value_at};
-ghost use Rattle.cv_core_inventory.specs.Changes.{image_added, image_dropped, remaining_after, remaining_facts};
+ghost use Rattle.cv_core_inventory.specs.code.Changes.{image_added, image_dropped, remaining_after, remaining_facts};
 
 use crate::knowledge::{Facts, Knowledge};
 use cv_base::{Digest, NoMemory, Steps};
@@ -16,7 +16,7 @@ use std::sync::ledger::Ledger;
 impl<D: Desk + Drop> Knowledge<D> {
     /// The knowledge with the outcome of a new image of these layers, the base first. The time is that of its layers and of
     /// matching its packages, whatever else is known.
-    pub fn with_image<L: Ledger>(
+    pub(crate) fn with_image<L: Ledger>(
         &self,
         alloc: Global,
         image: &Digest,
@@ -39,7 +39,7 @@ impl<D: Desk + Drop> Knowledge<D> {
 
     /// The knowledge without an image of these layers, and without the facts of those that the registry does not know. The time is
     /// that of the layers.
-    pub fn without_image(
+    pub(crate) fn without_image(
         &self,
         alloc: Global,
         image: &Digest,

@@ -1,5 +1,5 @@
 ghost use Rattle.std.specs.Prelude.{◌≡◌, IfOk};
-ghost use Rattle.cv_core_inventory.specs.Changes.{layer_indexed};
+ghost use Rattle.cv_core_inventory.specs.code.Changes.{layer_indexed};
 ghost use Rattle.cv_core_inventory.specs.Knowledge.{HaveAtMost128Layers};
 
 use crate::knowledge::Knowledge;
@@ -14,7 +14,7 @@ use std::sync::ledger::Ledger;
 impl<D: Desk + Drop> Knowledge<D> {
     /// The knowledge with the facts of a layer. Of the images of the registry only those that name the layer are looked at, and
     /// only those that wait for it are matched.
-    pub fn with_facts<L: Ledger>(
+    pub(crate) fn with_facts<L: Ledger>(
         &self,
         alloc: Global,
         indexed: LayerFacts<D>,

@@ -1,7 +1,7 @@
 ghost use Rattle.std.specs.Prelude.{◌≡◌, IfOk};
 ghost use Rattle.cv_core_outcome.specs.Update.{update_rows};
 ghost use Rattle.cv_tree.specs.Entries.{rows_of};
-ghost use Rattle.cv_core_inventory.specs.Changes.{feeds_replaced};
+ghost use Rattle.cv_core_inventory.specs.code.Changes.{feeds_replaced};
 
 use crate::knowledge::Knowledge;
 use cv_advdb::Feeds;
@@ -15,7 +15,7 @@ use std::sync::ledger::Ledger;
 impl<D: Desk + Drop> Knowledge<D> {
     /// The knowledge with these feeds, and the rows of the images whose findings they change. All images that have packages are
     /// matched anew.
-    pub fn with_feeds<L: Ledger>(
+    pub(crate) fn with_feeds<L: Ledger>(
         &self,
         alloc: Global,
         feeds: Feeds,

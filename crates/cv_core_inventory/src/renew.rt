@@ -2,7 +2,7 @@ ghost use Rattle.std.specs.Prelude.{◌≡◌, IfOk};
 ghost use Rattle.cv_core_machine.specs.State.{value_at};
 ghost use Rattle.cv_core_outcome.specs.Facts.{waits_for};
 ghost use Rattle.cv_core_outcome.specs.Outcome.{outcome_at};
-ghost use Rattle.cv_core_inventory.specs.Changes.{all_renewed, is_waiting, renewed, with_outcome};
+ghost use Rattle.cv_core_inventory.specs.code.Changes.{all_renewed, is_waiting, renewed, with_outcome};
 ghost use Rattle.cv_core_inventory.specs.Knowledge.{HaveAtMost128Layers};
 
 use crate::knowledge::{Facts, Knowledge, Outcomes};

@@ -1,5 +1,5 @@
 use Rattle.std.proofs.Common.{◌≡◌, drop}
-use Rattle.cv_core_inventory.specs.Changes.{remaining_facts}
+use Rattle.cv_core_inventory.specs.code.Changes.{remaining_facts}
 use Rattle.cv_core_inventory.proofs.known_images.remaining_facts.Given as goal
 
 -- the facts so far, without those of the rest of the layers that are not in the table, are those at the end

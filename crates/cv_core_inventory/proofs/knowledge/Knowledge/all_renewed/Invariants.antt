@@ -1,6 +1,6 @@
 use Rattle.std.proofs.Common.{◌≡◌, drop}
 use Rattle.cv_core_outcome.specs.Outcome.{outcome_at}
-use Rattle.cv_core_inventory.specs.Changes.{all_renewed}
+use Rattle.cv_core_inventory.specs.code.Changes.{all_renewed}
 use Rattle.cv_core_inventory.proofs.knowledge.Knowledge.all_renewed.Given as goal
 
 -- the outcomes so far, with those of the remaining images made anew, are those with all made anew

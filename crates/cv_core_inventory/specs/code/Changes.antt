@@ -1,4 +1,4 @@
--- How knowledge changes when an image is registered or dropped, a layer is indexed, or a feed is updated (defined by this project).
+-- How knowledge changes when an image is registered or dropped, a layer is indexed, or a feed is updated.
 use Rattle.std.specs.Prelude.{ℕ, Bool, false, if◌then◌else◌, List, [], ◌∷◌, Option, Some, None}
 use Rattle.std.specs.Option.{is_some}
 use Rattle.cv_advdb.specs.Feeds.{FeedTable}
