@@ -1,13 +1,18 @@
 -- What an update and an acknowledgement leave is consistent.
-use Rattle.std.specs.Prelude.{◌≡◌, ℕ, ◌+◌, ◌≤◌, List, [], Some}
-use Rattle.std.proofs.Common.{arith}
+use Rattle.std.specs.Prelude.{◌≡◌, ℕ, ◌+◌, ◌≤◌, true, false, cond, List, [], Some, refl}
+use Rattle.std.proofs.Common.{ap, arith, subst, sym, ◌∙◌}
+use Rattle.cv_advdb.specs.Feeds.{by_id, is_full as is_full_table}
+use Rattle.cv_base.specs.declared.advisory.Advisory.{Advisory}
 use Rattle.cv_base.specs.declared.finding.Row.{Row}
+use Rattle.cv_core_records.specs.declared.reply.Reply.{Reply}
+use Rattle.cv_core_records.specs.declared.reply.Reply.TheVariants as reply
 use Rattle.cv_core_machine.specs.Laws.{IsConsistent}
-use Rattle.cv_core_machine.specs.State.{Notifications, State, without_notification}
-use Rattle.cv_core_machine.specs.Step.{notified}
+use Rattle.cv_core_machine.specs.State.{Notifications, State, with_value, without_notification}
+use Rattle.cv_core_machine.specs.Step.{notified, update_with, updated}
+use Rattle.cv_core_machine.specs.declared.event.MachineEvent.TheVariants as act
 use Rattle.cv_core_machine.proofs.Consistent.{ack_consistent, updated_consistent}
-use Rattle.cv_core_inventory.specs.Holdings.{Holdings, holding, IsRegular as IsRegularPart}
-use Rattle.cv_core.specs.Core.{CoreView, IsRegular}
+use Rattle.cv_core_inventory.specs.Holdings.{Holdings, feed_table, holding, IsRegular as IsRegularPart}
+use Rattle.cv_core.specs.Core.{CoreView, IsRegular, IsUpdated, counted}
 use Rattle.cv_core.specs.code.Parts.{core_of}
 
 -- a consistent state with other holdings
@@ -36,3 +41,30 @@ regular_acked core notices number k is = rw is record {
   consistent = ack_consistent (Some []) core.state number k.consistent;
   generations = k.generations;
 }
+
+-- the parts of a core are those of its state
+pub held : (h : Holdings) (notices : Notifications) (generation count : ℕ) (core : CoreView) → core_of h notices generation count ≡ core → holding core.state h ≡ core.state
+held h notices generation count core is = subst (λ (c : CoreView). holding c.state h ≡ c.state) is refl
+
+-- an update with these rows, where there is room for the feed
+pub update_made : (core : CoreView) (h inventory : Holdings) (feed : List ℕ) (records : List Advisory) (rows : List Row) (after : CoreView × Reply)
+    → holding core.state h ≡ core.state → inventory ≡ record h { feeds = with_value h.feeds feed (by_id records) } → is_full_table (feed_table h) feed ≡ false
+    → after ≡ counted core (updated (holding core.state inventory) inventory.feeds rows) → IsUpdated core (act.Update feed records) after
+update_made core h inventory feed records rows after same made room is = (
+  rows,
+  is
+      ∙ ap (λ (i : Holdings). counted core (updated (holding core.state i) i.feeds rows)) made
+      ∙ ap (λ b. counted core (cond b (holding core.state h, reply.TooManyFeeds) (updated (holding core.state h) (with_value h.feeds feed (by_id records)) rows))) (sym room)
+      ∙ ap (λ (s : State). counted core (update_with rows s feed records)) same,
+)
+
+-- and where there is none
+pub update_refused : (core : CoreView) (h : Holdings) (feed : List ℕ) (records : List Advisory) (after : CoreView × Reply) → holding core.state h ≡ core.state
+    → is_full_table (feed_table h) feed ≡ true → after ≡ counted core (core.state, reply.TooManyFeeds) → IsUpdated core (act.Update feed records) after
+update_refused core h feed records after same full is = (
+  [],
+  is
+      ∙ ap (λ (s : State). counted core (s, reply.TooManyFeeds)) (sym same)
+      ∙ ap (λ b. counted core (cond b (holding core.state h, reply.TooManyFeeds) (updated (holding core.state h) (with_value h.feeds feed (by_id records)) []))) (sym full)
+      ∙ ap (λ (s : State). counted core (update_with [] s feed records)) same,
+)

@@ -1,9 +1,11 @@
 -- The core of the service (defined by this project): the machine with a count of its events, and what is asked of an event.
-use Rattle.std.specs.Prelude.{ℕ, ◌+◌, ◌≤◌, Bool, true, false, length}
+use Rattle.std.specs.Prelude.{◌≡◌, ℕ, ◌+◌, ◌≤◌, Bool, true, false, List, length}
+use Rattle.cv_base.specs.declared.finding.Row.{Row}
 use Rattle.cv_base.specs.declared.limits.TheConstants.{MAX_LAYERS}
 use Rattle.cv_core_records.specs.declared.reply.Reply.{Reply}
 use Rattle.cv_core_machine.specs.Laws.{IsConsistent}
 use Rattle.cv_core_machine.specs.State.{State, opening}
+use Rattle.cv_core_machine.specs.Step.{update_with}
 use Rattle.cv_core_machine.specs.declared.event.MachineEvent.{MachineEvent}
 use Rattle.cv_core_machine.specs.declared.event.MachineEvent.TheVariants as act
 use Rattle.cv_core_machine.specs.declared.limits.Limits.{Limits}
@@ -48,3 +50,10 @@ IsSound _ = Unit {0}
 abbrev pub is_update : MachineEvent → Bool
 is_update (act.Update feed records) = true
 is_update _ = false
+
+-- what an update leads to, whatever the layers have: to that of the machine where some rows are notified of. So the feeds, the
+-- generation and TooManyFeeds depend on no layer, and the reply counts the rows of which there is a notification
+abbrev pub IsUpdated : CoreView → MachineEvent → CoreView × Reply → Type 0
+IsUpdated core (act.Update feed records) after =
+    (rows : List Row) × (after ≡ counted core (update_with rows core.state feed records))
+IsUpdated core _ after = Unit {0}

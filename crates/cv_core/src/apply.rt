@@ -1,7 +1,7 @@
-ghost use Rattle.std.specs.Prelude.{◌≡◌, ◌+◌, ◌^◌, ◌<◌, false, IfOk, OnErr};
+ghost use Rattle.std.specs.Prelude.{◌≡◌, ◌+◌, ◌^◌, ◌<◌, true, false, IfOk, OnErr};
 ghost use Rattle.cv_core_machine.specs.Scans.{StatesEveryLayer, Trees, trees_of};
 ghost use Rattle.cv_core_machine.specs.Step.{step};
-ghost use Rattle.cv_core.specs.Core.{IsSound, act_of, counted, is_update};
+ghost use Rattle.cv_core.specs.Core.{IsSound, IsUpdated, act_of, counted, is_update};
 
 use crate::event::Event;
 use crate::machine::Core;
@@ -12,8 +12,8 @@ use std::alloc::Global;
 use std::sync::ledger::Ledger;
 
 impl<D: Desk + Drop> Core<D> {
-    /// Applies an event, and gives the reply. If memory runs out, the event is spent and the core is as it was. What an update
-    /// does is stated if the type of the desks says of each layer what it has; the other events do not depend on that.
+    /// Applies an event, and gives the reply. If memory runs out, the event is spent and the core is as it was. Which rows an update
+    /// notifies of is stated if the type of the desks says of each layer what it has; all else does not depend on that.
     pub fn apply<L: Ledger>(
         &mut self,
         alloc: Global,
@@ -24,6 +24,7 @@ impl<D: Desk + Drop> Core<D> {
         requires sound { IsSound (act_of event) }
         ensures stepped { StatesEveryLayer D.tree → IfOk result (λ reply. (self.new, reply) ≡ counted self.old (step (trees_of D.tree) self.old.state (act_of event))) }
         ensures others { (trees : Trees) → is_update (act_of event) ≡ false → IfOk result (λ reply. (self.new, reply) ≡ counted self.old (step trees self.old.state (act_of event))) }
+        ensures update { is_update (act_of event) ≡ true → IfOk result (λ reply. IsUpdated self.old (act_of event) (self.new, reply)) }
         ensures count { IfOk result (λ _. self.new.count ≡ self.old.count + 1) }
         ensures err { OnErr result (self.new ≡ self.old) }
     {

@@ -1,8 +1,8 @@
-ghost use Rattle.std.specs.Prelude.{◌≡◌, ◌+◌, ◌^◌, ◌<◌, false, IfOk};
+ghost use Rattle.std.specs.Prelude.{◌≡◌, ◌+◌, ◌^◌, ◌<◌, true, false, IfOk};
 ghost use Rattle.cv_core_machine.specs.History.{act_name};
 ghost use Rattle.cv_core_machine.specs.Scans.{StatesEveryLayer, Trees, trees_of};
 ghost use Rattle.cv_core_machine.specs.Step.{step};
-ghost use Rattle.cv_core.specs.Core.{IsSound, act_of, counted, is_update};
+ghost use Rattle.cv_core.specs.Core.{IsSound, IsUpdated, act_of, counted, is_update};
 
 use crate::machine::Core;
 use cv_base::{Advisory, Digest, Manifest, NoMemory, Seq, Steps, Text};
@@ -67,8 +67,8 @@ impl<D: Desk> Event<D> {
 }
 
 impl<D: Desk + Drop> Event<D> {
-    /// The core after this event, with its reply. The core before it stays as it is, also if memory runs out. What an update
-    /// does is stated if the type of the desks says of each layer what it has; the other events do not depend on that.
+    /// The core after this event, with its reply. The core before it stays as it is, also if memory runs out. Which rows an update
+    /// notifies of is stated if the type of the desks says of each layer what it has; all else does not depend on that.
     pub fn after<L: Ledger>(
         self,
         alloc: Global,
@@ -79,6 +79,7 @@ impl<D: Desk + Drop> Event<D> {
         requires sound { IsSound (act_of self) }
         ensures stepped { StatesEveryLayer D.tree → IfOk result (λ after. after ≡ counted core.now (step (trees_of D.tree) core.now.state (act_of self))) }
         ensures others { (trees : Trees) → is_update (act_of self) ≡ false → IfOk result (λ after. after ≡ counted core.now (step trees core.now.state (act_of self))) }
+        ensures update { is_update (act_of self) ≡ true → IfOk result (λ after. IsUpdated core.now (act_of self) after) }
         ensures count { IfOk result (λ after. after.0.count ≡ core.now.count + 1) }
     {
         match self {

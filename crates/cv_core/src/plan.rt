@@ -1,9 +1,9 @@
-ghost use Rattle.std.specs.Prelude.{◌≡◌, ◌+◌, ◌^◌, ◌<◌, false, IfOk, IfErr};
+ghost use Rattle.std.specs.Prelude.{◌≡◌, ◌+◌, ◌^◌, ◌<◌, true, false, IfOk, IfErr};
 ghost use Rattle.cv_core_machine.specs.Board.{board_of};
 ghost use Rattle.cv_core_machine.specs.Scans.{StatesEveryLayer, Trees, trees_of};
 ghost use Rattle.cv_core_machine.specs.Step.{step};
 ghost use Rattle.cv_core.specs.Boards.{ShowsWaiting};
-ghost use Rattle.cv_core.specs.Core.{IsSound, act_of, counted, is_update};
+ghost use Rattle.cv_core.specs.Core.{IsSound, IsUpdated, act_of, counted, is_update};
 ghost use Rattle.cv_core.specs.Planned.{plan_of};
 
 use crate::board::Board;
@@ -56,6 +56,7 @@ impl<D: Desk + Drop> Core<D> {
         requires sound { IsSound (act_of event) }
         ensures stepped { StatesEveryLayer D.tree → IfOk result (λ planned. planned ≡ plan_of self (counted self (step (trees_of D.tree) self.state (act_of event)))) }
         ensures others { (trees : Trees) → is_update (act_of event) ≡ false → IfOk result (λ planned. planned ≡ plan_of self (counted self (step trees self.state (act_of event)))) }
+        ensures update { is_update (act_of event) ≡ true → IfOk result (λ planned. IsUpdated self (act_of event) (planned.after, planned.reply)) }
         ensures count { IfOk result (λ planned. planned.after.count ≡ self.count + 1) }
         ensures before { IfOk result (λ planned. planned.before ≡ self) }
         ensures err { IfErr result (λ refused. refused.0 ≡ self) }

@@ -3,7 +3,8 @@ ghost use Rattle.std.specs.Map.{keys_of};
 ghost use Rattle.cv_core_inventory.specs.Holdings.{holding};
 ghost use Rattle.cv_core_machine.specs.Scans.{StatesEveryLayer, trees_of};
 ghost use Rattle.cv_core_machine.specs.Step.{notified, update, updated};
-ghost use Rattle.cv_core.specs.Core.{counted};
+ghost use Rattle.cv_core_machine.specs.declared.event.MachineEvent.{MachineEvent};
+ghost use Rattle.cv_core.specs.Core.{IsUpdated, counted};
 
 use crate::machine::Core;
 use cv_advdb::AdvError;
@@ -26,6 +27,7 @@ impl<D: Desk + Drop> Core<D> {
     ) -> Replied<Core<D>>
         requires room { self.now.count < 2 ^ 63 }
         ensures stepped { StatesEveryLayer D.tree → IfOk result (λ after. after ≡ counted self.now (update (trees_of D.tree) self.now.state feed records)) }
+        ensures known { IfOk result (λ after. IsUpdated self.now (MachineEvent.Update feed records) after) }
         ensures count { IfOk result (λ after. after.0.count ≡ self.now.count + 1) }
     {
         match self.inventory.update(alloc, feed, records, steps) {
