@@ -6,7 +6,7 @@ use Rattle.cv_base.specs.Path.{components}
 use Rattle.cv_base.specs.declared.fault.What.TheVariants as what
 use Rattle.cv_base.specs.declared.«package».Package.{Package}
 use Rattle.cv_base.specs.declared.«package».PackageKind.{PackageKind}
-use Rattle.cv_base.specs.declared.«package».PackageKind.TheVariants.{Deb, Apk, Npm}
+use Rattle.cv_base.specs.declared.«package».PackageKind.TheVariants.{Deb, Apk, Npm, Pypi}
 use Rattle.cv_base.specs.declared.tree.Content.TheVariants as content
 use Rattle.cv_base.specs.declared.tree.Node.TheVariants as node
 use Rattle.cv_base.specs.declared.tree.TreeEntry.{TreeEntry}
@@ -43,6 +43,10 @@ zlib = file (codes "var/lib/dpkg/status") (codes "Package: zlib\nStatus: install
 
 abbrev pub zlib_of : List ℕ → Package
 zlib_of ecosystem = package_of Deb (codes "var/lib/dpkg/status") (codes "zlib") (codes "1") (codes "zlib") [] ecosystem
+
+-- a Python package by the text of its path, its name and version, and its source
+abbrev pub python_of : List ℕ → List ℕ → List ℕ → List ℕ → Package
+python_of path name version source = package_of Pypi path name version source [] (codes "PyPI")
 
 abbrev debian_found : FileFound
 debian_found = record { path = components (codes "etc/os-release"); found = found.Os (record { id = codes "debian"; version = Some (codes "12") }) }
@@ -87,6 +91,13 @@ apk = refl
 npm : assembled (debian_found ∷ npm_found (codes "node_modules/@s/n/package.json") (Some (record { name = codes "@s/n"; version = codes "1.0.0" })) ∷ npm_found (codes "node_modules/x/package.json") None ∷ [])
     ≡ Ok (package_of Npm (codes "node_modules/@s/n/package.json") (codes "@s/n") (codes "1.0.0") (codes "@s/n") [] (codes "npm") ∷ [])
 npm = refl
+
+-- a Python package has its name as indexes know it as its source, has no architecture, and is of PyPI on every system; a file that names
+-- none has none
+pypi : packages (file (codes "a.dist-info/METADATA") (codes "Version: 1\n") ∷ etc_debian ∷ file (codes "opt/Foo_Bar-1.0.dist-info/METADATA") (codes "Name: Foo.Bar\nVersion: 1.0\n\ntext\n") ∷ [])
+    ≡ Ok (python_of (codes "opt/Foo_Bar-1.0.dist-info/METADATA") (codes "Foo.Bar") (codes "1.0") (codes "foo-bar") ∷ [])
+unfolding packages is_utf8 chars encode
+pypi = refl
 
 -- the first refused file in the order of paths is named, whatever its reader
 first_refused : (packages (file (codes "lib/apk/db/installed") (codes "P:a\nV:1\nx\n") ∷ large (codes "var/lib/dpkg/status") ∷ []) ≡ Err (BadFile (components (codes "lib/apk/db/installed")) 3 what.NoColon))

@@ -1,11 +1,11 @@
 -- What a package file has, by its place and its bytes: installed packages, the system, a bad line, or too many bytes. The
--- system of the root does not enter. (The limit is defined by this project; the formats are those of dpkg, apk, os-release(5)
--- and npm, each read by its own crate.)
+-- system of the root does not enter. (The limit is defined by this project; the formats are those of dpkg, apk, os-release(5),
+-- npm and Python's core metadata, each read by its own crate.)
 use Rattle.std.specs.Prelude.{ℕ, nat_lt, if◌then◌else◌, List, length, Result, Ok, Err}
 use Rattle.cv_base.specs.declared.fault.FileBad.{FileBad}
 use Rattle.cv_base.specs.declared.limits.TheConstants.{PACKAGE_FILE_LIMIT}
 use Rattle.cv_path.specs.declared.places.Place.{Place}
-use Rattle.cv_path.specs.declared.places.Place.TheVariants.{Status, StatusFolder, Installed, UsrInstalled, Os, UsrOs, Npm}
+use Rattle.cv_path.specs.declared.places.Place.TheVariants.{Status, StatusFolder, Installed, UsrInstalled, Os, UsrOs, Npm, Pypi}
 use Rattle.cv_base.specs.declared.tree.Content.{Content}
 use Rattle.cv_base.specs.declared.tree.Content.TheVariants.{Bytes, TooLarge, Unread}
 use Rattle.cv_dpkg.specs.Status.{status}
@@ -15,6 +15,7 @@ use Rattle.cv_apkdb.specs.Installed.{installed}
 use Rattle.cv_apkdb.specs.declared.package.ApkPackage.{ApkPackage}
 use Rattle.cv_npm.specs.Npm.{npm}
 use Rattle.cv_osrel.specs.System.{os_of}
+use Rattle.cv_pypi.specs.Metadata.{pypi}
 use Rattle.cv_packages.specs.declared.found.Found.{Found}
 use Rattle.cv_packages.specs.declared.found.Found.TheVariants as found
 
@@ -37,6 +38,7 @@ found_at UsrInstalled bytes = installed_found (installed bytes)
 found_at Os bytes = found.Os (os_of bytes)
 found_at UsrOs bytes = found.Os (os_of bytes)
 found_at Npm bytes = found.Npm (npm bytes)
+found_at Pypi bytes = found.Pypi (pypi bytes)
 
 -- a file at a place: more bytes than the limit are not read. (A file that was left unread counts as one above the limit.)
 abbrev pub found_in : Place → Content → Found

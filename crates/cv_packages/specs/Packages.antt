@@ -18,15 +18,16 @@ use Rattle.cv_base.specs.declared.tree.TreeEntry.{TreeEntry}
 use Rattle.cv_dpkg.specs.declared.package.DebPackage.{DebPackage}
 use Rattle.cv_apkdb.specs.declared.package.ApkPackage.{ApkPackage}
 use Rattle.cv_npm.specs.declared.package.NpmPackage.{NpmPackage}
+use Rattle.cv_pypi.specs.declared.package.PypiPackage.{PypiPackage}
 use Rattle.cv_osrel.specs.Ecosystem.{eco}
 use Rattle.cv_osrel.specs.declared.name.OsName.{OsName}
 use Rattle.cv_packages.specs.Files.{files_found}
 use Rattle.cv_packages.specs.declared.error.FileFault.{FileFault}
 use Rattle.cv_packages.specs.declared.error.FileFault.TheVariants as fault
-use Rattle.cv_packages.specs.Texts.{apk_texts, deb_texts, npm_texts, package_with}
+use Rattle.cv_packages.specs.Texts.{apk_texts, deb_texts, npm_texts, package_with, pypi_texts}
 use Rattle.cv_packages.specs.declared.found.FileFound.{FileFound}
 use Rattle.cv_packages.specs.declared.found.Found.{Found}
-use Rattle.cv_packages.specs.declared.found.Found.TheVariants.{Status, Installed, Os, Npm, Bad, TooLarge}
+use Rattle.cv_packages.specs.declared.found.Found.TheVariants.{Status, Installed, Os, Npm, Pypi, Bad, TooLarge}
 
 -- the place is etc/os-release
 abbrev pub is_etc_place : Option Place → Bool
@@ -60,6 +61,7 @@ system_in (Status packages) = None
 system_in (Installed packages) = None
 system_in (Os name) = Some name
 system_in (Npm «package») = None
+system_in (Pypi «package») = None
 system_in (Bad bad) = None
 system_in TooLarge = None
 
@@ -80,12 +82,17 @@ apk_package os path p = package_with kind.Apk path (eco os kind.Apk) (apk_texts 
 abbrev pub npm_package : Option OsName → Path → NpmPackage → Package
 npm_package os path p = package_with kind.Npm path (eco os kind.Npm) (npm_texts p)
 
+-- the same of a Python package
+abbrev pub pypi_package : Option OsName → Path → PypiPackage → Package
+pypi_package os path p = package_with kind.Pypi path (eco os kind.Pypi) (pypi_texts p)
+
 -- the packages of a file at a path, or its refusal
 abbrev pub packages_in : Option OsName → Path → Found → Result (List Package) FileFault
 packages_in os path (Status found) = Ok (map (deb_package os path) found)
 packages_in os path (Installed found) = Ok (map (apk_package os path) found)
 packages_in os path (Os name) = Ok []
 packages_in os path (Npm found) = Ok (map (npm_package os path) (option_to_list found))
+packages_in os path (Pypi found) = Ok (map (pypi_package os path) (option_to_list found))
 packages_in os path (Bad bad) = Err (fault.BadFile path bad.line bad.what)
 packages_in os path TooLarge = Err (fault.TooLarge path)
 

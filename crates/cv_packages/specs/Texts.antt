@@ -1,5 +1,6 @@
 -- The texts of a package, by the database or the file that names it (defined by this project). The database of apk gives no version of
--- the source: the package's own stands for it. An npm package is its own source and has no architecture.
+-- the source: the package's own stands for it. An npm package is its own source and has no architecture. Neither has a Python
+-- package, whose source is its name as indexes know it.
 use Rattle.std.specs.Prelude.{ℕ, List, []}
 use Rattle.cv_base.specs.Path.{Path}
 use Rattle.cv_base.specs.declared.package.Package.{Package}
@@ -7,6 +8,7 @@ use Rattle.cv_base.specs.declared.package.PackageKind.{PackageKind}
 use Rattle.cv_dpkg.specs.declared.package.DebPackage.{DebPackage}
 use Rattle.cv_apkdb.specs.declared.package.ApkPackage.{ApkPackage}
 use Rattle.cv_npm.specs.declared.package.NpmPackage.{NpmPackage}
+use Rattle.cv_pypi.specs.declared.package.PypiPackage.{PypiPackage}
 
 -- the texts of a package
 pub record Texts : Type 0 where
@@ -31,6 +33,10 @@ apk_texts p = record { name = p.name; version = p.version; source = p.origin; so
 -- those of a package of npm
 abbrev pub npm_texts : NpmPackage → Texts
 npm_texts p = own_texts p.name p.version
+
+-- those of a Python package
+abbrev pub pypi_texts : PypiPackage → Texts
+pypi_texts p = record { name = p.name; version = p.version; source = p.source; source_version = p.version; arch = [] }
 
 -- the package of a kind, at a path and of an ecosystem, with these texts
 abbrev pub package_with : PackageKind → Path → List ℕ → Texts → Package

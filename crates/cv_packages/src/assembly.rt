@@ -113,7 +113,8 @@ fn packages_in(
         Found::Status(found) => Ok(packages_of(alloc, os, path, found.as_slice())?),
         Found::Installed(found) => Ok(packages_of(alloc, os, path, found.as_slice())?),
         Found::Npm(Some(found)) => Ok(packages_of(alloc, os, path, slice::from_ref(found))?),
-        Found::Npm(None) | Found::Os(_) => Ok(Vec::new(alloc)),
+        Found::Pypi(Some(found)) => Ok(packages_of(alloc, os, path, slice::from_ref(found))?),
+        Found::Npm(None) | Found::Pypi(None) | Found::Os(_) => Ok(Vec::new(alloc)),
         Found::Bad(bad) => Err(PackagesError::Refused(FileFault::BadFile {
             path: path.clone()?,
             line: bad.line,

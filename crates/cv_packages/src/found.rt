@@ -3,6 +3,7 @@ use cv_base::{FileBad, RelPath, Seq};
 use cv_dpkg::DebPackage;
 use cv_npm::NpmPackage;
 use cv_osrel::OsName;
+use cv_pypi::PypiPackage;
 
 /// What a package file has. It depends on the file's place and its bytes, and not on the system.
 #[derive(Clone, Debug, PartialEq, Eq, Drop)]
@@ -15,6 +16,8 @@ pub enum Found {
     Os(OsName),
     /// The package of a package.json, if it names one.
     Npm(Option<NpmPackage>),
+    /// The package of the metadata of an installed Python package, if it names one.
+    Pypi(Option<PypiPackage>),
     /// The first bad line, for which the file is refused.
     Bad(FileBad),
     /// The file has more bytes than a package file may have.

@@ -3,7 +3,7 @@ ghost use Rattle.std.specs.Option.{option_map};
 ghost use Rattle.cv_base.specs.declared.package.PackageKind.{PackageKind};
 ghost use Rattle.cv_base.specs.declared.package.PackageKind.TheVariants as kinds;
 ghost use Rattle.cv_osrel.specs.Ecosystem.{eco};
-ghost use Rattle.cv_packages.specs.Texts.{Texts, apk_texts, deb_texts, npm_texts, own_texts, package_with};
+ghost use Rattle.cv_packages.specs.Texts.{Texts, apk_texts, deb_texts, npm_texts, own_texts, package_with, pypi_texts};
 ghost use Rattle.cv_packages.specs.code.Texts.{texts_in};
 
 use cv_apkdb::ApkPackage;
@@ -11,6 +11,7 @@ use cv_base::{NoMemory, Package, PackageKind, RelPath, Text};
 use cv_dpkg::DebPackage;
 use cv_npm::NpmPackage;
 use cv_osrel::{OsName, ecosystem};
+use cv_pypi::PypiPackage;
 use std::alloc::Global;
 
 /// The texts of a package of any kind. Without an architecture it is the empty text.
@@ -83,6 +84,24 @@ impl KindPackage for NpmPackage {
 
     fn texts(&self) -> PackageTexts<'_> {
         PackageTexts::own(&self.name, &self.version)
+    }
+}
+
+/// The source is the name as indexes know it.
+impl KindPackage for PypiPackage {
+    ghost kind = { kinds.Pypi };
+
+    ghost texts_of = { pypi_texts };
+
+    fn kind() -> PackageKind {
+        PackageKind::Pypi
+    }
+
+    fn texts(&self) -> PackageTexts<'_> {
+        PackageTexts {
+            source: &self.source,
+            ..PackageTexts::own(&self.name, &self.version)
+        }
     }
 }
 

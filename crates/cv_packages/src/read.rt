@@ -9,6 +9,7 @@ use cv_base::{Content, NoMemory, PACKAGE_FILE_LIMIT, Place, ReadBad};
 use cv_dpkg::{StatusRule, read_status};
 use cv_npm::read_package;
 use cv_osrel::read_os;
+use cv_pypi::read_metadata;
 use std::alloc::Global;
 
 /// What a file at a place of package files has. A file whose bytes were not read counts as one above the limit.
@@ -37,6 +38,7 @@ fn read_bytes(alloc: Global, place: Place, bytes: &[u8]) -> Result<Found, NoMemo
         Place::Installed | Place::UsrInstalled => read_apk(alloc, bytes),
         Place::Os | Place::UsrOs => Ok(Found::Os(read_os(alloc, bytes)?)),
         Place::Npm => Ok(Found::Npm(read_package(alloc, bytes)?)),
+        Place::Pypi => Ok(Found::Pypi(read_metadata(alloc, bytes)?)),
     }
 }
 
