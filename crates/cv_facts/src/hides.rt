@@ -1,10 +1,9 @@
 ghost use Rattle.std.specs.Prelude.{◌≡◌, ◌++◌, ◌∷◌, [], true, false, drop, map, IfOk, OnOk};
-ghost use Rattle.std.specs.Option.{option_to_list};
 ghost use Rattle.cv_base.specs.Path.{IsPath};
 ghost use Rattle.cv_path.specs.Reading.{is_path_memory};
 ghost use Rattle.cv_overlay.specs.Mark.{has_mark, is_dir_kind, listed, mark_of, name_of, target_of};
 ghost use Rattle.cv_overlay.specs.declared.mark.Mark.TheVariants.{Whiteout};
-ghost use Rattle.cv_facts.specs.Cover.{cover_by, covers, opaque_by, opaque_dirs, place_dir_by, place_dirs, target_by, targets};
+ghost use Rattle.cv_facts.specs.Cover.{covers, opaque_dirs, place_dirs, targets};
 
 use cv_base::{Kind, ListEntry, NoMemory, PathError, RelPath, place};
 use cv_overlay::{Mark, mark_of};
@@ -41,10 +40,10 @@ pub fn hides_of(alloc: Global, entries: &[ListEntry]) -> Result<Hides, NoMemory>
 impl Hides {
     /// Adds what an entry hides.
     fn add(&mut self, alloc: Global, entry: &ListEntry) -> Result<(), NoMemory>
-        ensures whiteouts { OnOk result (self.new.whiteouts.items ≡ self.old.whiteouts.items ++ option_to_list (target_by (mark_of entry.now.path (is_dir_kind entry.now.kind)) entry.now.path)) }
-        ensures opaques { OnOk result (self.new.opaques.items ≡ self.old.opaques.items ++ option_to_list (opaque_by (mark_of entry.now.path (is_dir_kind entry.now.kind)) entry.now.path)) }
-        ensures covers { OnOk result (self.new.covers.items ≡ self.old.covers.items ++ option_to_list (cover_by (mark_of entry.now.path (is_dir_kind entry.now.kind)) (is_dir_kind entry.now.kind) entry.now.path)) }
-        ensures place_dirs { OnOk result (self.new.place_dirs.items ≡ self.old.place_dirs.items ++ option_to_list (place_dir_by (mark_of entry.now.path (is_dir_kind entry.now.kind)) (is_dir_kind entry.now.kind) entry.now.path)) }
+        ensures whiteouts { OnOk result (self.new.whiteouts.items ≡ self.old.whiteouts.items ++ targets (listed entry.now ∷ [])) }
+        ensures opaques { OnOk result (self.new.opaques.items ≡ self.old.opaques.items ++ opaque_dirs (listed entry.now ∷ [])) }
+        ensures covers { OnOk result (self.new.covers.items ≡ self.old.covers.items ++ covers (listed entry.now ∷ [])) }
+        ensures place_dirs { OnOk result (self.new.place_dirs.items ≡ self.old.place_dirs.items ++ place_dirs (listed entry.now ∷ [])) }
     {
         let is_dir = is_dir(entry.kind);
         match mark_of(&entry.path, is_dir) {
