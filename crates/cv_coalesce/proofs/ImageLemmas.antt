@@ -21,10 +21,11 @@ use Rattle.cv_packages.specs.declared.error.FileFault.{FileFault}
 use Rattle.cv_seq.specs.declared.memory.NoMemory.{NoMemory}
 use Rattle.cv_scan.specs.Layers.{whole_layers}
 use Rattle.cv_scan.specs.Root.{root_entries}
-use Rattle.cv_scan.specs.Scan.{as_scanned, bad_tree_from, or_bad, scan, scan_good, scan_layers, trees_from, with_findings, with_tree}
+use Rattle.cv_scan.specs.Scan.{scan, with_findings}
+use Rattle.cv_scan.specs.Image.{as_image, bad_tree_from, image_packages, or_bad, packages_layers, packages_unless, trees_from, with_tree}
 use Rattle.cv_coalesce.specs.Coalesced.{bad_from, coalesced, missing_fault, missing_from, or_packages, reduction_in, reductions, tree_fault_in, with_packages}
 use Rattle.cv_coalesce.specs.Gathered.{gathered}
-use Rattle.cv_coalesce.specs.Image.{answer_of, as_image, image_findings, image_packages, packages_good, packages_layers}
+use Rattle.cv_coalesce.specs.Image.{answer_of}
 use Rattle.cv_coalesce.specs.declared.image.ImagePackages.{ImagePackages}
 use Rattle.cv_coalesce.specs.code.Trees.{AllAscend}
 use Rattle.cv_coalesce.proofs.ReadLemmas.{files_are}
@@ -116,7 +117,7 @@ good_image layers h =
     ∙ packed (packages (root_entries (trees_in layers)))
 
 by_bad : (layers : List (Option (List TreeEntry))) (bad : Option ImageFault) → bad_tree_from 0 (trees_in layers) ≡ bad
-    → or_packages bad (reductions (map shape_in layers)) ≡ answer_of (packages_good bad (trees_in layers))
+    → or_packages bad (reductions (map shape_in layers)) ≡ answer_of (packages_unless bad (trees_in layers))
 by_bad layers None h = good_image layers h
 by_bad layers (Some bad) h = refl
 
@@ -158,19 +159,7 @@ answered (Some stored) shapes (Err error) h k = tt
 
 -- The scan.
 
-found_scanned : (feeds : List (List ℕ × List Advisory)) (found : Result (List Package) FileFault) → as_scanned (with_findings feeds found) ≡ image_findings feeds (as_image found)
-found_scanned feeds (Ok ps) = refl
-found_scanned feeds (Err refused) = refl
-
-good_scanned : (feeds : List (List ℕ × List Advisory)) (bad : Option ImageFault) (trees : List (List TreeEntry)) → scan_good bad trees feeds ≡ image_findings feeds (packages_good bad trees)
-good_scanned feeds None trees = found_scanned feeds (packages (root_entries trees))
-good_scanned feeds (Some bad) trees = refl
-
-layers_scanned : (feeds : List (List ℕ × List Advisory)) (found : Result (List (List TreeEntry)) ImageFault) → scan_layers found feeds ≡ image_findings feeds (packages_layers found)
-layers_scanned feeds (Ok trees) = good_scanned feeds (bad_tree_from 0 trees) trees
-layers_scanned feeds (Err bad) = refl
-
 -- the scan of an image is the findings of its packages
-pub scan_is : (layers : List (Option (List TreeEntry))) (feeds : List (List ℕ × List Advisory)) → scan layers feeds ≡ image_findings feeds (image_packages layers)
-unfolding scan image_packages
-scan_is layers feeds = layers_scanned feeds (trees_from 0 layers)
+pub scan_is : (layers : List (Option (List TreeEntry))) (feeds : List (List ℕ × List Advisory)) → scan layers feeds ≡ with_findings feeds (image_packages layers)
+unfolding scan
+scan_is layers feeds = refl

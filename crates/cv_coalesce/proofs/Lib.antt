@@ -1,4 +1,5 @@
 mod Examples
+pub mod GatheredLemmas
 pub mod ImageLemmas
 pub mod KnownLemmas
 pub mod LayerLemmas

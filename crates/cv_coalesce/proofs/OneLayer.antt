@@ -1,24 +1,26 @@
 -- What a layer makes of the package file at a place: its own file there, or nothing where it hides the place, or else what
 -- stood there before.
-use Rattle.std.specs.Prelude.{◌≡◌, Bool, true, false, ◌&&◌, ◌||◌, not, if◌then◌else◌, List, [], ◌∷◌, map, Option, Some, None, refl}
+use Rattle.std.specs.Prelude.{◌≡◌, Bool, true, false, ◌&&◌, ◌||◌, not, if◌then◌else◌, filter, List, [], ◌∷◌, ◌++◌, map, Option, Some, None, refl}
 use Rattle.std.specs.List.{AllByRecursion, cons_option, list_any}
 use Rattle.std.specs.Option.{is_some, option_or}
 use Rattle.std.specs.declared.cmp.Ordering.TheVariants.{Less, Equal}
 use Rattle.std.proofs.Common.{ap, sym, ◌∙◌, subst}
 use Rattle.std.proofs.lemmas.Cmp.{tied_itself}
+use Rattle.std.proofs.lemmas.List.Folds.{list_any-append}
 use Rattle.std.proofs.Math.Bool.{or-false}
 use Rattle.cv_base.specs.Path.{Path, is_above, parent_of, path_cmp, same_path}
 use Rattle.cv_base.specs.declared.tree.Node.{Node}
 use Rattle.cv_base.specs.declared.tree.Node.TheVariants as node
 use Rattle.cv_base.specs.declared.tree.TreeEntry.{TreeEntry}
 use Rattle.cv_base.proofs.Same.{path_is, path_total}
-use Rattle.cv_facts.specs.Cover.{cover_by, covers, is_place, opaque_by, opaque_dirs, place_dir_by, place_dirs, target_by, targets}
+use Rattle.cv_facts.specs.Cover.{cover_by, covers, is_opaque, is_place, is_whiteout, mark_in, opaque_dirs, place_dir_by, place_dirs, targets}
 use Rattle.cv_overlay.specs.Ascending.{AreAscending}
 use Rattle.cv_overlay.specs.Lay.{hides, hides_by, is_plain, lay, node_at, plain_at}
-use Rattle.cv_overlay.specs.Mark.{at_or_above, is_dir_node, mark, outline, target_of}
+use Rattle.cv_overlay.specs.Mark.{Outline, at_or_above, is_dir_node, mark, mark_of, outline, target_of}
 use Rattle.cv_overlay.specs.declared.mark.Mark.{Mark}
 use Rattle.cv_overlay.specs.declared.mark.Mark.TheVariants.{Reserved, Opaque, Whiteout, Bad, Plain}
 use Rattle.cv_overlay.proofs.MergeLemmas.{ComesAfter}
+use Rattle.cv_facts.proofs.HidesLemmas.{found_cons, kept_cons}
 use Rattle.cv_coalesce.specs.Hides.{hides_at}
 use Rattle.cv_coalesce.specs.code.Trees.{is_file, layer_files, tree_hides}
 
@@ -31,14 +33,9 @@ file_node (Some node.Other) = None
 
 -- Some path of a list passes a test.
 
--- one more path, if there is one
-any_found : (test : Path → Bool) (found : Option Path) (rest : List Path) (a : Bool)
-    → list_any test (cons_option found []) ≡ a → list_any test (cons_option found rest) ≡ (a || list_any test rest)
-any_found test None rest a h = ap (λ (b : Bool). b || list_any test rest) h
-any_found test (Some p) rest a h = by_test (test p) h where
-  by_test : (b : Bool) → (b || false) ≡ a → (b || list_any test rest) ≡ (a || list_any test rest)
-  by_test true e = ap (λ (c : Bool). c || list_any test rest) e
-  by_test false e = ap (λ (c : Bool). c || list_any test rest) e
+-- one of the first paths, or of those after them
+any_split : (test : Path → Bool) (whole first rest : List Path) → whole ≡ first ++ rest → list_any test whole ≡ (list_any test first || list_any test rest)
+any_split test whole first rest h = ap (list_any test) h ∙ list_any-append test first rest
 
 -- what one entry hides, list by list
 abbrev one_hides : TreeEntry → Path → Bool
@@ -64,19 +61,21 @@ shuffled false false false d false false false d2 = refl
 
 hides_more : (e : TreeEntry) (es : List TreeEntry) (p : Path) → tree_hides (e ∷ es) p ≡ (one_hides e p || tree_hides es p)
 hides_more e es p =
-    let dir = is_dir_node e.node in
-    let t = any_found (λ q. at_or_above q p) (target_by (mark e) e.path) (targets (map outline es)) _ refl in
-    let o = any_found (λ q. is_above q p) (opaque_by (mark e) e.path) (opaque_dirs (map outline es)) _ refl in
-    let c = any_found (λ q. at_or_above q p) (cover_by (mark e) dir e.path) (covers (map outline es)) _ refl in
-    let d = any_found (λ q. same_path q p) (place_dir_by (mark e) dir e.path) (place_dirs (map outline es)) _ refl in
-    rw (t, o, c, d) (
-    shuffled (list_any (λ q. at_or_above q p) (cons_option (target_by (mark e) e.path) []))
-    (list_any (λ q. is_above q p) (cons_option (opaque_by (mark e) e.path) []))
-    (list_any (λ q. at_or_above q p) (cons_option (cover_by (mark e) dir e.path) []))
-    (list_any (λ q. same_path q p) (cons_option (place_dir_by (mark e) dir e.path) []))
-    (list_any (λ q. at_or_above q p) (targets (map outline es))) (list_any (λ q. is_above q p) (opaque_dirs (map outline es)))
-    (list_any (λ q. at_or_above q p) (covers (map outline es))) (list_any (λ q. same_path q p) (place_dirs (map outline es)))
-    )
+    let one = outline e in
+    let rest = map outline es in
+    let t = any_split (λ q. at_or_above q p) (targets (one ∷ rest)) (targets (one ∷ [])) (targets rest)
+    (kept_cons (λ (o : Outline). target_of o.path) (λ (o : Outline). is_whiteout (mark_in o)) one rest) in
+    let o = any_split (λ q. is_above q p) (opaque_dirs (one ∷ rest)) (opaque_dirs (one ∷ [])) (opaque_dirs rest)
+    (kept_cons (λ (o : Outline). parent_of o.path) (λ (o : Outline). is_opaque (mark_in o)) one rest) in
+    let c = any_split (λ q. at_or_above q p) (covers (one ∷ rest)) (covers (one ∷ [])) (covers rest)
+    (found_cons (λ (o : Outline). cover_by (mark_of o.path o.is_dir) o.is_dir o.path) one rest) in
+    let d = any_split (λ q. same_path q p) (place_dirs (one ∷ rest)) (place_dirs (one ∷ [])) (place_dirs rest)
+    (found_cons (λ (o : Outline). place_dir_by (mark_of o.path o.is_dir) o.is_dir o.path) one rest) in
+    (λ i. t i || (o i || (c i || d i)))
+    ∙ shuffled (list_any (λ q. at_or_above q p) (targets (one ∷ []))) (list_any (λ q. is_above q p) (opaque_dirs (one ∷ [])))
+    (list_any (λ q. at_or_above q p) (covers (one ∷ []))) (list_any (λ q. same_path q p) (place_dirs (one ∷ [])))
+    (list_any (λ q. at_or_above q p) (targets rest)) (list_any (λ q. is_above q p) (opaque_dirs rest))
+    (list_any (λ q. at_or_above q p) (covers rest)) (list_any (λ q. same_path q p) (place_dirs rest))
 
 -- What one entry hides at a place: what its layer hides by it, and its own path if it is plain.
 
@@ -97,8 +96,12 @@ less_equal e = cc
 after_itself : (p : Path) (e : TreeEntry) → ComesAfter p e → same_path e.path p ≡ true → ⊥
 after_itself p e h s = less_equal (sym h ∙ ap (path_cmp p) (path_is e.path p s) ∙ tied_itself path_total p)
 
+abbrev outline_at : Path → Node → Outline
+outline_at q n = record { path = q; is_dir = is_dir_node n }
+
 one_is : (m : Mark) (n : Node) (q p : Path) (g : Bool) → (same_path q p ≡ true → g ≡ true)
-    → hides_at (cons_option (target_by m q) []) (cons_option (opaque_by m q) [])
+    → hides_at (map (λ (o : Outline). target_of o.path) (if is_whiteout m then outline_at q n ∷ [] else []))
+    (map (λ (o : Outline). parent_of o.path) (if is_opaque m then outline_at q n ∷ [] else []))
     (cons_option (if is_plain m && not (is_dir_node n) then Some q else None) [])
     (cons_option (if is_plain m && (is_dir_node n && g) then Some q else None) []) p
     ≡ (hides_by m (record { path = q; node = n }) p || (is_plain m && same_path q p))

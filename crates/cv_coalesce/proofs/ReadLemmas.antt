@@ -1,10 +1,10 @@
 -- Files as they are read: what is gathered of the files that were read is what is gathered as entries and then read.
 use Rattle.std.specs.Prelude.{◌≡◌, Bool, true, false, ◌&&◌, ◌||◌, not, if◌then◌else◌, filter, List, [], ◌∷◌, map, Option, Some, None, refl}
-use Rattle.std.specs.List.{cons_option}
+use Rattle.std.specs.List.{AllByRecursion, cons_option}
 use Rattle.std.specs.Option.{is_some}
 use Rattle.std.specs.declared.cmp.Ordering.{Ordering}
 use Rattle.std.specs.declared.cmp.Ordering.TheVariants.{Less, Equal, Greater}
-use Rattle.std.proofs.Common.{ap, sym, ◌∙◌}
+use Rattle.std.proofs.Common.{ap, subst, sym, ◌∙◌}
 use Rattle.cv_base.specs.Path.{Path, is_above, path_cmp}
 use Rattle.cv_base.specs.Place.{place_of}
 use Rattle.cv_path.specs.declared.places.Place.{Place}
@@ -15,7 +15,11 @@ use Rattle.cv_base.proofs.InOrder.{any_order}
 use Rattle.cv_base.proofs.Same.{tied_path}
 use Rattle.cv_facts.specs.Cover.{covers, opaque_dirs, place_dirs, targets}
 use Rattle.cv_facts.specs.Files.{own_files}
+use Rattle.cv_facts.specs.Order.{AreAscending as AreAscendingFiles}
 use Rattle.cv_facts.specs.Reduction.{reduction_of}
+use Rattle.cv_facts.specs.declared.reduction.Reduction.{Reduction}
+use Rattle.cv_overlay.specs.Ascending.{AreAscending}
+use Rattle.cv_overlay.proofs.MergeLemmas.{ascending_kept}
 use Rattle.cv_overlay.specs.Lay.{is_plain}
 use Rattle.cv_overlay.specs.Mark.{at_or_above, mark, outline}
 use Rattle.cv_overlay.specs.code.Merge.{first_of_two as first_entry, merged as merged_entries}
@@ -25,9 +29,11 @@ use Rattle.cv_packages.specs.declared.found.FileFound.{FileFound}
 use Rattle.cv_packages.specs.declared.found.Found.{Found}
 use Rattle.cv_packages.specs.declared.found.Found.TheVariants as found
 use Rattle.cv_scan.specs.Root.{root_entries}
-use Rattle.cv_coalesce.specs.Gathered.{first_of_two, gathered, merged}
+use Rattle.cv_coalesce.specs.Gathered.{gathered}
+use Rattle.cv_coalesce.specs.code.Merged.{first_of_two, merged, merged_layers}
 use Rattle.cv_coalesce.specs.Hides.{hides, hides_at, is_hidden}
-use Rattle.cv_coalesce.specs.code.Trees.{AllAscend, gathered_entries, hidden_by, is_file, layer_files, root_files, tree_hides, visible_entries}
+use Rattle.cv_coalesce.specs.code.Trees.{AllAscend, gathered_entries, hidden_by, is_file, is_placed_file, layer_files, root_files, tree_hides, visible_entries}
+use Rattle.cv_coalesce.proofs.GatheredLemmas.{merged_gathered}
 use Rattle.cv_coalesce.proofs.LayerLemmas.{gathered_root}
 
 -- Reading a file at a place. (What is read of other entries is not used.)
@@ -108,12 +114,32 @@ visible_read higher tree =
     ∙ kept_read (is_hidden (map reduction_of higher)) (layer_files tree)
     ∙ (λ i. map read (filter (λ (e : TreeEntry). not (hidden_read higher e.path i)) (layer_files tree)))
 
-gathered_read : (trees : List (List TreeEntry)) → gathered (map reduction_of trees) ≡ map read (gathered_entries trees)
+gathered_read : (trees : List (List TreeEntry)) → merged_layers (map reduction_of trees) ≡ map read (gathered_entries trees)
 gathered_read [] = refl
 gathered_read (tree ∷ trees) =
     (λ i. merged (visible_read trees tree i) (gathered_read trees i))
     ∙ merged_read (visible_entries trees tree) (gathered_entries trees)
 
+-- Files that are read from ascending entries ascend.
+
+after_read : (p : Path) (es : List TreeEntry) → AllByRecursion (λ (e : TreeEntry). path_cmp p e.path ≡ Less) es
+    → AllByRecursion (λ (f : FileFound). path_cmp p f.path ≡ Less) (map read es)
+after_read p [] h = tt
+after_read p (e ∷ es) h = (h.0, after_read p es h.1)
+
+read_ascends : (es : List TreeEntry) → AreAscending es → AreAscendingFiles (map read es)
+read_ascends [] h = tt
+read_ascends (e ∷ es) h = (after_read e.path es h.0, read_ascends es h.1)
+
+own_ascends : (tree : List TreeEntry) → AreAscending tree → AreAscendingFiles (own_files tree)
+own_ascends tree h = subst AreAscendingFiles (sym (own_read tree)) (read_ascends (layer_files tree) (ascending_kept (λ (e : TreeEntry). is_plain (mark e) && is_placed_file e) tree h))
+
+all_ascend : (trees : List (List TreeEntry)) → AllAscend trees → AllByRecursion (λ (r : Reduction). AreAscendingFiles r.files) (map reduction_of trees)
+all_ascend [] h = tt
+all_ascend (tree ∷ trees) h = (own_ascends tree h.0, all_ascend trees h.1)
+
 -- the files that are gathered from the reductions of trees are the package files of the root of the image
 pub files_are : (trees : List (List TreeEntry)) → AllAscend trees → gathered (map reduction_of trees) ≡ files_found (root_entries trees)
-files_are trees h = gathered_read trees ∙ ap (map read) (gathered_root trees h) ∙ sym (files_read (root_entries trees))
+files_are trees h =
+    sym (merged_gathered (map reduction_of trees) (all_ascend trees h))
+    ∙ gathered_read trees ∙ ap (map read) (gathered_root trees h) ∙ sym (files_read (root_entries trees))

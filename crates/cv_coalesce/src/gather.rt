@@ -10,6 +10,7 @@ use std::alloc::Global;
 
 /// The package files of an image of these layers, the base first. It goes from the top layer down, so that each file is looked
 /// up in the lists of the layers above its own alone.
+#[tactic(auto, using(crate::proofs::GatheredLemmas::layers_gathered))]
 pub fn gather<'a>(alloc: Global, layers: &[&'a Reduction]) -> Result<Vec<&'a FileFound>, NoMemory>
     requires { All (λ h. HasOrderedLists h.now) layers.now }
     ensures { IfOk result (λ out. map (λ f. f.now) out.items ≡ gathered (map (λ h. h.now) layers.now)) }

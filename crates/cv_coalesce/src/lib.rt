@@ -12,7 +12,6 @@
 mod coalescer;
 mod gather;
 mod image;
-mod laws;
 mod merge;
 mod search;
 mod shapes;
@@ -21,4 +20,3 @@ mod visible;
 pub use coalescer::coalesce;
 pub use cv_overlay::ImageFault;
 pub use image::ImagePackages;
-pub use laws::scan_law;

@@ -1,5 +1,5 @@
 ghost use Rattle.std.specs.Prelude.{◌≡◌, ◌+◌, ◌<◌, ◌++◌, drop, length, map, take, Some, IfOk, OnOk};
-ghost use Rattle.cv_coalesce.specs.Gathered.{merged};
+ghost use Rattle.cv_coalesce.specs.code.Merged.{merged};
 ghost use Rattle.cv_coalesce.specs.code.Fronts.{order_of_fronts};
 
 use cv_base::NoMemory;

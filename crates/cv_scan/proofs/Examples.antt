@@ -15,6 +15,7 @@ use Rattle.cv_overlay.specs.declared.fault.TreeFault.TheVariants.{BadMark, Unsor
 use Rattle.cv_packages.specs.Packages.{packages}
 use Rattle.cv_scan.specs.Root.{root_entries}
 use Rattle.cv_scan.specs.Layers.{distinct}
+use Rattle.cv_scan.specs.Image.{image_packages}
 use Rattle.cv_scan.specs.Scan.{scan}
 use Rattle.cv_packages.proofs.Examples.{zlib_of}
 
@@ -51,28 +52,28 @@ with_status content = dir (codes "var") ∷ dir (codes "var/lib") ∷ dir (codes
 
 -- a missing layer is named before a bad tree, wherever the two stand
 absent : (scan (None ∷ []) [] ≡ Err (NoLayer 0)) × (scan (Some falling ∷ None ∷ None ∷ []) [] ≡ Err (NoLayer 1))
-unfolding scan
+unfolding scan image_packages
 absent = (refl, refl)
 
 -- the first bad tree is named before a bad file
 bad_tree : scan (Some (with_status TooLarge) ∷ Some falling ∷ Some falling ∷ []) [] ≡ Err (BadTree 1 (Unsorted 1))
-unfolding scan
+unfolding scan image_packages
 bad_tree = refl
 
 -- a mark without a name
 bad_mark : scan (Some (file (codes ".wh.") (Bytes []) ∷ []) ∷ []) [] ≡ Err (BadTree 0 (BadMark 0))
-unfolding scan
+unfolding scan image_packages
 bad_mark = refl
 
 -- a file that no layer hides is refused, and one that is hidden is ignored
 bad_file : (scan (Some (with_status TooLarge) ∷ []) [] ≡ Err (LargeFile (components (codes "var/lib/dpkg/status"))))
     × (scan (Some (with_status TooLarge) ∷ Some (file (codes ".wh.var") (Bytes []) ∷ []) ∷ []) [] ≡ Ok [])
-unfolding scan root_entries packages findings
+unfolding scan image_packages root_entries packages findings
 bad_file = (refl, refl)
 
 -- the first bad line of a package file
 bad_line : scan (Some (with_status (Bytes (codes "Package: a\nStatus: install ok installed\nnocolon\n"))) ∷ []) [] ≡ Err (BadFile (components (codes "var/lib/dpkg/status")) 3 what.NoColon)
-unfolding scan root_entries packages findings
+unfolding scan image_packages root_entries packages findings
 bad_line = refl
 
 -- a layer that is named twice is one layer, at its first place
@@ -102,5 +103,5 @@ finding id = record {
 -- a package that is listed twice has one finding for each record, in the order of their ids
 found : scan (Some (with_status (Bytes (zlib ++ 10 ∷ zlib))) ∷ []) ((codes "f", listed (codes "X-2") ∷ listed (codes "X-1") ∷ []) ∷ [])
     ≡ Ok (finding (codes "X-1") ∷ finding (codes "X-2") ∷ [])
-unfolding scan root_entries packages findings affects fixed
+unfolding scan image_packages root_entries packages findings affects fixed
 found = refl

@@ -1,4 +1,5 @@
 pub mod DistinctLemmas
+pub mod Errors
 pub mod Examples
 pub mod Failed
 pub mod Laid

@@ -17,7 +17,8 @@ use Rattle.cv_overlay.specs.declared.mark.Mark.{Mark}
 use Rattle.cv_overlay.specs.declared.mark.Mark.TheVariants.{Reserved, Opaque, Whiteout, Bad, Plain}
 use Rattle.cv_packages.specs.Packages.{packages}
 use Rattle.cv_scan.specs.Root.{entries_at, paths_of, root_entries}
-use Rattle.cv_scan.specs.Scan.{as_scanned, bad_tree_from, or_bad, scan, scan_good, scan_layers, trees_from, with_findings, with_tree}
+use Rattle.cv_scan.specs.Image.{as_image, bad_tree_from, image_packages, or_bad, packages_layers, packages_unless, trees_from, with_tree}
+use Rattle.cv_scan.specs.Scan.{scan, with_findings}
 use Rattle.cv_scan.proofs.Loaded.{dir_loaded, load_entry, load_node, loaded_fault, loaded_packages}
 
 abbrev path_in : TreeEntry → Path
@@ -131,17 +132,21 @@ bad_loaded : (index : ℕ) (trees : List (List TreeEntry)) → bad_tree_from ind
 bad_loaded index [] = refl
 bad_loaded index (tree ∷ trees) = λ i. or_bad index (loaded_fault tree i) (bad_loaded (index + 1) trees i)
 
-good_loaded : (bad : Option ImageFault) (trees : List (List TreeEntry)) (feeds : List (List ℕ × List Advisory))
-    → scan_good bad (map (map load_entry) trees) feeds ≡ scan_good bad trees feeds
-good_loaded (Some bad) trees feeds = refl
-good_loaded None trees feeds = ap (λ found. as_scanned (with_findings feeds found)) (ap packages (root_loaded trees) ∙ loaded_packages (root_entries trees))
+good_loaded : (bad : Option ImageFault) (trees : List (List TreeEntry)) → packages_unless bad (map (map load_entry) trees) ≡ packages_unless bad trees
+good_loaded (Some bad) trees = refl
+good_loaded None trees = ap as_image (ap packages (root_loaded trees) ∙ loaded_packages (root_entries trees))
 
-layers_loaded : (found : Result (List (List TreeEntry)) ImageFault) (feeds : List (List ℕ × List Advisory)) → scan_layers (load_trees found) feeds ≡ scan_layers found feeds
-layers_loaded (Err bad) feeds = refl
-layers_loaded (Ok trees) feeds =
-    ap (λ bad. scan_good bad (map (map load_entry) trees) feeds) (bad_loaded 0 trees) ∙ good_loaded (bad_tree_from 0 trees) trees feeds
+layers_loaded : (found : Result (List (List TreeEntry)) ImageFault) → packages_layers (load_trees found) ≡ packages_layers found
+layers_loaded (Err bad) = refl
+layers_loaded (Ok trees) =
+    ap (λ bad. packages_unless bad (map (map load_entry) trees)) (bad_loaded 0 trees) ∙ good_loaded (bad_tree_from 0 trees) trees
 
--- the scan of layers that were loaded
+-- the packages of layers that were loaded
+packages_loaded : (layers : List (Option (List TreeEntry))) → image_packages (map load_layer layers) ≡ image_packages layers
+unfolding image_packages
+packages_loaded layers = ap packages_layers (trees_loaded 0 layers) ∙ layers_loaded (trees_from 0 layers)
+
+-- and their scan
 pub scan_loaded : (layers : List (Option (List TreeEntry))) (feeds : List (List ℕ × List Advisory)) → scan (map load_layer layers) feeds ≡ scan layers feeds
 unfolding scan
-scan_loaded layers feeds = ap (λ found. scan_layers found feeds) (trees_loaded 0 layers) ∙ layers_loaded (trees_from 0 layers) feeds
+scan_loaded layers feeds = ap (with_findings feeds) (packages_loaded layers)

@@ -12,7 +12,9 @@ use Rattle.cv_overlay.specs.Lay.{node_at, root_of}
 use Rattle.cv_overlay.specs.Ascending.{AreAscending}
 use Rattle.cv_overlay.specs.declared.fault.ImageFault.{ImageFault}
 use Rattle.cv_scan.specs.code.Layers.{is_image_memory, refusing}
-use Rattle.cv_scan.specs.Scan.{Scanned, as_scanned, bad_tree_from, root_findings, scan, scan_good, scan_layers, scan_of, trees_from, with_tree}
+use Rattle.cv_packages.specs.Packages.{packages}
+use Rattle.cv_scan.specs.Image.{as_image, bad_tree_from, image_packages, packages_layers, packages_of, packages_unless, trees_from, with_tree}
+use Rattle.cv_scan.specs.Scan.{Scanned, scan, with_findings}
 use Rattle.cv_scan.specs.declared.layer_error.ImageError.{ImageError}
 use Rattle.cv_scan.specs.declared.layer_error.ImageError.TheVariants as error
 use Rattle.cv_scan.proofs.Laid.{laid_entries}
@@ -33,12 +35,12 @@ trees_ok (Ok ts) trees h = ap Ok (ap trees_or h) where
 trees_ok (Err bad) trees h = cc
 
 pub layers_good : (layers : List (Option (List TreeEntry))) (trees : List (List TreeEntry)) (feeds : Feeds) (answer : Result (List Finding) ImageError)
-    → refusing (trees_from 0 layers) ≡ Ok trees → Answers answer (scan_of trees feeds) → Answers answer (scan layers feeds)
-unfolding scan
+    → refusing (trees_from 0 layers) ≡ Ok trees → Answers answer (with_findings feeds (packages_of trees)) → Answers answer (scan layers feeds)
+unfolding scan image_packages
 layers_good layers trees feeds answer h k =
-    subst (λ found. Answers answer (scan_layers found feeds)) (sym (trees_ok (trees_from 0 layers) trees h)) k
+    subst (λ found. Answers answer (with_findings feeds (packages_layers found))) (sym (trees_ok (trees_from 0 layers) trees h)) k
 
-layers_by : (found : Result (List (List TreeEntry)) ImageFault) (e : ImageError) (feeds : Feeds) → refusing found ≡ Err e → refusing (scan_layers found feeds) ≡ Err e
+layers_by : (found : Result (List (List TreeEntry)) ImageFault) (e : ImageError) (feeds : Feeds) → refusing found ≡ Err e → refusing (with_findings feeds (packages_layers found)) ≡ Err e
 layers_by (Ok trees) e feeds h = cc
 layers_by (Err bad) e feeds h = ap Err (ap (error_or e) h) where
   error_or : ImageError → Result (List (List TreeEntry)) ImageError → ImageError
@@ -52,9 +54,9 @@ memory_or error.NoMemory P Q f h = h
 
 pub layers_bad : (layers : List (Option (List TreeEntry))) (feeds : Feeds) (e : ImageError)
     → MatchBool (is_image_memory e) ⊤ (refusing (trees_from 0 layers) ≡ Err e) → MatchBool (is_image_memory e) ⊤ (refusing (scan layers feeds) ≡ Err e)
-unfolding scan
+unfolding scan image_packages
 layers_bad layers feeds e h =
-    memory_or e (refusing (trees_from 0 layers) ≡ Err e) (refusing (scan_layers (trees_from 0 layers) feeds) ≡ Err e) (λ k. layers_by (trees_from 0 layers) e feeds k) h
+    memory_or e (refusing (trees_from 0 layers) ≡ Err e) (refusing (with_findings feeds (packages_layers (trees_from 0 layers))) ≡ Err e) (λ k. layers_by (trees_from 0 layers) e feeds k) h
 
 count_more : (tree : List TreeEntry) (found : Result (List (List TreeEntry)) ImageFault) (n : ℕ) → IfOk found (λ ts. length ts ≡ n) → IfOk (with_tree tree found) (λ ts. length ts ≡ suc n)
 count_more tree (Ok ts) n h = ap suc h
@@ -78,7 +80,7 @@ trees_within f g layers trees h within =
 
 pub trees_good : (trees : List (List TreeEntry)) (root entries : List TreeEntry) (feeds : Feeds) (answer : Result (List Finding) ImageError)
     → bad_tree_from 0 trees ≡ None → entries ≡ root → AreAscending root → ((p : Path) → node_at root p ≡ root_of trees p)
-    → Answers answer (as_scanned (root_findings entries feeds)) → Answers answer (scan_of trees feeds)
+    → Answers answer (with_findings feeds (as_image (packages entries))) → Answers answer (with_findings feeds (packages_of trees))
 trees_good trees root entries feeds answer good same ascending laid h =
-    subst (λ bad. Answers answer (scan_good bad trees feeds)) (sym good)
-    (subst (λ es. Answers answer (as_scanned (root_findings es feeds))) (same ∙ laid_entries trees root ascending laid) h)
+    subst (λ bad. Answers answer (with_findings feeds (packages_unless bad trees))) (sym good)
+    (subst (λ es. Answers answer (with_findings feeds (as_image (packages es)))) (same ∙ laid_entries trees root ascending laid) h)

@@ -1,9 +1,9 @@
-ghost use Rattle.std.specs.Prelude.{◌≡◌, Some};
+ghost use Rattle.std.specs.Prelude.{◌≡◌};
 ghost use Rattle.cv_scan.specs.declared.error.ScanError.TheVariants as error;
-ghost use Rattle.cv_scan.specs.Faults.{scan_fault};
+ghost use Rattle.cv_scan.specs.Faults.{root_error};
 
 use cv_base::{NoMemory, RelPath, What};
-use cv_packages::FileFault;
+use cv_packages::{FileFault, PackagesError};
 use thiserror::Error;
 
 /// Why a root has no findings: its first package file, in the order of paths, that is refused.
@@ -25,13 +25,17 @@ pub enum ScanError {
     NoMemory,
 }
 
-impl From<FileFault> for ScanError {
-    ghost from_gives = { λ fault e. scan_fault e ≡ Some fault };
+/// The refused file, or that memory ran out.
+impl From<PackagesError> for ScanError {
+    ghost from_gives = { λ e out. out ≡ root_error e };
 
-    fn from(fault: FileFault) -> ScanError {
-        match fault {
-            FileFault::BadFile { path, line, what } => ScanError::BadFile { path, line, what },
-            FileFault::TooLarge { path } => ScanError::TooLarge { path },
+    fn from(error: PackagesError) -> ScanError {
+        match error {
+            PackagesError::Refused(FileFault::BadFile { path, line, what }) => {
+                ScanError::BadFile { path, line, what }
+            }
+            PackagesError::Refused(FileFault::TooLarge { path }) => ScanError::TooLarge { path },
+            PackagesError::NoMemory => ScanError::NoMemory,
         }
     }
 }

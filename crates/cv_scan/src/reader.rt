@@ -74,6 +74,7 @@ fn read_each<D: Desk, R: LayerReader<D>>(
 }
 
 /// Reads a layer, and says at which one the desk failed.
+#[tactic(auto, using(crate::proofs::Errors::of_layer, crate::proofs::Errors::blamed))]
 fn read_one<D: Desk, R: LayerReader<D>>(
     alloc: Global,
     desk: &mut D,
@@ -88,7 +89,6 @@ fn read_one<D: Desk, R: LayerReader<D>>(
 {
     match R::read(alloc, desk, layer) {
         Ok(made) => Ok(made),
-        Err(DeskFault::Failed) => Err(ImageError::Desk(*layer)),
-        Err(DeskFault::NoMemory) => Err(ImageError::NoMemory),
+        Err(fault) => Err(ImageError::of_desk(layer, fault)),
     }
 }

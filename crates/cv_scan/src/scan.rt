@@ -2,11 +2,12 @@ ghost use Rattle.std.specs.Prelude.{◌≡◌, ◌^◌, ◌<◌, ◌≤◌, ◌�
 ghost use Rattle.cv_base.specs.Answer.{Gives, MatchesUnlessOutOfMemory};
 ghost use Rattle.cv_base.specs.Path.{Path};
 ghost use Rattle.cv_overlay.specs.Lay.{node_at, root_of};
-ghost use Rattle.cv_packages.specs.Faults.{refused_file};
+ghost use Rattle.cv_packages.specs.Packages.{packages};
 ghost use Rattle.cv_scan.specs.Faults.{scan_fault};
 ghost use Rattle.cv_scan.specs.Layers.{IsScanAnswer};
 ghost use Rattle.cv_scan.specs.code.Layers.{IsBadTree, is_image_memory, refusing, tree_in};
-ghost use Rattle.cv_scan.specs.Scan.{as_scanned, bad_tree_from, root_findings, scan, scan_of, trees_from};
+ghost use Rattle.cv_scan.specs.Image.{as_image, bad_tree_from, packages_of, trees_from};
+ghost use Rattle.cv_scan.specs.Scan.{root_findings, scan, with_findings};
 
 use crate::error::ScanError;
 use crate::layer_error::ImageError;
@@ -15,8 +16,8 @@ use crate::reader::read_layers;
 use cv_base::{Advisory, Digest, Finding, MAX_LAYERS, NoMemory, Seq, Text, Tree, TreeEntry};
 use cv_desk::Desk;
 use cv_match_feed::find_all;
-use cv_overlay::{ImageFault, OverlayError, Root};
-use cv_packages::{PackagesError, read_packages};
+use cv_overlay::{ImageFault, Root};
+use cv_packages::read_packages;
 use std::alloc::Global;
 
 /// Scans an image: loads each distinct layer once, in the order of the image, and returns the findings of the packages of
@@ -65,7 +66,7 @@ fn scan_trees(
     advisories: &[Advisory],
 ) -> Result<Seq<Finding>, ImageError>
     requires at_most_128_layers { length trees.now ≤ MAX_LAYERS }
-    ensures { Gives is_image_memory (λ found. found) result (refusing (scan_of (map (λ tree. tree.now.entries) trees.now) ((feed.now, advisories.now) ∷ []))) }
+    ensures { Gives is_image_memory (λ found. found) result (refusing (with_findings ((feed.now, advisories.now) ∷ []) (packages_of (map (λ tree. tree.now.entries) trees.now)))) }
 {
     match lay_trees(alloc, trees) {
         Ok(root) => scan_laid(alloc, root.entries(), feed, advisories),
@@ -74,18 +75,18 @@ fn scan_trees(
 }
 
 /// Scans an image whose root has these entries.
+#[tactic(auto, using(crate::proofs::Errors::packages_given))]
 fn scan_laid(
     alloc: Global,
     entries: &[TreeEntry],
     feed: &Text,
     advisories: &[Advisory],
 ) -> Result<Seq<Finding>, ImageError>
-    ensures { Gives is_image_memory (λ found. found) result (refusing (as_scanned (root_findings entries.now ((feed.now, advisories.now) ∷ [])))) }
+    ensures { Gives is_image_memory (λ found. found) result (refusing (with_findings ((feed.now, advisories.now) ∷ []) (as_image (packages entries.now)))) }
 {
-    match scan_entries(alloc, entries, advisories, feed) {
-        Ok(found) => Ok(found),
-        Err(PackagesError::Refused(fault)) => Err(ImageError::Bad(ImageFault::from(fault))),
-        Err(PackagesError::NoMemory) => Err(ImageError::NoMemory),
+    match read_packages(alloc, entries) {
+        Ok(packages) => Ok(find_all(alloc, packages.as_slice(), feed, advisories)?),
+        Err(error) => Err(ImageError::from(error)),
     }
 }
 
@@ -120,10 +121,7 @@ fn lay_trees(alloc: Global, trees: &[&Tree]) -> Result<Root, ImageError>
     for (index, tree) in trees.iter().enumerate() {
         match root.lay(alloc, tree) {
             Ok(()) => {}
-            Err(OverlayError::BadTree(fault)) => {
-                return Err(ImageError::Bad(ImageFault::BadTree(index as u32, fault)));
-            }
-            Err(OverlayError::NoMemory) => return Err(ImageError::NoMemory),
+            Err(error) => return Err(ImageError::of_overlay(index as u32, error)),
         }
     }
     Ok(root)
@@ -131,6 +129,7 @@ fn lay_trees(alloc: Global, trees: &[&Tree]) -> Result<Root, ImageError>
 
 /// The findings of the packages of a root with the records of a feed. The first package file that is above the limit, or has
 /// a bad line, is the error.
+#[tactic(auto, using(crate::proofs::Errors::root_given))]
 pub fn scan_root(
     alloc: Global,
     root: &Root,
@@ -139,22 +138,8 @@ pub fn scan_root(
 ) -> Result<Seq<Finding>, ScanError>
     ensures { MatchesUnlessOutOfMemory scan_fault (λ found. found) result (root_findings root.now ((feed.now, advisories.now) ∷ [])) }
 {
-    match scan_entries(alloc, root.entries(), advisories, feed) {
-        Ok(found) => Ok(found),
-        Err(PackagesError::Refused(fault)) => Err(ScanError::from(fault)),
-        Err(PackagesError::NoMemory) => Err(ScanError::NoMemory),
+    match read_packages(alloc, root.entries()) {
+        Ok(packages) => Ok(find_all(alloc, packages.as_slice(), feed, advisories)?),
+        Err(error) => Err(ScanError::from(error)),
     }
-}
-
-/// The same of a root that is given by its entries.
-fn scan_entries(
-    alloc: Global,
-    entries: &[TreeEntry],
-    advisories: &[Advisory],
-    feed: &Text,
-) -> Result<Seq<Finding>, PackagesError>
-    ensures { MatchesUnlessOutOfMemory refused_file (λ found. found) result (root_findings entries.now ((feed.now, advisories.now) ∷ [])) }
-{
-    let packages = read_packages(alloc, entries)?;
-    Ok(find_all(alloc, packages.as_slice(), feed, advisories)?)
 }

@@ -1,2 +1,3 @@
 -- Definitions for the clauses of private functions.
+pub mod Faults
 pub mod Packages

@@ -1,10 +1,9 @@
 ghost use Rattle.std.specs.Prelude.{◌≡◌, ◌^◌, ◌<◌, ◌≤◌, ◌∷◌, [], false, length, map, IfSome};
-ghost use Rattle.cv_coalesce.specs.Image.{image_findings};
 ghost use Rattle.cv_scan_image.specs.code.Packages.{packages_in};
 ghost use Rattle.cv_scan.specs.Distinct.{distinct};
 ghost use Rattle.cv_scan.specs.Failed.{is_desk_fault};
 ghost use Rattle.cv_scan.specs.Layers.{IsScanAnswer, IsScanned, stored_layers, whole_layers};
-ghost use Rattle.cv_scan.specs.Scan.{scan};
+ghost use Rattle.cv_scan.specs.Scan.{scan, with_findings};
 
 use crate::indexer::Indexer;
 use crate::places::places_of;
@@ -63,7 +62,7 @@ fn findings_of(
     feed: &Text,
     advisories: &[Advisory],
 ) -> Result<Seq<Finding>, ImageError>
-    ensures answer { IsScanned result (image_findings ((feed.now, advisories.now) ∷ []) (packages_in packages)) }
+    ensures answer { IsScanned result (with_findings ((feed.now, advisories.now) ∷ []) (packages_in packages)) }
     ensures desk { is_desk_fault result ≡ false }
 {
     match packages {

@@ -1,5 +1,5 @@
 use Rattle.std.proofs.Common.{◌≡◌, ◌+◌, ◌++◌, length, map}
-use Rattle.cv_coalesce.specs.Gathered.{merged}
+use Rattle.cv_coalesce.specs.code.Merged.{merged}
 use Rattle.cv_coalesce.proofs.merge.merge.Given as goal
 
 -- the files so far, with the remaining ones merged, are the whole merged

@@ -1,6 +1,6 @@
 use Rattle.std.proofs.Common.{◌≡◌, map, drop}
 use Rattle.cv_overlay.specs.Lay.{node_at, root_from, root_of}
-use Rattle.cv_scan.specs.Scan.{bad_tree_from}
+use Rattle.cv_scan.specs.Image.{bad_tree_from}
 use Rattle.cv_scan.proofs.LaidTrees.{AreSame}
 use Rattle.cv_scan.proofs.scan.lay_trees.Given as goal
 

@@ -1,6 +1,6 @@
 use Rattle.std.proofs.Common.{◌≡◌, map, drop}
 use Rattle.cv_scan.specs.code.Layers.{tree_in}
-use Rattle.cv_scan.specs.Scan.{trees_from}
+use Rattle.cv_scan.specs.Image.{trees_from}
 use Rattle.cv_scan.proofs.LaidTrees.{trees_onto}
 use Rattle.cv_scan.proofs.scan.trees_of.Given as goal
 
