@@ -15,6 +15,7 @@ use Rattle.cv_core_records.specs.declared.read.PageOutcome.TheVariants as page
 use Rattle.cv_core_records.specs.declared.read.ReportOutcome.TheVariants as report
 use Rattle.cv_core_records.specs.declared.reply.Reply.TheVariants as reply
 use Rattle.cv_scan.specs.Root.{root_entries}
+use Rattle.cv_scan.specs.Image.{image_packages}
 use Rattle.cv_scan.specs.Scan.{scan}
 use Rattle.cv_findings.specs.Rows.{rows_of}
 use Rattle.cv_core_machine.specs.Answer.{report_of, waiting_for}
@@ -160,7 +161,7 @@ notified : ((state_after trees indexed (Update (codes "p") (listed (codes "X-1")
     ≡ (1, record { image = 2 ∷ []; reason = Added; finding = zlib (codes "X-1") None } ∷ [])
     ∷ (3, record { image = 2 ∷ []; reason = Removed; finding = zlib (codes "X-1") None } ∷ []) ∷ [])
     × ((state_after trees indexed (Update (codes "p") (listed (codes "X-1") ∷ []) ∷ Ack 1 ∷ [])).notifications ≡ [])
-unfolding rows_of scan root_entries packages findings affects fixed
+unfolding rows_of scan image_packages root_entries packages findings affects fixed
 notified = (refl, refl)
 
 -- Notifications.
@@ -200,7 +201,7 @@ reports : (report_of trees indexed (3 ∷ []) ≡ report.NotRegistered)
     × (report_of trees indexed (2 ∷ []) ≡ report.Good 0 [])
     × (report_of no_trees indexed (2 ∷ []) ≡ report.BadImage (NoLayer 0))
     × (report_of trees (state_after trees indexed (Update (codes "p") (listed (codes "X-1") ∷ []) ∷ [])) (2 ∷ []) ≡ report.Good 1 (zlib (codes "X-1") None ∷ []))
-unfolding rows_of scan root_entries packages findings affects fixed
+unfolding rows_of scan image_packages root_entries packages findings affects fixed
 reports = (refl, refl, refl, refl, refl)
 
 -- only the second image waits, for the layer that is not indexed

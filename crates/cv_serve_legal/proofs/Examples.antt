@@ -42,6 +42,7 @@ use Rattle.cv_transcript.specs.Tag.{entry_tag, tag_of_json}
 use Rattle.cv_transcript.specs.declared.entry.Entry.{Entry}
 use Rattle.cv_transcript.specs.declared.entry.Entry.TheVariants as entry
 use Rattle.cv_scan.specs.Root.{root_entries}
+use Rattle.cv_scan.specs.Image.{image_packages}
 use Rattle.cv_scan.specs.Scan.{scan}
 use Rattle.cv_findings.specs.Rows.{rows_of}
 use Rattle.cv_core_machine.specs.Answer.{Read, answer_to, report_of}
@@ -249,7 +250,7 @@ worker_works true = (tt, (refl, refl))
 worker_works false = refl
 
 second_legal : IsLegalRound trees 1 registered second_round second_entries indexed
-unfolding rows_of scan root_entries packages findings affects fixed
+unfolding rows_of scan image_packages root_entries packages findings affects fixed
 second_legal = record {
   taken = asks 4 (request.Report image) ∷ [];
   answers = second_taken;
@@ -325,7 +326,7 @@ abbrev last_entries : List Entry
 last_entries = entry.Event claim_event ∷ entry.Event indexed_event ∷ []
 
 last_legal : IsLegalRound trees 1 registered [] last_entries indexed
-unfolding rows_of scan root_entries packages findings affects fixed
+unfolding rows_of scan image_packages root_entries packages findings affects fixed
 last_legal = record {
   taken = [];
   answers = tt;
@@ -479,7 +480,7 @@ late_entries = entry.Read (record { front = 3; lane = 0; line = 4; answer = answ
 
 -- in this state no report of the image waits
 never_waits : (requested : Option Read) → option_map (answer_to trees indexed.state) requested ≡ Some (answer.Report image (report.Pending layer)) → ⊥
-unfolding rows_of scan root_entries packages findings affects fixed
+unfolding rows_of scan image_packages root_entries packages findings affects fixed
 never_waits None is = cc is
 never_waits (Some (reads.Report other)) is =
     let same : other ≡ image = cc is in
