@@ -2,4 +2,5 @@ mod bad;
 mod coalesce;
 mod image;
 mod input;
+mod python;
 mod refusal;
