@@ -1,7 +1,10 @@
 -- Layers that their digests spell (defined by this project, for drills). A digest's byte 0 is a role, bytes 1 to 4 are a
 -- number, the most significant byte first, and bytes 5 to 31 are 0. Every other digest, and every role above 3, has no layer.
-use Rattle.std.specs.Prelude.{ℕ, ◌+◌, ◌-◌, ◌*◌, ◌/◌, ◌%◌, ◌==◌, min, if◌then◌else◌, slice_index, List, [], ◌∷◌, ◌++◌, take, drop, codes, decimal, Option, Some, None}
+use Rattle.std.specs.Prelude.{ℕ, ◌+◌, ◌*◌, ◌/◌, ◌%◌, ◌==◌, if◌then◌else◌, slice_index, List, [], ◌∷◌, ◌++◌, drop, codes, decimal, Option, Some, None}
 use Rattle.std.specs.List.{list_all}
+use Rattle.std.specs.Ordering.{nat_cmp}
+use Rattle.std.specs.declared.cmp.Ordering.{Ordering}
+use Rattle.cv_base.specs.InOrder.{in_order}
 use Rattle.cv_base.specs.Path.{components}
 use Rattle.cv_desk.specs.Stored.{Dir, File, Stored}
 
@@ -68,9 +71,13 @@ twenty = ten ++ 10 ∷ 11 ∷ 12 ∷ 13 ∷ 14 ∷ 15 ∷ 16 ∷ 17 ∷ 18 ∷ 1
 abbrev pub thirty : List ℕ
 thirty = twenty ++ 20 ∷ 21 ∷ 22 ∷ 23 ∷ 24 ∷ 25 ∷ 26 ∷ 27 ∷ 28 ∷ 29 ∷ []
 
--- how many of ten packages come before the number in a name begins at 0 again
-abbrev pub before_wrap : ℕ → ℕ
-before_wrap s = min (100 - s % 100) 10
+-- the order of two packages, by the numbers in their names
+abbrev pub name_cmp : ℕ → ℕ → ℕ → Ordering
+name_cmp s j k = nat_cmp (name_number s j) (name_number s k)
+
+-- ten packages in the order of the numbers in their names
+abbrev pub by_name : ℕ → List ℕ
+by_name s = in_order (name_cmp s) ten
 
 -- the directories of the status file, and the status file
 abbrev pub status_file : List ℕ → List Stored
@@ -81,10 +88,10 @@ abbrev pub system_tree : ℕ → List Stored
 system_tree s =
     directory (codes "etc") ∷ file (codes "etc/os-release") (codes "ID=debian\nVERSION_ID=\"12\"\n") ∷ status_file (paragraphs s twenty)
 
--- role 2: ten npm packages in path order, so that those whose numbers begin at 0 again come first
+-- role 2: ten npm packages in path order
 abbrev pub package_tree : ℕ → List Stored
 package_tree s =
-    directory (codes "app") ∷ directory (codes "app/node_modules") ∷ packages s (drop (before_wrap s) ten) ++ packages s (take (before_wrap s) ten)
+    directory (codes "app") ∷ directory (codes "app/node_modules") ∷ packages s (by_name s)
 
 -- role 3: all npm packages of lower layers are hidden
 abbrev pub opaque_tree : List Stored

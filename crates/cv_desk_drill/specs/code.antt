@@ -1,4 +1,5 @@
 pub mod GeneratedDistinct
 pub mod GeneratedEntry
 pub mod GeneratedLaws
+pub mod GeneratedNames
 pub mod GeneratedPaths

@@ -2,7 +2,7 @@ ghost use Rattle.std.specs.Prelude.{◌≡◌, ◌+◌, ◌*◌, ◌%◌, ◌<�
 ghost use Rattle.std.specs.List.{list_all};
 ghost use Rattle.std.specs.Option.{option_map};
 ghost use Rattle.cv_base.specs.Path.{components, path_of};
-ghost use Rattle.cv_desk_drill.specs.Generated.{before_wrap, directory, file, generated, manifest, manifest_text, name_number, number_of, npm_package, opaque_tree, packages, package_text, package_tree, paragraph, paragraphs, role_tree, status_file, system_tree, thirty, twenty, two_digits, version_number};
+ghost use Rattle.cv_desk_drill.specs.Generated.{directory, file, generated, manifest, manifest_text, name_number, number_of, npm_package, opaque_tree, packages, package_text, package_tree, paragraph, paragraphs, role_tree, status_file, system_tree, thirty, twenty, two_digits, version_number};
 ghost use Rattle.cv_desk.specs.Stored.{Stored, file_read, item_at, item_in, listed};
 ghost use Rattle.cv_desk_drill.specs.code.GeneratedEntry.{item_of_text, made};
 
@@ -143,6 +143,7 @@ fn status_layer(alloc: Global, s: u32) -> Result<Vec<GenEntry>, NoMemory>
     Ok(out)
 }
 
+#[tactic(auto, using(crate::specs::code::GeneratedNames::packages_wrapped))]
 fn package_layer(alloc: Global, s: u32) -> Result<Vec<GenEntry>, NoMemory>
     ensures { IfOk result (λ entries. map made entries.items ≡ package_tree s) }
 {

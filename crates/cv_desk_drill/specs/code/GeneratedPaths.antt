@@ -1,10 +1,10 @@
 -- The path of each entry of a generated layer is read from a text.
-use Rattle.std.specs.Prelude.{ℕ, ◌<◌, List, [], ◌∷◌, take, drop, codes, Some, refl}
+use Rattle.std.specs.Prelude.{ℕ, ◌<◌, List, [], ◌∷◌, codes, Some, refl}
 use Rattle.std.specs.List.{AllByRecursion}
 use Rattle.std.proofs.Common.{arith}
 use Rattle.cv_seq.proofs.AllItems.{all_both}
 use Rattle.cv_desk.specs.Stored.{ArePathsIn, IsRead, Stored}
-use Rattle.cv_desk_drill.specs.Generated.{before_wrap, generated, manifest_text, name_number, npm_package, package_text, package_tree, packages, paragraphs, status_file, ten, thirty, twenty, version_number}
+use Rattle.cv_desk_drill.specs.Generated.{by_name, generated, manifest_text, name_number, npm_package, package_text, package_tree, packages, paragraphs, status_file, thirty, twenty, version_number}
 use Rattle.cv_desk_drill.specs.code.GeneratedLaws.{manifest_reads, of_roles, package_reads}
 
 -- the path of each of these entries is read from a text
@@ -23,14 +23,7 @@ packages_paths s (k ∷ ks) =
     (package_paths (name_number s k) (version_number s k) low) (packages_paths s ks)
 
 tree_paths : (s : ℕ) → HavePaths (package_tree s)
-tree_paths s = (
-  (codes "app", refl),
-  (
-    (codes "app/node_modules", refl),
-    all_both (λ (e : Stored). IsRead e.path) (packages s (drop (before_wrap s) ten)) (packages s (take (before_wrap s) ten))
-        (packages_paths s (drop (before_wrap s) ten)) (packages_paths s (take (before_wrap s) ten)),
-  ),
-)
+tree_paths s = ((codes "app", refl), ((codes "app/node_modules", refl), packages_paths s (by_name s)))
 
 -- the directories of the status file, and the status file
 status_paths : (bytes : List ℕ) → HavePaths (status_file bytes)

@@ -26,13 +26,11 @@ const PACKAGES: [(&str, &str); 9] = [
         "srv/six.egg-info/PKG-INFO",
         "Version: 1.16.0\r\nName: six\r\n",
     ),
-    (
-        "srv/six.egg-info/SOURCES.txt",
-        "Name: other\nVersion: 1\n",
-    ),
+    ("srv/six.egg-info/SOURCES.txt", "Name: other\nVersion: 1\n"),
 ];
 
-const FOUND: &str = "Pypi opt/Foo_Bar-1.0.dist-info/METADATA Foo.Bar 1.0 of foo-bar 1.0  PyPI\nPypi srv/Foo_Bar-1.0.dist-info/METADATA Foo.Bar 1.0 of foo-bar 1.0  PyPI\nPypi srv/six.egg-info/PKG-INFO six 1.16.0 of six 1.16.0  PyPI\n";
+const FOUND: &str =
+    "Pypi opt/Foo_Bar-1.0.dist-info/METADATA Foo.Bar 1.0 of foo-bar 1.0  PyPI\nPypi srv/Foo_Bar-1.0.dist-info/METADATA Foo.Bar 1.0 of foo-bar 1.0  PyPI\nPypi srv/six.egg-info/PKG-INFO six 1.16.0 of six 1.16.0  PyPI\n";
 
 /// The whiteout of one metadata file, a folder at the place of another, and a file that names no package at the place of the third.
 const REPLACED: [(&str, &str); 9] = [
