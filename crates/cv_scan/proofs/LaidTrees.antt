@@ -8,12 +8,7 @@ use Rattle.cv_base.specs.declared.tree.Node.{Node}
 use Rattle.cv_base.specs.declared.tree.TreeEntry.{TreeEntry}
 use Rattle.cv_overlay.specs.Lay.{hides, lay, node_at, plain_at, root_from, root_of}
 use Rattle.cv_overlay.specs.Fault.{tree_fault}
-use Rattle.cv_overlay.specs.Refusal.{IsRefusal}
 use Rattle.cv_overlay.specs.declared.fault.ImageFault.{ImageFault}
-use Rattle.cv_overlay.specs.declared.fault.OverlayError.{OverlayError}
-use Rattle.cv_overlay.specs.declared.fault.OverlayError.TheVariants as overlay
-use Rattle.cv_scan.specs.Faults.{overlay_error}
-use Rattle.cv_scan.specs.code.Layers.{IsBadTree}
 use Rattle.cv_scan.specs.Image.{bad_tree_from, or_bad, with_tree}
 
 -- two roots have the same at each path
@@ -66,10 +61,3 @@ step_good f xs i x whole lt at h k =
 pub all_laid : {A : Type 0} (f : A → List TreeEntry) (xs : List A) (i : ℕ) (root : List TreeEntry) → length xs ≤ i
     → AreSame (root_from (node_at root) (map f (drop i xs))) (root_of (map f xs)) → AreSame (node_at root) (root_of (map f xs))
 all_laid f xs i root le h p = ap (λ ts. root_from (node_at root) (map f ts) p) (sym (drop_all i xs le)) ∙ h p
-
--- one was not laid
-pub not_laid : {A : Type 0} (f : A → List TreeEntry) (xs : List A) (i : ℕ) (x : A) (e : OverlayError) (whole : Option ImageFault) → i < length xs → x ≡ get_or xs i x
-    → IsRefusal (tree_fault (f x)) e → bad_tree_from i (map f (drop i xs)) ≡ whole → IsBadTree whole (overlay_error i e)
-not_laid f xs i x (overlay.BadTree bad) whole lt at h k =
-    sym k ∙ ap (bad_tree_from i) (places f xs i x lt at) ∙ ap (λ b. or_bad i b (bad_tree_from (i + 1) (map f (drop (i + 1) xs)))) h
-not_laid f xs i x overlay.NoMemory whole lt at h k = tt
