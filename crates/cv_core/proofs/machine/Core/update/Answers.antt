@@ -1,4 +1,5 @@
-use Rattle.std.specs.Prelude.{refl}
+use Rattle.std.specs.Prelude.{Err}
+use Rattle.std.proofs.Common.{ap}
 use Rattle.cv_base.proofs.Results.{if_ok}
 use Rattle.cv_core.proofs.CoreLemmas.{held, update_made, update_refused}
 use Rattle.cv_core.proofs.machine.Core.update.Goals as goal
@@ -15,4 +16,4 @@ returns-in-Err-TooManyFeeds-clause-known g c =
     let inside = c.self.inside in
     if_ok _ _ c.unchanged.result c.unchanged.ensures
     (λ after is. update_refused c.args.self.now inside.inventory c.args.feed c.args.records after
-    (held inside.inventory inside.notices inside.generation inside.count c.args.self.now c.self.view_is) (c.in-Err-TooManyFeeds.ensures.full refl) is)
+    (held inside.inventory inside.notices inside.generation inside.count c.args.self.now c.self.view_is) (c.in-Err-TooManyFeeds.ensures.full (ap Err c.in-Err-TooManyFeeds.field-0-is)) is)
