@@ -5,7 +5,7 @@ ghost use Rattle.cv_request.specs.Fault.{error_of};
 ghost use Rattle.cv_scan_output.specs.Refusal.{no_manifest_text, refusal_text};
 ghost use Rattle.cv_command.specs.Command.{ScanEnds};
 ghost use Rattle.cv_command.specs.World.{counts_of};
-ghost use Rattle.cv_command.specs.code.Printing.{OutcomePrinted, RefusalPrinted};
+ghost use Rattle.cv_command.specs.code.Printing.{ErrorPrinted, OutcomePrinted, RefusalPrinted};
 
 use crate::printing::print;
 use crate::scanning::scan_answer;
@@ -36,12 +36,7 @@ pub fn scan_command<S: Source, K: Sink, D: Desk>(
 {
     match read_scan_input(alloc, input) {
         Ok(request) => print_scan(alloc, output, desk, &request),
-        Err(InputError::NoManifest) => print_no_manifest(alloc, output),
-        Err(InputError::Refused { line, fault }) => print_refusal(alloc, output, line, fault),
-        Err(InputError::ReadFault) => Status::ReadFault,
-        Err(InputError::LineTooLong) => Status::LineTooLong,
-        Err(InputError::InputTooLong) => Status::InputTooLong,
-        Err(InputError::NoMemory) => Status::NoMemory,
+        Err(error) => print_error(alloc, output, error),
     }
 }
 
@@ -61,6 +56,21 @@ fn print_scan<K: Sink, D: Desk>(
     match scan_answer(alloc, desk, request) {
         Ok(answer) => print(output, answer.text.as_str(), answer.ended),
         Err(NoMemory) => Status::NoMemory,
+    }
+}
+
+/// Prints why the input has no request. If the input could not be read, nothing is printed, and the status says why.
+fn print_error<K: Sink>(alloc: Global, output: &mut K, error: InputError) -> Status
+    ensures printed { ErrorPrinted error (K.contents output.old) (K.contents output.new) result }
+    ensures write_fault { result ≡ Status.WriteFault → Rose (K.faults output.old) (K.faults output.new) }
+{
+    match error {
+        InputError::NoManifest => print_no_manifest(alloc, output),
+        InputError::Refused { line, fault } => print_refusal(alloc, output, line, fault),
+        InputError::ReadFault => Status::ReadFault,
+        InputError::LineTooLong => Status::LineTooLong,
+        InputError::InputTooLong => Status::InputTooLong,
+        InputError::NoMemory => Status::NoMemory,
     }
 }
 

@@ -1,4 +1,5 @@
-ghost use Rattle.std.specs.Prelude.{◌≡◌, true, IfOk, map, string_bytes};
+ghost use Rattle.std.specs.Prelude.{◌≡◌, true, IfOk};
+ghost use Rattle.cv_command_arguments.specs.Simple.{texts_of};
 ghost use Rattle.cv_command_arguments.specs.Versions.{comparison_by};
 ghost use Rattle.cv_base.specs.declared.«package».PackageKind.TheVariants as kind;
 ghost use Rattle.cv_match.specs.Order.{version_in};
@@ -31,7 +32,7 @@ pub enum Compared {
 /// the usage line.
 #[tactic(auto, unfolding(crate::specs::Order::order_of))]
 pub fn order_command<K: Sink>(alloc: Global, arguments: &[String], output: &mut K) -> Status
-    ensures printed { IsPrinted (order_of (map (λ argument. string_bytes argument) arguments.now)) (K.contents output.old) (K.contents output.new) result }
+    ensures printed { IsPrinted (order_of (texts_of arguments.now)) (K.contents output.old) (K.contents output.new) result }
     ensures write_fault { result ≡ Status.WriteFault → Rose (K.faults output.old) (K.faults output.new) }
 {
     match versions_of(alloc, arguments) {

@@ -4,11 +4,12 @@ ghost use Rattle.cv_scan.specs.Layers.{distinct};
 ghost use Rattle.cv_command.specs.Outcome.{SaysOutcome};
 ghost use Rattle.cv_command.specs.Printed.{is_end};
 ghost use Rattle.cv_command.specs.World.{counts_of};
-ghost use Rattle.cv_command.specs.code.Printing.{SaysError, printed_of};
+ghost use Rattle.cv_command.specs.code.Printing.{SaysError, printed_of, reason_of, reason_printed};
 
 use crate::status::Status;
 use cv_base::{Digest, MAX_LAYERS, NoMemory, Text};
 use cv_desk::Desk;
+use cv_overlay::ImageFault;
 use cv_scan_image::{ImageError, scan_layers};
 use cv_scan_input::ScanInput;
 use cv_scan_output::{bad_image_line, desk_fault_line, good_line};
@@ -42,23 +43,49 @@ pub fn scan_answer<D: Desk>(
             text: good_line(alloc, hash, found.as_slice())?,
             ended: Status::Done,
         }),
-        Err(error) => error_answer(alloc, hash, &error),
+        Err(error) => error_answer(alloc, hash, error),
     }
 }
 
+/// Why an image has no findings: it is refused, or the desk failed at a layer.
+#[derive(Drop)]
+enum Reason {
+    Bad(ImageFault),
+    Desk(Digest),
+}
+
 /// The line that says why an image has no findings.
-fn error_answer(alloc: Global, hash: &Digest, error: &ImageError) -> Result<Answer, NoMemory>
-    ensures { IfOk result (λ answer. SaysError hash.now error.now (printed_of answer)) }
+fn error_answer(alloc: Global, hash: &Digest, error: ImageError) -> Result<Answer, NoMemory>
+    ensures { IfOk result (λ answer. SaysError hash.now error (printed_of answer)) }
+{
+    match reason_of(error) {
+        Some(reason) => reason_answer(alloc, hash, &reason),
+        None => Err(NoMemory),
+    }
+}
+
+/// The reason that an error gives: none, if it is out of memory.
+fn reason_of(error: ImageError) -> Option<Reason>
+    ensures { result ≡ reason_of error }
 {
     match error {
-        ImageError::Bad(bad) => Ok(Answer {
+        ImageError::Bad(bad) => Some(Reason::Bad(bad)),
+        ImageError::Desk(layer) => Some(Reason::Desk(layer)),
+        ImageError::NoMemory => None,
+    }
+}
+
+fn reason_answer(alloc: Global, hash: &Digest, reason: &Reason) -> Result<Answer, NoMemory>
+    ensures { IfOk result (λ answer. printed_of answer ≡ reason_printed hash.now reason.now) }
+{
+    match reason {
+        Reason::Bad(bad) => Ok(Answer {
             text: bad_image_line(alloc, hash, bad)?,
             ended: Status::Refused,
         }),
-        ImageError::Desk(layer) => Ok(Answer {
+        Reason::Desk(layer) => Ok(Answer {
             text: desk_fault_line(alloc, layer)?,
             ended: Status::DeskFault,
         }),
-        ImageError::NoMemory => Err(NoMemory),
     }
 }

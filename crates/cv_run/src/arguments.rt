@@ -1,4 +1,5 @@
-ghost use Rattle.std.specs.Prelude.{◌≡◌, map, string_bytes, IfOk};
+ghost use Rattle.std.specs.Prelude.{◌≡◌, IfOk};
+ghost use Rattle.cv_command_arguments.specs.Simple.{texts_of};
 ghost use Rattle.cv_run.specs.Arguments.{command_of, drill_with, named, scan_with, serve_with};
 
 use cv_base::NoMemory;
@@ -20,7 +21,7 @@ pub enum Command {
 
 /// The command that the arguments name.
 pub fn command_of(alloc: Global, arguments: &[String]) -> Result<Command, NoMemory>
-    ensures { IfOk result (λ command. command ≡ command_of (map (λ argument. string_bytes argument) arguments.now)) }
+    ensures { IfOk result (λ command. command ≡ command_of (texts_of arguments.now)) }
 {
     let [name, options @ ..] = arguments else {
         return Ok(Command::Print);
@@ -29,7 +30,7 @@ pub fn command_of(alloc: Global, arguments: &[String]) -> Result<Command, NoMemo
 }
 
 fn named(alloc: Global, name: &str, options: &[String]) -> Result<Command, NoMemory>
-    ensures { IfOk result (λ command. command ≡ named name.now (map (λ option. string_bytes option) options.now)) }
+    ensures { IfOk result (λ command. command ≡ named name.now (texts_of options.now)) }
 {
     match name {
         "scan" => scan_with(alloc, options),
@@ -40,14 +41,14 @@ fn named(alloc: Global, name: &str, options: &[String]) -> Result<Command, NoMem
 }
 
 fn scan_with(alloc: Global, options: &[String]) -> Result<Command, NoMemory>
-    ensures { IfOk result (λ command. command ≡ scan_with (map (λ option. string_bytes option) options.now)) }
+    ensures { IfOk result (λ command. command ≡ scan_with (texts_of options.now)) }
 {
     let taken = takes_scan(alloc, options)?;
     Ok(if taken { Command::Scan } else { Command::Print })
 }
 
 fn serve_with(alloc: Global, options: &[String]) -> Result<Command, NoMemory>
-    ensures { IfOk result (λ command. command ≡ serve_with (map (λ option. string_bytes option) options.now)) }
+    ensures { IfOk result (λ command. command ≡ serve_with (texts_of options.now)) }
 {
     match workers_of(alloc, options)? {
         Some(workers) => Ok(Command::Serve(workers)),
@@ -56,7 +57,7 @@ fn serve_with(alloc: Global, options: &[String]) -> Result<Command, NoMemory>
 }
 
 fn drill_with(alloc: Global, options: &[String]) -> Result<Command, NoMemory>
-    ensures { IfOk result (λ command. command ≡ drill_with (map (λ option. string_bytes option) options.now)) }
+    ensures { IfOk result (λ command. command ≡ drill_with (texts_of options.now)) }
 {
     match seed_of(alloc, options)? {
         Some(seed) => Ok(Command::Drill(seed)),

@@ -1,4 +1,5 @@
-ghost use Rattle.std.specs.Prelude.{◌≡◌, ◌^◌, ◌<◌, ◌≤◌, length, map, string_bytes, All};
+ghost use Rattle.std.specs.Prelude.{◌≡◌, ◌^◌, ◌<◌, ◌≤◌, length, All};
+ghost use Rattle.cv_command_arguments.specs.Simple.{texts_of};
 ghost use Rattle.cv_seq.specs.Cause.{Rose};
 ghost use Rattle.cv_run.specs.Arguments.{command_line};
 ghost use Rattle.cv_command.specs.Printed.{IsPrinted};
@@ -27,14 +28,14 @@ pub fn run<S: Source, K: Sink, D: Desk + Drop + Send + Sync, W: Threads + Wait +
     requires has_desks { 1 ≤ length desks.old.items }
     requires at_most_8_desks { length desks.old.items ≤ 8 }
     requires room { All (λ desk. D.listings desk < 2 ^ 62) desks.old.items }
-    ensures outcome { RunEnds D.tree S.remaining D.listings D.faults (map (λ argument. string_bytes argument) arguments.now)
+    ensures outcome { RunEnds D.tree S.remaining D.listings D.faults (texts_of arguments.now)
         (record { input = input.old; written = K.contents output.old; desks = desks.old.items })
         (record { input = input.new; written = K.contents output.new; desks = desks.new.items })
         result }
     ensures read_fault { result ≡ Status.ReadFault → Rose (S.faults input.old) (S.faults input.new) }
     ensures write_fault { result ≡ Status.WriteFault → Rose (K.faults output.old) (K.faults output.new) }
     ensures desk_fault { result ≡ Status.DeskFault → FirstRose D.faults desks.old.items desks.new.items }
-    ensures completes { Completes (map (λ argument. string_bytes argument) arguments.now) (length desks.old.items) (S.remaining input.old)
+    ensures completes { Completes (texts_of arguments.now) (length desks.old.items) (S.remaining input.old)
         (S.faults input.old) (S.faults input.new) (K.faults output.old) (K.faults output.new) result }
 {
     match command_of(alloc, arguments) {
@@ -56,7 +57,7 @@ fn run_command<S: Source, K: Sink, D: Desk + Drop + Send + Sync, W: Threads + Wa
     requires has_desks { 1 ≤ length desks.old.items }
     requires at_most_8_desks { length desks.old.items ≤ 8 }
     requires room { All (λ desk. D.listings desk < 2 ^ 62) desks.old.items }
-    ensures outcome { RunsAs command D.tree S.remaining D.listings D.faults (map (λ argument. string_bytes argument) arguments.now)
+    ensures outcome { RunsAs command D.tree S.remaining D.listings D.faults (texts_of arguments.now)
         (record { input = input.old; written = K.contents output.old; desks = desks.old.items })
         (record { input = input.new; written = K.contents output.new; desks = desks.new.items })
         result }
@@ -77,7 +78,7 @@ fn run_command<S: Source, K: Sink, D: Desk + Drop + Send + Sync, W: Threads + Wa
 
 /// Runs a command that reads no input. Arguments that are not a command print the usage line.
 fn print_command<K: Sink>(alloc: Global, arguments: &[String], output: &mut K) -> Status
-    ensures printed { IsPrinted (command_line (map (λ argument. string_bytes argument) arguments.now)) (K.contents output.old) (K.contents output.new) result }
+    ensures printed { IsPrinted (command_line (texts_of arguments.now)) (K.contents output.old) (K.contents output.new) result }
     ensures write_fault { result ≡ Status.WriteFault → Rose (K.faults output.old) (K.faults output.new) }
 {
     match arguments {
