@@ -27,13 +27,13 @@ class Session:
         self.known = {}
 
     def fault(self, output, is_whole=True):
-        """Why an output is not a legal transcript, or if it need not be whole, not the front of one; None if it is."""
+        """Why an output is not a legal transcript, or if it need not be whole, not a prefix of one; None if it is."""
         if (output, is_whole) not in self.known:
             self.known[output, is_whole] = self.find_fault(output, is_whole)
         return self.known[output, is_whole]
 
     def find_fault(self, output, is_whole):
-        # of a front the last line may be cut off
+        # of a prefix the last line may be cut off
         lines = judge.Output(output if is_whole else output[: output.rfind(b"\n") + 1])
         try:
             judge.Judge(lines, self.workers, judge.Machine(self.layers, False)).judge(self.rounds)
