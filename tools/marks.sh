@@ -1,7 +1,7 @@
 #!/usr/bin/env bash
 # Shows that cvwatch lays real folders as the OCI image specification says. Each check makes the folders of a few layers, scans them
-# with a record that affects every version of the npm packages a to d, and compares the packages that are found with those that
-# should be. The names of the checks say what is in the folders. Ends with 1 if one differs.
+# with a record that affects every version of the npm packages a to d and of the Python packages a and b, and compares the packages that
+# are found with those that should be. The names of the checks say what is in the folders. Ends with 1 if one differs.
 set -euo pipefail
 # shellcheck source=bench/common.sh
 . "$(dirname "$0")/../bench/common.sh"
@@ -24,6 +24,17 @@ packages() {
     done
 }
 
+# a layer with the metadata of these Python packages, each in a folder below opt
+python_packages() {
+    local folder name
+    folder=$(at "$1")/opt
+    shift
+    for name in "$@"; do
+        mkdir -p "$folder/$name-1.0.dist-info"
+        printf 'Name: %s\nVersion: 1.0\n\n' "$name" >"$folder/$name-1.0.dist-info/METADATA"
+    done
+}
+
 # a file that is empty, as a mark is
 empty() { mkdir -p "$(dirname "$(at "$1")/$2")" && : >"$(at "$1")/$2"; }
 
@@ -31,7 +42,7 @@ empty() { mkdir -p "$(dirname "$(at "$1")/$2")" && : >"$(at "$1")/$2"; }
 check() {
     {
         manifest image lower upper
-        record "$(entry npm a)" "$(entry npm b)" "$(entry npm c)" "$(entry npm d)"
+        record "$(entry npm a)" "$(entry npm b)" "$(entry npm c)" "$(entry npm d)" "$(entry PyPI a)" "$(entry PyPI b)"
     } >input
     "$program" scan <input >answer || true
     if [ "$(jq -r 'if .bad then .bad | tojson else [.findings[].name] | join(" ") end' answer)" = "$2" ]; then
@@ -66,6 +77,18 @@ check 'an opaque mark at the top' ''
 
 packages lower a b; empty upper app/node_modules/.wh..wh.plnk
 check 'a reserved name' 'a b'
+
+python_packages lower a b; python_packages upper a
+check 'a Python package in both layers' 'a b'
+
+python_packages lower a b; python_packages upper a; ln -sf ../b-1.0.dist-info/METADATA "$(at upper)/opt/a-1.0.dist-info/METADATA"
+check 'a link in the place of the metadata of a Python package' b
+
+python_packages lower a b; mkdir -p "$(at upper)/opt/a-1.0.dist-info/METADATA"
+check 'a folder in the place of the metadata of a Python package' b
+
+python_packages lower a b; empty upper opt/.wh.a-1.0.dist-info
+check 'a whiteout of a Python package' b
 
 packages lower a b; mkdir -p "$(at upper)/app/node_modules/.wh.a"
 check 'a folder with the name of a whiteout' '{"cause":"bad_tree","entry":2,"layer":1,"what":"bad_mark"}'
