@@ -1,7 +1,7 @@
 ghost use Rattle.std.specs.Prelude.{◌≡◌};
 ghost use Rattle.cv_overlay.specs.declared.fault.OverlayError.TheVariants as error;
 
-use cv_base::{NoMemory, RelPath, What};
+use cv_base::{Digest, NoMemory, RelPath, What};
 use std::alloc::AllocError;
 use thiserror::Error;
 
@@ -25,6 +25,13 @@ pub enum ImageFault {
     NoLayer(u32),
     #[error("the tree of layer {0} is not good: {1}")]
     BadTree(u32, TreeFault),
+    /// The tree of a layer has another seal than the manifest states.
+    #[error("the tree of layer {layer} has the seal {found:?}, and {stated:?} is stated")]
+    BadSeal {
+        layer: u32,
+        stated: Digest,
+        found: Digest,
+    },
     /// A line of a package file is bad. Lines are numbered from 1.
     #[error("{path:?}, line {line}: {what:?}")]
     BadFile {
@@ -56,6 +63,15 @@ impl Clone for ImageFault {
         match self {
             ImageFault::NoLayer(layer) => Ok(ImageFault::NoLayer(*layer)),
             ImageFault::BadTree(layer, fault) => Ok(ImageFault::BadTree(*layer, *fault)),
+            ImageFault::BadSeal {
+                layer,
+                stated,
+                found,
+            } => Ok(ImageFault::BadSeal {
+                layer: *layer,
+                stated: *stated,
+                found: *found,
+            }),
             ImageFault::BadFile { path, line, what } => Ok(ImageFault::BadFile {
                 path: path.clone()?,
                 line: *line,
