@@ -1,10 +1,14 @@
 -- The definitions, computed on examples.
-use Rattle.std.proofs.Common.{◌≡◌, ℕ, List, [], ◌∷◌, ◌++◌, codes, true, false, refl}
+use Rattle.std.proofs.Common.{◌≡◌, ℕ, List, [], ◌∷◌, ◌++◌, codes, map, true, false, refl}
+use Rattle.sha2.specs.Sha256.{sha256}
 use Rattle.cv_base.specs.Path.{components}
 use Rattle.cv_base.specs.declared.tree.Kind.{Kind}
 use Rattle.cv_base.specs.declared.tree.Kind.TheVariants.{Dir, File, Other}
 use Rattle.cv_base.specs.declared.tree.ListEntry.{ListEntry}
+use Rattle.cv_desk.specs.Stored.{Item, Stored}
+use Rattle.cv_desk.specs.Stored as stored
 use Rattle.cv_seal.specs.Seal.{SealedEntry, entry_bytes, is_summed, summed_bytes}
+use Rattle.cv_seal.specs.Tree.{sealed, tree_seal}
 
 -- an entry of a listing
 abbrev listed : List ℕ → Kind → ℕ → ListEntry
@@ -13,6 +17,10 @@ listed path kind size = record { path = components path; kind = kind; size = siz
 -- an entry without contents
 abbrev bare : List ℕ → Kind → ℕ → SealedEntry
 bare path kind size = record { entry = listed path kind size; content = [] }
+
+-- an entry of a stored tree
+abbrev stored_at : List ℕ → Item → Stored
+stored_at path item = record { path = components path; item = item }
 
 -- a layer of the directory `a` alone is summed as 21 bytes
 directory : summed_bytes (bare (codes "a") Dir 0 ∷ []) ≡ codes "cvwatch seal 1\nd" ++ 0 ∷ 0 ∷ 0 ∷ 1 ∷ codes "a"
@@ -44,3 +52,20 @@ marks = (refl, refl, refl)
 not_summed : (is_summed (listed (codes "usr/lib/python3/dist-packages/x-1.dist-info/METADATA") File 1) ≡ false) × (is_summed (listed (codes "var/lib/dpkg/status") Dir 0) ≡ false)
     × (is_summed (listed (codes "var/lib/dpkg/status") File 33554432) ≡ true) × (is_summed (listed (codes "var/lib/dpkg/status") File 33554433) ≡ false)
 not_summed = (refl, refl, refl, refl)
+
+-- a stored tree: a directory, a mark, a file that is summed without its bytes, and one that is summed with them
+abbrev tree : List Stored
+tree =
+    stored_at (codes "etc") stored.Dir ∷ stored_at (codes "etc/.wh.x") (stored.File []) ∷ stored_at (codes "etc/a") (stored.File (codes "A"))
+    ∷ stored_at (codes "etc/os-release") (stored.File (codes "ID=")) ∷ []
+
+stored_tree : summed_bytes (map sealed tree)
+    ≡ codes "cvwatch seal 1\nd" ++ 0 ∷ 0 ∷ 0 ∷ 3 ∷ codes "etcf" ++ 0 ∷ 0 ∷ 0 ∷ 9 ∷ codes "etc/.wh.x" ++ 0 ∷ 0 ∷ 0 ∷ 0 ∷ 0 ∷ 0 ∷ 0 ∷ 0
+    ∷ codes "f" ++ 0 ∷ 0 ∷ 0 ∷ 5 ∷ codes "etc/a" ++ 0 ∷ 0 ∷ 0 ∷ 0 ∷ 0 ∷ 0 ∷ 0 ∷ 1
+    ∷ codes "f" ++ 0 ∷ 0 ∷ 0 ∷ 14 ∷ codes "etc/os-release" ++ 0 ∷ 0 ∷ 0 ∷ 0 ∷ 0 ∷ 0 ∷ 0 ∷ 3 ∷ codes "ID="
+stored_tree = refl
+
+-- the seal of a tree is the SHA-256 of these bytes
+directory_seal : tree_seal (stored_at (codes "a") stored.Dir ∷ []) ≡ sha256 (codes "cvwatch seal 1\nd" ++ 0 ∷ 0 ∷ 0 ∷ 1 ∷ codes "a")
+unfolding tree_seal
+directory_seal = refl

@@ -1,3 +1,4 @@
 pub mod Seal
 pub mod Taken
+pub mod Tree
 pub mod code
