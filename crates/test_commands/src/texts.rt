@@ -2,7 +2,7 @@ use cv_base::NoMemory;
 use std::alloc::Global;
 
 /// Texts that stand in the tests for their names.
-static TEXTS: [(&str, &str); 14] = [
+static TEXTS: [(&str, &str); 15] = [
     // Debian's source package openssl, fixed in 3.0.11-1
     (
         "openssl",
@@ -63,6 +63,11 @@ static TEXTS: [(&str, &str); 14] = [
     (
         "openssl-in-deb",
         r#"{"advisory":"X-1","arch":"amd64","ecosystem":"Debian:12","feed":"deb","fixed":"3.0.11-1","kind":"deb","name":"libssl3","path":"var/lib/dpkg/status","source":"openssl","source_version":"3.0.9-1","version":"3.0.9-1+b1"}"#,
+    ),
+    // the seal of the layer `a`, as Python's hashlib computed it
+    (
+        "a-seal",
+        "sha256:85c0b0b0ff65138a0a2fb3ae8e880e0fbab75178f296cf0cdfdc3d45c3b10b8e",
     ),
     // a finding of openssl by a scan
     (
