@@ -11,10 +11,13 @@ pub type Replied<T> = Result<(T, Reply), NoMemory>;
 pub enum Reply {
     /// The image is registered now.
     Registered,
-    /// The image was registered with these layers before.
+    /// The image was registered with these layers and these seals before.
     Already,
-    /// The image was registered with other layers before, which it keeps.
-    Conflict { kept: Seq<Digest> },
+    /// The image was registered with other layers or other seals before. It keeps those.
+    Conflict {
+        kept: Seq<Digest>,
+        kept_seals: Seq<Option<Digest>>,
+    },
     /// As many images are registered as there may be.
     TooManyImages,
     /// The image is not registered any more.
@@ -45,7 +48,7 @@ pub enum Reply {
     NoNotification,
 }
 
-/// A copy is equal to its source. Only the layers of a conflict take memory.
+/// A copy is equal to its source. Only the layers and seals of a conflict take memory.
 impl Clone for Reply {
     ghost is_clone = { λ x y. y ≡ x };
 
@@ -53,8 +56,9 @@ impl Clone for Reply {
         Ok(match self {
             Reply::Registered => Reply::Registered,
             Reply::Already => Reply::Already,
-            Reply::Conflict { kept } => Reply::Conflict {
+            Reply::Conflict { kept, kept_seals } => Reply::Conflict {
                 kept: kept.clone()?,
+                kept_seals: kept_seals.clone()?,
             },
             Reply::TooManyImages => Reply::TooManyImages,
             Reply::Dropped => Reply::Dropped,
