@@ -11,7 +11,7 @@ use Rattle.cv_core_machine.specs.Answer.{Heads, Page, Read, Report, answer_to, p
 use Rattle.cv_core_machine.specs.Board.{board_answer, board_of}
 use Rattle.cv_core_machine.specs.Layers.{first_pending}
 use Rattle.cv_core_machine.specs.Scans.{Trees, image_scan}
-use Rattle.cv_core_machine.specs.State.{State, value_at}
+use Rattle.cv_core_machine.specs.State.{Image, State, value_at}
 
 -- what is found where each value became another one
 found_mapped : {V W : Type 0} (f : V → W) (entries : List (List ℕ × V)) (key : List ℕ)
@@ -23,10 +23,10 @@ found_mapped {V} {W} f (e ∷ es) key = by_test (is_at (text_cmp key) e.0) (foun
   by_test true rest = refl
   by_test false rest = rest
 
-report_found : (trees : Trees) (state : State) (found : Option (List (List ℕ)))
-    → unwrap_or (option_map (λ (layers : List (List ℕ)). report_at (Some layers) trees state) found) report.NotRegistered ≡ report_at found trees state
+report_found : (trees : Trees) (state : State) (found : Option Image)
+    → unwrap_or (option_map (λ (image : Image). report_at (Some image) trees state) found) report.NotRegistered ≡ report_at found trees state
 report_found trees state None = refl
-report_found trees state (Some layers) = refl
+report_found trees state (Some image) = refl
 
 by_pending : (first : Option (List ℕ)) (generation : ℕ) (scanned : Scanned) → waiting_in (pending_report first generation scanned) ≡ Some first
 by_pending (Some layer) generation scanned = refl
@@ -34,15 +34,15 @@ by_pending None generation (Ok findings) = refl
 by_pending None generation (Err bad) = refl
 
 -- what a report says of the layer for which an image waits
-pub waiting_found : (trees : Trees) (state : State) (found : Option (List (List ℕ)))
-    → waiting_in (report_at found trees state) ≡ option_map (first_pending state.layers) found
+pub waiting_found : (trees : Trees) (state : State) (found : Option Image)
+    → waiting_in (report_at found trees state) ≡ option_map (λ (kept : Image). first_pending state.layers kept.layers) found
 waiting_found trees state None = refl
-waiting_found trees state (Some layers) = by_pending (first_pending state.layers layers) state.generation (image_scan trees state.feeds layers)
+waiting_found trees state (Some image) = by_pending (first_pending state.layers image.layers) state.generation (image_scan trees state.feeds image)
 
 pub same_answers : (trees : Trees) (state : State) (read : Read) → board_answer (board_of trees state) read ≡ answer_to trees state read
 same_answers trees state (Report image) =
     ap (λ outcome. answer.Report image outcome)
-    (ap (λ found. unwrap_or found report.NotRegistered) (found_mapped (λ (layers : List (List ℕ)). report_at (Some layers) trees state) state.images image)
+    (ap (λ found. unwrap_or found report.NotRegistered) (found_mapped (λ (kept : Image). report_at (Some kept) trees state) state.images image)
     ∙ report_found trees state (value_at state.images image))
 same_answers trees state (Page notification size number) = refl
 same_answers trees state Heads = refl

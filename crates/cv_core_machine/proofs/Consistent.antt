@@ -25,8 +25,8 @@ use Rattle.cv_core_machine.specs.Laws.{IsConsistent, is_claimed}
 use Rattle.cv_core_machine.specs.Layers.{is_claimed_as, is_claimed_by, is_named}
 use Rattle.cv_core_machine.specs.Rows.{rows_of}
 use Rattle.cv_core_machine.specs.Scans.{Trees}
-use Rattle.cv_core_machine.specs.State.{Feeds, Images, Layers, Notifications, State, notification_at, opening, value_at, with_value, without_value}
-use Rattle.cv_core_machine.specs.Step.{ack_at, claim_at, drop_at, entered, finish, is_full, notified, register_at, remaining, step, update, updated}
+use Rattle.cv_core_machine.specs.State.{Feeds, Image, Images, Layers, Notifications, State, notification_at, opening, value_at, with_value, without_value}
+use Rattle.cv_core_machine.specs.Step.{ack_at, claim_at, drop_at, entered, finish, image_of, is_full, notified, register_at, remaining, step, update, updated}
 use Rattle.cv_core_machine.specs.declared.event.MachineEvent.{MachineEvent}
 use Rattle.cv_core_machine.specs.declared.event.MachineEvent.TheVariants as act
 use Rattle.cv_core_machine.specs.declared.limits.Limits.{Limits}
@@ -99,40 +99,40 @@ or_assoc true b c = refl
 or_assoc false b c = refl
 
 registered : (s : State) (m : Manifest) → IsConsistent s → value_at s.images m.hash ≡ None → nat_lt (length s.images) s.limits.images ≡ true
-    → IsConsistent (record s { images = with_value s.images m.hash m.layers; layers = entered s.layers m.layers })
+    → IsConsistent (record s { images = with_value s.images m.hash (image_of m); layers = entered s.layers m.layers })
 registered s m h new room = record {
-  images = sorted_put nat_list_cmp_total s.images m.hash m.layers h.images;
+  images = sorted_put nat_list_cmp_total s.images m.hash (image_of m) h.images;
   layers = entered_sorted s.layers m.layers h.layers;
   feeds = h.feeds;
   notifications = h.notifications;
   numbers = h.numbers;
   images_within_limit =
-      let grown : length (with_value s.images m.hash m.layers) ≤ length s.images + 1 = length_put text_cmp s.images m.hash m.layers in
+      let grown : length (with_value s.images m.hash (image_of m)) ≤ length s.images + 1 = length_put text_cmp s.images m.hash (image_of m) in
       let below : length s.images < s.limits.images = ltb-true _ _ room in
       omega (arith, grown, below);
   feeds_within_limit = h.feeds_within_limit;
   table = λ q.
       entered_some s.layers m.layers q ∙ ap (λ b. has_text m.layers q || b) (h.table q)
       ∙ or_assoc (has_text m.layers q) (is_named s.images q) (is_claimed (value_at s.layers q))
-      ∙ ap (λ b. b || is_claimed (value_at s.layers q)) (sym (any_put text_cmp (λ (image : List ℕ × List (List ℕ)). has_text image.1 q) s.images m.hash m.layers new))
-      ∙ ap (λ b. is_named (with_value s.images m.hash m.layers) q || b) (sym (entered_claimed s.layers m.layers q));
+      ∙ ap (λ b. b || is_claimed (value_at s.layers q)) (sym (any_put text_cmp (λ (image : List ℕ × Image). has_text image.1.layers q) s.images m.hash (image_of m) new))
+      ∙ ap (λ b. is_named (with_value s.images m.hash (image_of m)) q || b) (sym (entered_claimed s.layers m.layers q));
 }
 
-pub register_consistent : (found : Option (List (List ℕ))) (s : State) (m : Manifest) → value_at s.images m.hash ≡ found → IsConsistent s
+pub register_consistent : (found : Option Image) (s : State) (m : Manifest) → value_at s.images m.hash ≡ found → IsConsistent s
     → IsConsistent (register_at found s m).0
 register_consistent (Some kept) s m is h = h
 register_consistent None s m is h = by_room (nat_lt (length s.images) s.limits.images) refl where
   by_room : (b : Bool) → nat_lt (length s.images) s.limits.images ≡ b
-      → IsConsistent (either b (record s { images = with_value s.images m.hash m.layers; layers = entered s.layers m.layers }, reply.Registered) (s, reply.TooManyImages)).0
+      → IsConsistent (either b (record s { images = with_value s.images m.hash (image_of m); layers = entered s.layers m.layers }, reply.Registered) (s, reply.TooManyImages)).0
   by_room true room = registered s m h is room
   by_room false room = h
 
 -- DropImage
 
-pub drop_consistent : (found : Option (List (List ℕ))) (s : State) (image : List ℕ) → value_at s.images image ≡ found → IsConsistent s
+pub drop_consistent : (found : Option Image) (s : State) (image : List ℕ) → value_at s.images image ≡ found → IsConsistent s
     → IsConsistent (drop_at found s image).0
 drop_consistent None s image is h = h
-drop_consistent (Some layers) s image is h = record {
+drop_consistent (Some kept) s image is h = record {
   images = sorted_cut text_cmp (is_at (text_cmp image)) s.images h.images;
   layers = sorted_filter text_cmp _ s.layers h.layers;
   feeds = h.feeds;
@@ -142,10 +142,10 @@ drop_consistent (Some layers) s image is h = record {
   feeds_within_limit = h.feeds_within_limit;
   table = λ q.
       let others = without_value s.images image in
-      let found : value_at (remaining s.layers layers others) q ≡ staying (has_text layers q) (is_named others q) (value_at s.layers q) = remaining_found s.layers layers others q h.layers in
+      let found : value_at (remaining s.layers kept.layers others) q ≡ staying (has_text kept.layers q) (is_named others q) (value_at s.layers q) = remaining_found s.layers kept.layers others q h.layers in
       ap is_some found
-      ∙ staying_right (has_text layers q) (is_named others q) (value_at s.layers q)
-      (h.table q ∙ ap (λ b. b || is_claimed (value_at s.layers q)) (any_cut (λ ls. has_text ls q) (is_at (text_cmp image)) s.images layers is))
+      ∙ staying_right (has_text kept.layers q) (is_named others q) (value_at s.layers q)
+      (h.table q ∙ ap (λ b. b || is_claimed (value_at s.layers q)) (any_cut (λ (i : Image). has_text i.layers q) (is_at (text_cmp image)) s.images kept is))
       ∙ ap (λ f. is_named others q || is_claimed f) (sym found);
 }
 

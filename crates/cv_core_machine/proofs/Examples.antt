@@ -1,5 +1,5 @@
 -- The definitions, computed on small states: each event with each of its replies, a report, pages and rows.
-use Rattle.std.specs.Prelude.{◌≡◌, ℕ, List, [], ◌∷◌, codes, Option, Some, None, refl}
+use Rattle.std.specs.Prelude.{◌≡◌, ℕ, List, [], ◌∷◌, codes, map, Option, Some, None, refl}
 use Rattle.cv_base.specs.Path.{components}
 use Rattle.cv_base.specs.declared.finding.Finding.{Finding}
 use Rattle.cv_base.specs.declared.finding.Reason.TheVariants.{Added, Changed, Removed}
@@ -42,9 +42,6 @@ small = opening (record { images = 1; feeds = 1 })
 abbrev wide : State
 wide = opening (record { images = 3; feeds = 1 })
 
-abbrev image : ℕ → List (List ℕ) → Manifest
-image hash layers = record { hash = hash ∷ []; layers = layers }
-
 abbrev pub a : List ℕ
 a = 10 ∷ []
 
@@ -54,11 +51,24 @@ b = 11 ∷ []
 abbrev pub c : List ℕ
 c = 12 ∷ []
 
+-- the image of this hash with these layers and no stated seal
+abbrev image : ℕ → List (List ℕ) → Manifest
+image hash layers = record { hash = hash ∷ []; layers = layers; seals = map (λ (layer : List ℕ). None) layers }
+
+-- the image of the hash 1 with one layer, which has this seal
+abbrev sealed : Option (List ℕ) → Manifest
+sealed seal = record { hash = 1 ∷ []; layers = a ∷ []; seals = seal ∷ [] }
+
 -- Register.
 
 registered : replies no_trees small (Register (image 1 (b ∷ a ∷ [])) ∷ Register (image 1 (b ∷ a ∷ [])) ∷ Register (image 1 (a ∷ b ∷ [])) ∷ Register (image 2 []) ∷ [])
-    ≡ reply.Registered ∷ reply.Already ∷ reply.Conflict (b ∷ a ∷ []) ∷ reply.TooManyImages ∷ []
+    ≡ reply.Registered ∷ reply.Already ∷ reply.Conflict (b ∷ a ∷ []) (None ∷ None ∷ []) ∷ reply.TooManyImages ∷ []
 registered = refl
+
+-- an image with the same layers and other seals is another one, and a conflict tells the seals that stand
+registered_sealed : replies no_trees small (Register (sealed (Some b)) ∷ Register (sealed (Some b)) ∷ Register (sealed (Some c)) ∷ Register (sealed None) ∷ [])
+    ≡ reply.Registered ∷ reply.Already ∷ reply.Conflict (a ∷ []) (Some b ∷ []) ∷ reply.Conflict (a ∷ []) (Some b ∷ []) ∷ []
+registered_sealed = refl
 
 -- new layers wait, each once, in ascending order, and a layer that is in the table stays as it is
 entering : (state_after no_trees wide (Register (image 2 (b ∷ a ∷ b ∷ [])) ∷ Claim a 0 ∷ Register (image 1 (c ∷ a ∷ [])) ∷ [])).layers
@@ -66,8 +76,13 @@ entering : (state_after no_trees wide (Register (image 2 (b ∷ a ∷ b ∷ []))
 entering = refl
 
 -- images stand by their hashes
-ascending : (state_after no_trees wide (Register (image 2 []) ∷ Register (image 1 []) ∷ [])).images ≡ (1 ∷ [], []) ∷ (2 ∷ [], []) ∷ []
+ascending : (state_after no_trees wide (Register (image 2 []) ∷ Register (image 1 []) ∷ [])).images
+    ≡ (1 ∷ [], record { layers = []; seals = [] }) ∷ (2 ∷ [], record { layers = []; seals = [] }) ∷ []
 ascending = refl
+
+-- a registered image stands with its seals
+standing : (state_after no_trees wide (Register (sealed (Some b)) ∷ [])).images ≡ (1 ∷ [], record { layers = a ∷ []; seals = Some b ∷ [] }) ∷ []
+standing = refl
 
 -- DropImage.
 
@@ -172,7 +187,7 @@ row hash = record { image = hash ∷ []; reason = Added; finding = zlib (codes "
 -- a state with an image and two notifications
 abbrev two : State
 two = record small {
-  images = (1 ∷ [], a ∷ []) ∷ [];
+  images = (1 ∷ [], record { layers = a ∷ []; seals = None ∷ [] }) ∷ [];
   layers = (a, status.Indexed) ∷ [];
   generation = 5;
   notifications = (2, row 1 ∷ []) ∷ (4, row 1 ∷ row 2 ∷ []) ∷ [];

@@ -18,7 +18,7 @@ one_more : (answer : Reply) (before now : ℕ) (more : List Reply) → IsGenerat
 one_more (reply.Updated generation rows) before now more is = let next : now ≡ before + 1 = is.0 in omega (arith, next)
 one_more reply.Registered before now more is = ap (λ n. n + length (filter is_updated more)) is
 one_more reply.Already before now more is = ap (λ n. n + length (filter is_updated more)) is
-one_more (reply.Conflict kept) before now more is = ap (λ n. n + length (filter is_updated more)) is
+one_more (reply.Conflict kept seals) before now more is = ap (λ n. n + length (filter is_updated more)) is
 one_more reply.TooManyImages before now more is = ap (λ n. n + length (filter is_updated more)) is
 one_more reply.Dropped before now more is = ap (λ n. n + length (filter is_updated more)) is
 one_more reply.NotRegistered before now more is = ap (λ n. n + length (filter is_updated more)) is

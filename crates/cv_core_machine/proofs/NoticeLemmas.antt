@@ -20,8 +20,8 @@ use Rattle.cv_core_machine.specs.Laws.{HaveRows, IsConsistent, acknowledges, cha
 use Rattle.cv_core_machine.specs.Layers.{is_claimed_by, is_named}
 use Rattle.cv_core_machine.specs.Rows.{rows_of}
 use Rattle.cv_core_machine.specs.Scans.{Trees}
-use Rattle.cv_core_machine.specs.State.{Notifications, State, notification_at, opening, value_at, with_value, without_value}
-use Rattle.cv_core_machine.specs.Step.{ack_at, claim_at, drop_at, entered, finish, is_full, notified, register_at, step, updated}
+use Rattle.cv_core_machine.specs.State.{Image, Notifications, State, notification_at, opening, value_at, with_value, without_value}
+use Rattle.cv_core_machine.specs.Step.{ack_at, claim_at, drop_at, entered, finish, image_of, is_full, notified, register_at, step, updated}
 use Rattle.cv_core_machine.specs.declared.event.MachineEvent.{MachineEvent}
 use Rattle.cv_core_machine.specs.declared.event.MachineEvent.TheVariants as act
 use Rattle.cv_core_machine.specs.declared.limits.Limits.{Limits}
@@ -40,15 +40,15 @@ either_kept : (b : Bool) (s : State) (x y : State × Reply) → AreKept s x → 
 either_kept true s x y kept others = kept
 either_kept false s x y kept others = others
 
-register_kept : (found : Option (List (List ℕ))) (s : State) (m : Manifest) → AreKept s (register_at found s m)
+register_kept : (found : Option Image) (s : State) (m : Manifest) → AreKept s (register_at found s m)
 register_kept (Some kept) s m = refl
 register_kept None s m =
     either_kept (nat_lt (length s.images) s.limits.images) s
-    (record s { images = with_value s.images m.hash m.layers; layers = entered s.layers m.layers }, reply.Registered) (s, reply.TooManyImages) refl refl
+    (record s { images = with_value s.images m.hash (image_of m); layers = entered s.layers m.layers }, reply.Registered) (s, reply.TooManyImages) refl refl
 
-pub drop_kept : (found : Option (List (List ℕ))) (s : State) (image : List ℕ) → AreKept s (drop_at found s image)
+pub drop_kept : (found : Option Image) (s : State) (image : List ℕ) → AreKept s (drop_at found s image)
 drop_kept None s image = refl
-drop_kept (Some layers) s image = refl
+drop_kept (Some kept) s image = refl
 
 claim_kept : (found : Option Status) (s : State) (layer : List ℕ) (worker : ℕ) → AreKept s (claim_at found s layer worker)
 claim_kept None s layer worker = refl

@@ -1,9 +1,7 @@
 -- What an event leaves as it is, and the generation after it.
 use Rattle.std.specs.Prelude.{◌≡◌, ℕ, Bool, true, false, ◌∷◌, [], List, map, cond, nat_lt, length, Option, Some, None, IsSome, refl}
-use Rattle.std.specs.Cmp.Lexicographic.{pointwise}
 use Rattle.std.specs.Option.{unwrap_or}
 use Rattle.std.proofs.Common.{ap, ◌∙◌}
-use Rattle.cv_base.specs.Texts.{same}
 use Rattle.cv_base.specs.declared.advisory.Advisory.{Advisory}
 use Rattle.cv_base.specs.declared.finding.Row.{Row}
 use Rattle.cv_base.specs.declared.manifest.Manifest.{Manifest}
@@ -16,8 +14,8 @@ use Rattle.cv_core_machine.specs.Laws.{IsGenerationAfter, changes_nothing}
 use Rattle.cv_core_machine.specs.Layers.{is_claimed_by, is_named}
 use Rattle.cv_core_machine.specs.Rows.{rows_of}
 use Rattle.cv_core_machine.specs.Scans.{StatesEveryLayer, Trees, trees_of}
-use Rattle.cv_core_machine.specs.State.{State, notification_at, value_at, with_value, without_value}
-use Rattle.cv_core_machine.specs.Step.{ack_at, claim_at, drop_at, entered, finish, is_full, register_at, step, update, updated}
+use Rattle.cv_core_machine.specs.State.{Image, State, notification_at, value_at, with_value, without_value}
+use Rattle.cv_core_machine.specs.Step.{ack_at, claim_at, drop_at, entered, finish, image_of, is_full, register_at, same_image, step, update, updated}
 use Rattle.cv_core_machine.specs.declared.event.MachineEvent.{MachineEvent}
 use Rattle.cv_core_machine.specs.declared.event.MachineEvent.TheVariants as act
 use Rattle.cv_core_machine.specs.declared.status.Status.{Status}
@@ -34,20 +32,20 @@ pub record IsOrderly (s : State) (end : State × Reply) : Type 0 where
 stays : (s : State) (answer : Reply) → IsGenerationAfter s.generation answer s.generation → IsOrderly s (s, answer)
 stays s answer same = record { unchanged = λ h. refl; generation = same; limits = refl }
 
-register_orderly : (found : Option (List (List ℕ))) (s : State) (m : Manifest) → IsOrderly s (register_at found s m)
-register_orderly (Some kept) s m = by_layers (pointwise same kept m.layers) where
-  by_layers : (b : Bool) → IsOrderly s (s, cond b reply.Already (reply.Conflict kept))
-  by_layers true = stays s reply.Already refl
-  by_layers false = stays s (reply.Conflict kept) refl
+register_orderly : (found : Option Image) (s : State) (m : Manifest) → IsOrderly s (register_at found s m)
+register_orderly (Some kept) s m = by_test (same_image kept (image_of m)) where
+  by_test : (b : Bool) → IsOrderly s (s, cond b reply.Already (reply.Conflict kept.layers kept.seals))
+  by_test true = stays s reply.Already refl
+  by_test false = stays s (reply.Conflict kept.layers kept.seals) refl
 register_orderly None s m = by_room (nat_lt (length s.images) s.limits.images) where
   by_room : (b : Bool)
-      → IsOrderly s (either b (record s { images = with_value s.images m.hash m.layers; layers = entered s.layers m.layers }, reply.Registered) (s, reply.TooManyImages))
+      → IsOrderly s (either b (record s { images = with_value s.images m.hash (image_of m); layers = entered s.layers m.layers }, reply.Registered) (s, reply.TooManyImages))
   by_room true = record { unchanged = λ h. absurd (cc h); generation = refl; limits = refl }
   by_room false = stays s reply.TooManyImages refl
 
-drop_orderly : (found : Option (List (List ℕ))) (s : State) (image : List ℕ) → IsOrderly s (drop_at found s image)
+drop_orderly : (found : Option Image) (s : State) (image : List ℕ) → IsOrderly s (drop_at found s image)
 drop_orderly None s image = stays s reply.NotRegistered refl
-drop_orderly (Some layers) s image = record { unchanged = λ h. absurd (cc h); generation = refl; limits = refl }
+drop_orderly (Some kept) s image = record { unchanged = λ h. absurd (cc h); generation = refl; limits = refl }
 
 claim_orderly : (found : Option Status) (s : State) (layer : List ℕ) (worker : ℕ) → IsOrderly s (claim_at found s layer worker)
 claim_orderly None s layer worker = stays s reply.Unwanted refl

@@ -9,7 +9,7 @@ use Rattle.cv_core_records.specs.declared.read.ReportOutcome.TheVariants as repo
 use Rattle.cv_scan.specs.Scan.{Scanned}
 use Rattle.cv_core_machine.specs.Layers.{first_pending}
 use Rattle.cv_core_machine.specs.Scans.{Trees, image_scan}
-use Rattle.cv_core_machine.specs.State.{State, value_at}
+use Rattle.cv_core_machine.specs.State.{Image, State, value_at}
 
 -- a report by the scan of an image whose layers are all Indexed
 abbrev pub scan_report : ℕ → Scanned → ReportOutcome
@@ -21,11 +21,11 @@ abbrev pub pending_report : Option (List ℕ) → ℕ → Scanned → ReportOutc
 pending_report (Some layer) generation scanned = report.Pending layer
 pending_report None generation scanned = scan_report generation scanned
 
--- a report by the layers with which the image is registered, if it is
-abbrev pub report_at : Option (List (List ℕ)) → Trees → State → ReportOutcome
+-- a report by what is kept of the image, if it is registered
+abbrev pub report_at : Option Image → Trees → State → ReportOutcome
 report_at None trees state = report.NotRegistered
-report_at (Some layers) trees state =
-    pending_report (first_pending state.layers layers) state.generation (image_scan trees state.feeds layers)
+report_at (Some image) trees state =
+    pending_report (first_pending state.layers image.layers) state.generation (image_scan trees state.feeds image)
 
 -- the report of an image
 abbrev pub report_of : Trees → State → List ℕ → ReportOutcome
@@ -40,7 +40,7 @@ waiting_in (report.BadImage bad) = Some None
 
 -- for which layer an image waits, if it is registered: for the first of its layers that is not Indexed, if there is one
 abbrev pub waiting_for : State → List ℕ → Option (Option (List ℕ))
-waiting_for state image = option_map (first_pending state.layers) (value_at state.images image)
+waiting_for state image = option_map (λ (kept : Image). first_pending state.layers kept.layers) (value_at state.images image)
 
 -- the query of a read: the report of an image, a page (the notification, the size and the page), or all notifications
 pub data Read : Type 0 where

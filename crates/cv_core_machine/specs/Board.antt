@@ -7,7 +7,7 @@ use Rattle.cv_core_records.specs.declared.read.ReportOutcome.{ReportOutcome}
 use Rattle.cv_core_records.specs.declared.read.ReportOutcome.TheVariants as report
 use Rattle.cv_core_machine.specs.Answer.{Heads, Page, Read, Report, report_at}
 use Rattle.cv_core_machine.specs.Scans.{Trees}
-use Rattle.cv_core_machine.specs.State.{State, value_at}
+use Rattle.cv_core_machine.specs.State.{Image, State, value_at}
 
 -- the report of each registered image, in ascending order of their hashes, and the notifications
 pub record BoardView : Type 0 where
@@ -17,7 +17,7 @@ pub record BoardView : Type 0 where
 -- what a board shows of a state
 abbrev pub board_of : Trees → State → BoardView
 board_of trees state = record {
-  reports = map (λ (image : List ℕ × List (List ℕ)). (image.0, report_at (Some image.1) trees state)) state.images;
+  reports = map (λ (image : List ℕ × Image). (image.0, report_at (Some image.1) trees state)) state.images;
   notifications = state.notifications;
 }
 

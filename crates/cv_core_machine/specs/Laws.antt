@@ -18,7 +18,7 @@ use Rattle.cv_core_machine.specs.declared.status.Status.{Status}
 -- with these replies an event changes nothing
 abbrev pub changes_nothing : Reply → Bool
 changes_nothing reply.Already = true
-changes_nothing (reply.Conflict kept) = true
+changes_nothing (reply.Conflict kept seals) = true
 changes_nothing reply.TooManyImages = true
 changes_nothing reply.NotRegistered = true
 changes_nothing reply.Taken = true

@@ -4,13 +4,13 @@ use Rattle.std.specs.Prelude.{ℕ, Bool, true, false, ◌==◌, not, List, map, 
 use Rattle.std.specs.List.{find, list_any}
 use Rattle.std.specs.Option.{is_none}
 use Rattle.cv_base.specs.Texts.{has_text}
-use Rattle.cv_core_machine.specs.State.{Images, Layers, value_at}
+use Rattle.cv_core_machine.specs.State.{Image, Images, Layers, value_at}
 use Rattle.cv_core_machine.specs.declared.status.Status.{Status}
 use Rattle.cv_core_machine.specs.declared.status.Status.TheVariants.{Claimed, Indexed, Queued}
 
 -- a registered image names a layer
 abbrev pub is_named : Images → List ℕ → Bool
-is_named images layer = list_any (λ (image : List ℕ × List (List ℕ)). has_text image.1 layer) images
+is_named images layer = list_any (λ (image : List ℕ × Image). has_text image.1.layers layer) images
 
 -- a layer waits for a worker
 abbrev pub is_queued_as : Status → Bool

@@ -6,7 +6,7 @@ use Rattle.cv_findings.specs.Rows.{rows_of as image_rows}
 use Rattle.cv_scan.specs.Scan.{Scanned}
 use Rattle.cv_core_machine.specs.Layers.{is_indexed}
 use Rattle.cv_core_machine.specs.Scans.{Trees, image_scan}
-use Rattle.cv_core_machine.specs.State.{Feeds, State}
+use Rattle.cv_core_machine.specs.State.{Feeds, Image, State}
 
 -- the rows of one image, by its scans before and after. An image that cannot be scanned has none
 abbrev pub scan_rows : List ℕ → Scanned → Scanned → List Row
@@ -18,4 +18,4 @@ scan_rows image (Err bad) after = []
 -- take the place of those of the state
 abbrev pub rows_of : Trees → State → Feeds → List Row
 rows_of trees state feeds =
-    flat_map (λ (image : List ℕ × List (List ℕ)). scan_rows image.0 (image_scan trees state.feeds image.1) (image_scan trees feeds image.1)) (filter (λ (image : List ℕ × List (List ℕ)). is_indexed state.layers image.1) state.images)
+    flat_map (λ (image : List ℕ × Image). scan_rows image.0 (image_scan trees state.feeds image.1) (image_scan trees feeds image.1)) (filter (λ (image : List ℕ × Image). is_indexed state.layers image.1.layers) state.images)

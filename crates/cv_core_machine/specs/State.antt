@@ -9,12 +9,13 @@ use Rattle.cv_base.specs.declared.advisory.Advisory.{Advisory}
 use Rattle.cv_base.specs.declared.finding.Row.{Row}
 use Rattle.cv_match.specs.Findings.{text_cmp}
 pub use Rattle.cv_core_records.specs.Pages.{Notifications, notification_at}
+pub use Rattle.cv_core_machine.specs.declared.image.Image.{Image}
 use Rattle.cv_core_machine.specs.declared.limits.Limits.{Limits}
 use Rattle.cv_core_machine.specs.declared.status.Status.{Status}
 
--- registered images: the hash of each with its layers, the base first
+-- registered images: the hash of each with its layers, the base first, and with their stated seals
 abbrev pub Images : Type 0
-Images = List (List ℕ × List (List ℕ))
+Images = List (List ℕ × Image)
 
 -- the table of layers: the digest of each with its status
 abbrev pub Layers : Type 0

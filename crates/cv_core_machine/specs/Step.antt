@@ -1,8 +1,8 @@
 -- The events of the machine (defined by this project): what the state is after an event, and what is replied. A reply that
 -- is given with the state as it was changes nothing.
-use Rattle.std.specs.Prelude.{ℕ, ◌+◌, Bool, ◌||◌, not, nat_lt, if◌then◌else◌, List, [], ◌∷◌, length, filter, Option, Some, None}
+use Rattle.std.specs.Prelude.{ℕ, ◌+◌, Bool, ◌&&◌, ◌||◌, not, nat_lt, if◌then◌else◌, List, [], ◌∷◌, length, filter, Option, Some, None}
 use Rattle.std.specs.Cmp.Lexicographic.{pointwise}
-use Rattle.std.specs.Option.{is_some}
+use Rattle.std.specs.Option.{is_some, option_eq}
 use Rattle.cv_base.specs.Texts.{has_text, same}
 use Rattle.cv_base.specs.declared.advisory.Advisory.{Advisory}
 use Rattle.cv_base.specs.declared.finding.Row.{Row}
@@ -13,7 +13,7 @@ use Rattle.cv_core_records.specs.declared.reply.Reply.TheVariants as reply
 use Rattle.cv_core_machine.specs.Layers.{is_claimed_as, is_claimed_by, is_named}
 use Rattle.cv_core_machine.specs.Rows.{rows_of}
 use Rattle.cv_core_machine.specs.Scans.{Trees}
-use Rattle.cv_core_machine.specs.State.{Feeds, Images, Layers, Notifications, State, notification_at, value_at, with_notification, with_value, without_notification, without_value}
+use Rattle.cv_core_machine.specs.State.{Feeds, Image, Images, Layers, Notifications, State, notification_at, value_at, with_notification, with_value, without_notification, without_value}
 use Rattle.cv_core_machine.specs.declared.event.MachineEvent.{MachineEvent}
 use Rattle.cv_core_machine.specs.declared.event.MachineEvent.TheVariants as act
 use Rattle.cv_core_machine.specs.declared.status.Status.{Status}
@@ -24,14 +24,23 @@ abbrev pub entered : Layers → List (List ℕ) → Layers
 entered table [] = table
 entered table (layer ∷ layers) = entered (if is_some (value_at table layer) then table else with_value table layer status.Queued) layers
 
--- Register, by the layers with which the image is registered: Already if they are these, Conflict if they are others. Of an
--- image that is not registered, TooManyImages if as many images are registered as may be, or else Registered: the image is
--- registered, and its layers that are not in the table enter it Queued
-abbrev pub register_at : Option (List (List ℕ)) → State → Manifest → State × Reply
-register_at (Some kept) state manifest = (state, if pointwise same kept manifest.layers then reply.Already else reply.Conflict kept)
+-- what is kept of the image of a manifest
+abbrev pub image_of : Manifest → Image
+image_of manifest = record { layers = manifest.layers; seals = manifest.seals }
+
+-- two images have the same layers and the same stated seals
+abbrev pub same_image : Image → Image → Bool
+same_image a b = pointwise same a.layers b.layers && pointwise (option_eq same) a.seals b.seals
+
+-- Register, by what is kept of the image if it is registered: Already if it has these layers with these seals, Conflict if it has
+-- other layers or other seals. Of an image that is not registered, TooManyImages if as many images are registered as may be, or
+-- else Registered: the image is registered, and its layers that are not in the table enter it Queued
+abbrev pub register_at : Option Image → State → Manifest → State × Reply
+register_at (Some kept) state manifest =
+    (state, if same_image kept (image_of manifest) then reply.Already else reply.Conflict kept.layers kept.seals)
 register_at None state manifest =
     if nat_lt (length state.images) state.limits.images
-    then (record state { images = with_value state.images manifest.hash manifest.layers; layers = entered state.layers manifest.layers }, reply.Registered)
+    then (record state { images = with_value state.images manifest.hash (image_of manifest); layers = entered state.layers manifest.layers }, reply.Registered)
     else (state, reply.TooManyImages)
 
 -- Register
@@ -43,13 +52,13 @@ abbrev pub remaining : Layers → List (List ℕ) → Images → Layers
 remaining table layers others =
     filter (λ (entry : List ℕ × Status). not (has_text layers entry.0) || is_named others entry.0 || is_claimed_as entry.1) table
 
--- DropImage, by the layers with which the image is registered: NotRegistered if it is not, or else Dropped: it goes, and its
+-- DropImage, by what is kept of the image if it is registered: NotRegistered if it is not, or else Dropped: it goes, and its
 -- layers that no other image names and that are not Claimed leave the table
-abbrev pub drop_at : Option (List (List ℕ)) → State → List ℕ → State × Reply
+abbrev pub drop_at : Option Image → State → List ℕ → State × Reply
 drop_at None state image = (state, reply.NotRegistered)
-drop_at (Some layers) state image =
+drop_at (Some kept) state image =
     let others = without_value state.images image in
-    (record state { images = others; layers = remaining state.layers layers others }, reply.Dropped)
+    (record state { images = others; layers = remaining state.layers kept.layers others }, reply.Dropped)
 
 -- DropImage
 abbrev pub drop_image : State → List ℕ → State × Reply

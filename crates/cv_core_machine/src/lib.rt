@@ -9,11 +9,13 @@
 #![tactic(auto)]
 
 mod event;
+mod image;
 mod laws;
 mod limits;
 mod status;
 
 pub use event::MachineEvent;
+pub use image::Image;
 pub use laws::{
     board_law, entered_law, generation_law, notification_laws, scan_law, step_laws, waiting_law,
 };
