@@ -5,6 +5,7 @@ pub mod Failed
 pub mod Laid
 pub mod LaidTrees
 pub mod Loaded
+pub mod PlainScans
 pub mod RootLoaded
 pub mod ScanAnswers
 pub mod Scanned

@@ -17,8 +17,9 @@ use Rattle.cv_overlay.specs.declared.mark.Mark.{Mark}
 use Rattle.cv_overlay.specs.declared.mark.Mark.TheVariants.{Reserved, Opaque, Whiteout, Bad, Plain}
 use Rattle.cv_packages.specs.Packages.{packages}
 use Rattle.cv_scan.specs.Root.{entries_at, paths_of, root_entries}
-use Rattle.cv_scan.specs.Image.{as_image, bad_tree_from, image_packages, or_bad, packages_layers, packages_unless, trees_from, with_tree}
-use Rattle.cv_scan.specs.Scan.{scan, with_findings}
+use Rattle.cv_scan.specs.Image.{as_image, bad_tree_from, or_bad, packages_unless, trees_from, with_tree}
+use Rattle.cv_scan.specs.Scan.{with_findings}
+use Rattle.cv_scan.specs.code.Plain.{plain_layers, plain_packages, plain_scan}
 use Rattle.cv_scan.proofs.Loaded.{dir_loaded, load_entry, load_node, loaded_fault, loaded_packages}
 
 abbrev path_in : TreeEntry → Path
@@ -136,17 +137,17 @@ good_loaded : (bad : Option ImageFault) (trees : List (List TreeEntry)) → pack
 good_loaded (Some bad) trees = refl
 good_loaded None trees = ap as_image (ap packages (root_loaded trees) ∙ loaded_packages (root_entries trees))
 
-layers_loaded : (found : Result (List (List TreeEntry)) ImageFault) → packages_layers (load_trees found) ≡ packages_layers found
+layers_loaded : (found : Result (List (List TreeEntry)) ImageFault) → plain_layers (load_trees found) ≡ plain_layers found
 layers_loaded (Err bad) = refl
 layers_loaded (Ok trees) =
     ap (λ bad. packages_unless bad (map (map load_entry) trees)) (bad_loaded 0 trees) ∙ good_loaded (bad_tree_from 0 trees) trees
 
 -- the packages of layers that were loaded
-packages_loaded : (layers : List (Option (List TreeEntry))) → image_packages (map load_layer layers) ≡ image_packages layers
-unfolding image_packages
-packages_loaded layers = ap packages_layers (trees_loaded 0 layers) ∙ layers_loaded (trees_from 0 layers)
+packages_loaded : (layers : List (Option (List TreeEntry))) → plain_packages (map load_layer layers) ≡ plain_packages layers
+unfolding plain_packages
+packages_loaded layers = ap plain_layers (trees_loaded 0 layers) ∙ layers_loaded (trees_from 0 layers)
 
 -- and their scan
-pub scan_loaded : (layers : List (Option (List TreeEntry))) (feeds : List (List ℕ × List Advisory)) → scan (map load_layer layers) feeds ≡ scan layers feeds
-unfolding scan
+pub scan_loaded : (layers : List (Option (List TreeEntry))) (feeds : List (List ℕ × List Advisory)) → plain_scan (map load_layer layers) feeds ≡ plain_scan layers feeds
+unfolding plain_scan
 scan_loaded layers feeds = ap (with_findings feeds) (packages_loaded layers)

@@ -7,7 +7,7 @@ use Rattle.cv_desk.specs.Stored.{Stored}
 use Rattle.cv_scan.specs.Failed.{IsOfLayers}
 use Rattle.cv_scan.specs.declared.layer_error.ImageError.{ImageError}
 use Rattle.cv_scan.specs.declared.layer_error.ImageError.TheVariants as error
-use Rattle.cv_scan.specs.Layers.{AreListed, IsScanAnswer, IsScanned, distinct, is_desk_fault, stored_layers, whole_layers}
+use Rattle.cv_scan.specs.Layers.{AreListed, IsScanAnswer, IsScanned, distinct, is_desk_fault, stored_layers}
 use Rattle.cv_scan.specs.Scan.{Scanned, scan}
 use Rattle.cv_seq.specs.Cause.{CausedBy}
 
@@ -18,10 +18,10 @@ failed_scanned layers before now (error.Bad bad) scanned h = absurd h
 failed_scanned layers before now (error.Desk layer) scanned h = tt
 failed_scanned layers before now error.NoMemory scanned h = tt
 
-failed_answer : (known : Option (List (Option (List Stored)))) (layers : List (List ℕ)) (before now : ℕ) (e : ImageError) (feeds : List (List ℕ × List Advisory))
-    → IsOfLayers layers before now e → IfSome known (λ stored. IsScanned (Err e) (scan (whole_layers stored) feeds))
-failed_answer None layers before now e feeds h = tt
-failed_answer (Some stored) layers before now e feeds h = failed_scanned layers before now e (scan (whole_layers stored) feeds) h
+failed_answer : (known : Option (List (Option (List Stored)))) (layers : List (List ℕ)) (before now : ℕ) (e : ImageError) (seals : List (Option (List ℕ))) (feeds : List (List ℕ × List Advisory))
+    → IsOfLayers layers before now e → IfSome known (λ stored. IsScanned (Err e) (scan stored seals feeds))
+failed_answer None layers before now e seals feeds h = tt
+failed_answer (Some stored) layers before now e seals feeds h = failed_scanned layers before now e (scan stored seals feeds) h
 
 failed_listed : (layers : List (List ℕ)) (before now : ℕ) (e : ImageError) → IsOfLayers (distinct layers) before now e → AreListed layers before now (Err e)
 failed_listed layers before now (error.Bad bad) h = absurd h
@@ -29,11 +29,11 @@ failed_listed layers before now (error.Desk layer) h = h
 failed_listed layers before now error.NoMemory h = h
 
 -- the answer if the layers of an image were not all read
-pub unread_answer : {D : Type 0} (trees : List ℕ → Option (Option (List Stored))) (listings faults : D → ℕ) (before now : D) (layers : List (List ℕ)) (feeds : List (List ℕ × List Advisory)) (e : ImageError)
+pub unread_answer : {D : Type 0} (trees : List ℕ → Option (Option (List Stored))) (listings faults : D → ℕ) (before now : D) (layers : List (List ℕ)) (seals : List (Option (List ℕ))) (feeds : List (List ℕ × List Advisory)) (e : ImageError)
     → IsOfLayers (distinct layers) (listings before) (listings now) e → CausedBy (faults before) (faults now) (is_desk_fault {A = List Finding} (Err e))
-    → IsScanAnswer trees listings faults before now layers feeds (Err e)
-unread_answer trees listings faults before now layers feeds e h k = record {
-  answer = failed_answer (stored_layers trees layers) (distinct layers) (listings before) (listings now) e feeds h;
+    → IsScanAnswer trees listings faults before now layers seals feeds (Err e)
+unread_answer trees listings faults before now layers seals feeds e h k = record {
+  answer = failed_answer (stored_layers trees layers) (distinct layers) (listings before) (listings now) e seals feeds h;
   listed = failed_listed layers (listings before) (listings now) e h;
   cause = k;
 }
@@ -51,11 +51,11 @@ read_listed layers before now (Err (error.Desk layer)) h k = cc
 read_listed layers before now (Err error.NoMemory) h k = at_most_is now (before + length (distinct layers)) k
 
 -- the answer if all layers were read
-pub read_answer : {D : Type 0} (trees : List ℕ → Option (Option (List Stored))) (listings faults : D → ℕ) (before now : D) (layers : List (List ℕ)) (feeds : List (List ℕ × List Advisory)) (answer : Result (List Finding) ImageError)
+pub read_answer : {D : Type 0} (trees : List ℕ → Option (Option (List Stored))) (listings faults : D → ℕ) (before now : D) (layers : List (List ℕ)) (seals : List (Option (List ℕ))) (feeds : List (List ℕ × List Advisory)) (answer : Result (List Finding) ImageError)
     → listings now ≡ listings before + length (distinct layers) → CausedBy (faults before) (faults now) false → is_desk_fault answer ≡ false
-    → IfSome (stored_layers trees layers) (λ stored. IsScanned answer (scan (whole_layers stored) feeds))
-    → IsScanAnswer trees listings faults before now layers feeds answer
-read_answer trees listings faults before now layers feeds answer h k l m = record {
+    → IfSome (stored_layers trees layers) (λ stored. IsScanned answer (scan stored seals feeds))
+    → IsScanAnswer trees listings faults before now layers seals feeds answer
+read_answer trees listings faults before now layers seals feeds answer h k l m = record {
   answer = m;
   listed = read_listed layers (listings before) (listings now) answer l h;
   cause = subst (CausedBy (faults before) (faults now)) (sym l) k;

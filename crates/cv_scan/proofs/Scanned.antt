@@ -15,14 +15,16 @@ use Rattle.cv_desk.specs.Loaded.{loaded, whole}
 use Rattle.cv_desk.specs.Stored.{Stored}
 use Rattle.cv_overlay.specs.declared.fault.ImageFault.{ImageFault}
 use Rattle.cv_scan.proofs.Seen.{AreSeen, all_seen}
-use Rattle.cv_scan.specs.Layers.{IsScanAnswer, IsScanned, distinct, is_desk_fault, stored_layers, whole_layers, with_stored}
+use Rattle.cv_scan.specs.Layers.{IsScanAnswer, IsScanned, distinct, is_desk_fault, no_seals, stored_layers, with_stored}
 use Rattle.cv_scan.specs.code.Layers.{IsLoaded, is_image_memory, refusing, tree_in}
+use Rattle.cv_scan.specs.code.Plain.{plain_scan}
 use Rattle.cv_scan.specs.Scan.{Scanned, scan}
 use Rattle.cv_scan.specs.declared.layer_error.ImageError.{ImageError}
 use Rattle.cv_scan.specs.declared.layer_error.ImageError.TheVariants as error
 use Rattle.cv_scan.specs.declared.loader.LoadedLayer.{LoadedLayer}
 use Rattle.cv_seq.specs.Cause.{CausedBy}
 use Rattle.cv_scan.proofs.Loaded.{loaded_is}
+use Rattle.cv_scan.proofs.PlainScans.{scan_whole, whole_layers}
 use Rattle.cv_scan.proofs.RootLoaded.{load_layer, scan_loaded}
 use Rattle.cv_scan.proofs.ScanAnswers.{read_answer}
 
@@ -81,8 +83,9 @@ layers_are [] = refl
 layers_are (layer ∷ layers) = λ i. layer_is layer i ∷ layers_are layers i
 
 scan_is : (xs : List LoadedLayer) (layers : List (List ℕ)) (stored : List (Option (List Stored))) (feeds : List (List ℕ × List Advisory))
-    → map (tree_in xs) layers ≡ map load_stored stored → scan (map (tree_in xs) layers) feeds ≡ scan (whole_layers stored) feeds
-scan_is xs layers stored feeds h = ap (λ ls. scan ls feeds) (h ∙ layers_are stored) ∙ scan_loaded (whole_layers stored) feeds
+    → map (tree_in xs) layers ≡ map load_stored stored → plain_scan (map (tree_in xs) layers) feeds ≡ scan stored (no_seals layers) feeds
+scan_is xs layers stored feeds h =
+    ap (λ ls. plain_scan ls feeds) (h ∙ layers_are stored) ∙ scan_loaded (whole_layers stored) feeds ∙ sym (scan_whole layers stored feeds)
 
 ok_is : (scanned : Scanned) (found : List Finding) → refusing scanned ≡ Ok found → scanned ≡ Ok found
 ok_is (Ok xs) found h = ap Ok (ap (λ (r : Result (List Finding) ImageError). result_unwrap_or r []) h)
@@ -106,17 +109,17 @@ given_is (Err (error.Desk layer)) scanned h = tt
 given_is (Err error.NoMemory) scanned h = tt
 
 by_stored : (xs : List LoadedLayer) (layers : List (List ℕ)) (known : Option (List (Option (List Stored)))) (feeds : List (List ℕ × List Advisory)) (answer : Result (List Finding) ImageError)
-    → AreFound xs layers known → Gives is_image_memory (λ found. found) answer (refusing (scan (map (tree_in xs) layers) feeds))
-    → IfSome known (λ stored. IsScanned answer (scan (whole_layers stored) feeds))
+    → AreFound xs layers known → Gives is_image_memory (λ found. found) answer (refusing (plain_scan (map (tree_in xs) layers) feeds))
+    → IfSome known (λ stored. IsScanned answer (scan stored (no_seals layers) feeds))
 by_stored xs layers None feeds answer h k = tt
 by_stored xs layers (Some stored) feeds answer h k =
-    given_is answer (scan (whole_layers stored) feeds) (subst (λ scanned. Gives is_image_memory (λ found. found) answer (refusing scanned)) (scan_is xs layers stored feeds h) k)
+    given_is answer (scan stored (no_seals layers) feeds) (subst (λ scanned. Gives is_image_memory (λ found. found) answer (refusing scanned)) (scan_is xs layers stored feeds h) k)
 
 -- an answer from what was loaded is one from what is stored
 scanned_stored : (trees : List ℕ → Option (Option (List Stored))) (xs : List LoadedLayer) (layers : List (List ℕ)) (feeds : List (List ℕ × List Advisory)) (answer : Result (List Finding) ImageError)
     → map layer_in xs ≡ distinct layers → AllByRecursion (IsLoaded trees) xs
-    → Gives is_image_memory (λ found. found) answer (refusing (scan (map (tree_in xs) layers) feeds))
-    → IfSome (stored_layers trees layers) (λ stored. IsScanned answer (scan (whole_layers stored) feeds))
+    → Gives is_image_memory (λ found. found) answer (refusing (plain_scan (map (tree_in xs) layers) feeds))
+    → IfSome (stored_layers trees layers) (λ stored. IsScanned answer (scan stored (no_seals layers) feeds))
 scanned_stored trees xs layers feeds answer h all k =
     by_stored xs layers (stored_layers trees layers) feeds answer
     (found_all trees xs layers all (subst (λ ds. AreSeen ds layers) (sym h) (all_seen layers))) k
@@ -132,7 +135,7 @@ loaded_unblamed scanned (Err error.NoMemory) h = refl
 pub loaded_answer : {D : Type 0} (trees : List ℕ → Option (Option (List Stored))) (listings faults : D → ℕ) (before now : D) (xs : List LoadedLayer) (layers : List (List ℕ)) (feeds : List (List ℕ × List Advisory)) (answer : Result (List Finding) ImageError)
     → listings now ≡ listings before + length (distinct layers) → CausedBy (faults before) (faults now) false
     → map layer_in xs ≡ distinct layers → AllByRecursion (IsLoaded trees) xs
-    → Gives is_image_memory (λ found. found) answer (refusing (scan (map (tree_in xs) layers) feeds))
-    → IsScanAnswer trees listings faults before now layers feeds answer
+    → Gives is_image_memory (λ found. found) answer (refusing (plain_scan (map (tree_in xs) layers) feeds))
+    → IsScanAnswer trees listings faults before now layers (no_seals layers) feeds answer
 loaded_answer trees listings faults before now xs layers feeds answer h k l all given =
-    read_answer trees listings faults before now layers feeds answer h k (loaded_unblamed (scan (map (tree_in xs) layers) feeds) answer given) (scanned_stored trees xs layers feeds answer l all given)
+    read_answer trees listings faults before now layers (no_seals layers) feeds answer h k (loaded_unblamed (plain_scan (map (tree_in xs) layers) feeds) answer given) (scanned_stored trees xs layers feeds answer l all given)

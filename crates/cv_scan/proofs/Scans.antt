@@ -13,8 +13,9 @@ use Rattle.cv_overlay.specs.Ascending.{AreAscending}
 use Rattle.cv_overlay.specs.declared.fault.ImageFault.{ImageFault}
 use Rattle.cv_scan.specs.code.Layers.{is_image_memory, refusing}
 use Rattle.cv_packages.specs.Packages.{packages}
-use Rattle.cv_scan.specs.Image.{as_image, bad_tree_from, image_packages, packages_layers, packages_of, packages_unless, trees_from, with_tree}
-use Rattle.cv_scan.specs.Scan.{Scanned, scan, with_findings}
+use Rattle.cv_scan.specs.code.Plain.{plain_layers, plain_packages, plain_packages_of, plain_scan}
+use Rattle.cv_scan.specs.Image.{as_image, bad_tree_from, packages_unless, trees_from, with_tree}
+use Rattle.cv_scan.specs.Scan.{Scanned, with_findings}
 use Rattle.cv_scan.specs.declared.layer_error.ImageError.{ImageError}
 use Rattle.cv_scan.specs.declared.layer_error.ImageError.TheVariants as error
 use Rattle.cv_scan.proofs.Laid.{laid_entries}
@@ -35,12 +36,12 @@ trees_ok (Ok ts) trees h = ap Ok (ap trees_or h) where
 trees_ok (Err bad) trees h = cc
 
 pub layers_good : (layers : List (Option (List TreeEntry))) (trees : List (List TreeEntry)) (feeds : Feeds) (answer : Result (List Finding) ImageError)
-    → refusing (trees_from 0 layers) ≡ Ok trees → Answers answer (with_findings feeds (packages_of trees)) → Answers answer (scan layers feeds)
-unfolding scan image_packages
+    → refusing (trees_from 0 layers) ≡ Ok trees → Answers answer (with_findings feeds (plain_packages_of trees)) → Answers answer (plain_scan layers feeds)
+unfolding plain_scan plain_packages
 layers_good layers trees feeds answer h k =
-    subst (λ found. Answers answer (with_findings feeds (packages_layers found))) (sym (trees_ok (trees_from 0 layers) trees h)) k
+    subst (λ found. Answers answer (with_findings feeds (plain_layers found))) (sym (trees_ok (trees_from 0 layers) trees h)) k
 
-layers_by : (found : Result (List (List TreeEntry)) ImageFault) (e : ImageError) (feeds : Feeds) → refusing found ≡ Err e → refusing (with_findings feeds (packages_layers found)) ≡ Err e
+layers_by : (found : Result (List (List TreeEntry)) ImageFault) (e : ImageError) (feeds : Feeds) → refusing found ≡ Err e → refusing (with_findings feeds (plain_layers found)) ≡ Err e
 layers_by (Ok trees) e feeds h = cc
 layers_by (Err bad) e feeds h = ap Err (ap (error_or e) h) where
   error_or : ImageError → Result (List (List TreeEntry)) ImageError → ImageError
@@ -53,10 +54,10 @@ memory_or (error.Desk layer) P Q f h = f h
 memory_or error.NoMemory P Q f h = h
 
 pub layers_bad : (layers : List (Option (List TreeEntry))) (feeds : Feeds) (e : ImageError)
-    → MatchBool (is_image_memory e) ⊤ (refusing (trees_from 0 layers) ≡ Err e) → MatchBool (is_image_memory e) ⊤ (refusing (scan layers feeds) ≡ Err e)
-unfolding scan image_packages
+    → MatchBool (is_image_memory e) ⊤ (refusing (trees_from 0 layers) ≡ Err e) → MatchBool (is_image_memory e) ⊤ (refusing (plain_scan layers feeds) ≡ Err e)
+unfolding plain_scan plain_packages
 layers_bad layers feeds e h =
-    memory_or e (refusing (trees_from 0 layers) ≡ Err e) (refusing (with_findings feeds (packages_layers (trees_from 0 layers))) ≡ Err e) (λ k. layers_by (trees_from 0 layers) e feeds k) h
+    memory_or e (refusing (trees_from 0 layers) ≡ Err e) (refusing (with_findings feeds (plain_layers (trees_from 0 layers))) ≡ Err e) (λ k. layers_by (trees_from 0 layers) e feeds k) h
 
 count_more : (tree : List TreeEntry) (found : Result (List (List TreeEntry)) ImageFault) (n : ℕ) → IfOk found (λ ts. length ts ≡ n) → IfOk (with_tree tree found) (λ ts. length ts ≡ suc n)
 count_more tree (Ok ts) n h = ap suc h
@@ -80,7 +81,7 @@ trees_within f g layers trees h within =
 
 pub trees_good : (trees : List (List TreeEntry)) (root entries : List TreeEntry) (feeds : Feeds) (answer : Result (List Finding) ImageError)
     → bad_tree_from 0 trees ≡ None → entries ≡ root → AreAscending root → ((p : Path) → node_at root p ≡ root_of trees p)
-    → Answers answer (with_findings feeds (as_image (packages entries))) → Answers answer (with_findings feeds (packages_of trees))
+    → Answers answer (with_findings feeds (as_image (packages entries))) → Answers answer (with_findings feeds (plain_packages_of trees))
 trees_good trees root entries feeds answer good same ascending laid h =
     subst (λ bad. Answers answer (with_findings feeds (packages_unless bad trees))) (sym good)
     (subst (λ es. Answers answer (with_findings feeds (as_image (packages es)))) (same ∙ laid_entries trees root ascending laid) h)

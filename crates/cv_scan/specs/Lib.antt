@@ -5,4 +5,5 @@ pub mod Image
 pub mod Layers
 pub mod Root
 pub mod Scan
+pub mod Seals
 pub mod code

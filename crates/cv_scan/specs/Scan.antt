@@ -4,6 +4,7 @@ use Rattle.cv_base.specs.declared.advisory.Advisory.{Advisory}
 use Rattle.cv_base.specs.declared.finding.Finding.{Finding}
 use Rattle.cv_base.specs.declared.package.Package.{Package}
 use Rattle.cv_base.specs.declared.tree.TreeEntry.{TreeEntry}
+use Rattle.cv_desk.specs.Stored.{Stored}
 use Rattle.cv_match.specs.Findings.{findings}
 use Rattle.cv_overlay.specs.declared.fault.ImageFault.{ImageFault}
 use Rattle.cv_packages.specs.Packages.{packages}
@@ -23,7 +24,7 @@ with_findings feeds (Err refused) = Err refused
 abbrev pub root_findings : List TreeEntry → List (List ℕ × List Advisory) → Result (List Finding) FileFault
 root_findings entries feeds = with_findings feeds (packages entries)
 
--- the scan of an image: takes the tree of each of its layers, if it has one, the base first, and the feeds, each by its
--- name with its records
-unfoldable pub scan : List (Option (List TreeEntry)) → List (List ℕ × List Advisory) → Scanned
-scan layers feeds = with_findings feeds (image_packages layers)
+-- the scan of an image: takes what is stored of each of its layers, if it is there, the base first, the seal that is stated
+-- for each, if one is, and the feeds, each by its name with its records
+unfoldable pub scan : List (Option (List Stored)) → List (Option (List ℕ)) → List (List ℕ × List Advisory) → Scanned
+scan layers seals feeds = with_findings feeds (image_packages layers seals)

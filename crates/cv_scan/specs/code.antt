@@ -2,3 +2,4 @@
 pub mod Distinct
 pub mod Failed
 pub mod Layers
+pub mod Plain

@@ -4,10 +4,11 @@ ghost use Rattle.cv_base.specs.Path.{Path};
 ghost use Rattle.cv_overlay.specs.Lay.{node_at, root_of};
 ghost use Rattle.cv_packages.specs.Packages.{packages};
 ghost use Rattle.cv_scan.specs.Faults.{scan_fault};
-ghost use Rattle.cv_scan.specs.Layers.{IsScanAnswer};
+ghost use Rattle.cv_scan.specs.Layers.{IsScanAnswer, no_seals};
 ghost use Rattle.cv_scan.specs.code.Layers.{IsBadTree, is_image_memory, refusing, tree_in};
-ghost use Rattle.cv_scan.specs.Image.{as_image, bad_tree_from, packages_of, trees_from};
-ghost use Rattle.cv_scan.specs.Scan.{root_findings, scan, with_findings};
+ghost use Rattle.cv_scan.specs.code.Plain.{plain_packages_of, plain_scan};
+ghost use Rattle.cv_scan.specs.Image.{as_image, bad_tree_from, trees_from};
+ghost use Rattle.cv_scan.specs.Scan.{root_findings, with_findings};
 
 use crate::error::ScanError;
 use crate::layer_error::ImageError;
@@ -33,7 +34,7 @@ pub fn scan_image<D: Desk>(
 ) -> Result<Seq<Finding>, ImageError>
     requires room { D.listings desk.old < 2 ^ 62 }
     requires at_most_128_layers { length layers.now ≤ MAX_LAYERS }
-    ensures { IsScanAnswer D.tree D.listings D.faults desk.old desk.new layers.now ((feed.now, advisories.now) ∷ []) result }
+    ensures { IsScanAnswer D.tree D.listings D.faults desk.old desk.new layers.now (no_seals layers.now) ((feed.now, advisories.now) ∷ []) result }
 {
     match read_layers::<D, Loader>(alloc, desk, layers) {
         Ok(loaded) => scan_loaded(alloc, layers, &loaded, feed, advisories),
@@ -50,7 +51,7 @@ fn scan_loaded(
     advisories: &[Advisory],
 ) -> Result<Seq<Finding>, ImageError>
     requires at_most_128_layers { length layers.now ≤ MAX_LAYERS }
-    ensures { Gives is_image_memory (λ found. found) result (refusing (scan (map (tree_in loaded.now) layers.now) ((feed.now, advisories.now) ∷ []))) }
+    ensures { Gives is_image_memory (λ found. found) result (refusing (plain_scan (map (tree_in loaded.now) layers.now) ((feed.now, advisories.now) ∷ []))) }
 {
     match trees_of(alloc, layers, loaded) {
         Ok(trees) => scan_trees(alloc, &trees, feed, advisories),
@@ -66,7 +67,7 @@ fn scan_trees(
     advisories: &[Advisory],
 ) -> Result<Seq<Finding>, ImageError>
     requires at_most_128_layers { length trees.now ≤ MAX_LAYERS }
-    ensures { Gives is_image_memory (λ found. found) result (refusing (with_findings ((feed.now, advisories.now) ∷ []) (packages_of (map (λ tree. tree.now.entries) trees.now)))) }
+    ensures { Gives is_image_memory (λ found. found) result (refusing (with_findings ((feed.now, advisories.now) ∷ []) (plain_packages_of (map (λ tree. tree.now.entries) trees.now)))) }
 {
     match lay_trees(alloc, trees) {
         Ok(root) => scan_laid(alloc, root.entries(), feed, advisories),
