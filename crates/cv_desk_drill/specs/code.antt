@@ -3,3 +3,4 @@ pub mod GeneratedEntry
 pub mod GeneratedLaws
 pub mod GeneratedNames
 pub mod GeneratedPaths
+pub mod HostileLaws

@@ -62,24 +62,46 @@ impl Desk for GenDesk {
 
     fn list(&mut self, alloc: Global, layer: &Digest) -> Result<Option<Seq<ListEntry>>, DeskFault> {
         self.listings += 1;
-        match layer_of(alloc, layer)? {
-            None => Ok(None),
-            Some(entries) => Ok(Some(Seq::of(listed(alloc, entries)?))),
-        }
+        Ok(listing_of(alloc, layer_of(alloc, layer)?)?)
     }
 
     fn read(&mut self, alloc: Global, layer: &Digest, path: &RelPath, limit: u32) -> ReadResult {
         self.reads = self.reads.saturating_add(1);
-        match layer_of(alloc, layer)? {
-            None => Ok(FileRead::NotFile),
-            Some(entries) => Ok(file_read(alloc, entries.as_slice(), path, limit)?),
-        }
+        Ok(read_of(alloc, layer_of(alloc, layer)?, path, limit)?)
+    }
+}
+
+/// The listing of a layer of these entries, if there is one.
+pub(crate) fn listing_of(
+    alloc: Global,
+    layer: Option<Vec<GenEntry>>,
+) -> Result<Option<Seq<ListEntry>>, NoMemory>
+    ensures { IfOk result (λ found. found ≡ option_map (map listed) (option_map (λ entries. map made entries.items) layer)) }
+{
+    match layer {
+        None => Ok(None),
+        Some(entries) => Ok(Some(Seq::of(listed(alloc, entries)?))),
+    }
+}
+
+/// What reading a path of a layer of these entries gives, if there is one.
+pub(crate) fn read_of(
+    alloc: Global,
+    layer: Option<Vec<GenEntry>>,
+    path: &RelPath,
+    limit: u32,
+) -> Result<FileRead, NoMemory>
+    ensures { IfOk result (λ found. found ≡ file_read (item_in (option_map (λ entries. map made entries.items) layer) path.now) limit) }
+{
+    match layer {
+        None => Ok(FileRead::NotFile),
+        Some(entries) => file_read(alloc, entries.as_slice(), path, limit),
     }
 }
 
 /// An entry of a generated layer. A file has a text, and a directory has none.
 #[derive(Drop)]
-struct GenEntry {
+pub(crate) struct GenEntry {
     path: RelPath,
     text: Option<String>,
 }
@@ -100,13 +122,13 @@ fn layer_of(alloc: Global, layer: &Digest) -> Result<Option<Vec<GenEntry>>, NoMe
     )
 }
 
-fn are_zeros(bytes: &[u8]) -> bool
+pub(crate) fn are_zeros(bytes: &[u8]) -> bool
     ensures { result ≡ list_all (λ byte. byte == 0) bytes.now }
 {
     bytes.iter().all(|&byte| byte == 0)
 }
 
-fn number_of(a: u8, b: u8, c: u8, d: u8) -> u32
+pub(crate) fn number_of(a: u8, b: u8, c: u8, d: u8) -> u32
     ensures { result ≡ number_of a b c d }
 {
     ((u32::from(a) * 256 + u32::from(b)) * 256 + u32::from(c)) * 256 + u32::from(d)
@@ -172,7 +194,11 @@ fn opaque_layer(alloc: Global) -> Result<Vec<GenEntry>, NoMemory>
 }
 
 /// Adds the status file and its directories.
-fn push_status(alloc: Global, out: &mut Vec<GenEntry>, text: String) -> Result<(), NoMemory>
+pub(crate) fn push_status(
+    alloc: Global,
+    out: &mut Vec<GenEntry>,
+    text: String,
+) -> Result<(), NoMemory>
     ensures { OnOk result (map made out.new.items ≡ map made out.old.items ++ status_file (string_bytes text)) }
 {
     push_directory(alloc, out, "var")?;
@@ -229,7 +255,11 @@ fn manifest_text(alloc: Global, name: u64) -> Result<String, NoMemory>
     Ok(text)
 }
 
-fn push_directory(alloc: Global, out: &mut Vec<GenEntry>, text: &str) -> Result<(), NoMemory>
+pub(crate) fn push_directory(
+    alloc: Global,
+    out: &mut Vec<GenEntry>,
+    text: &str,
+) -> Result<(), NoMemory>
     requires { path_of text.now ≡ Ok (components text.now) }
     ensures { OnOk result (map made out.new.items ≡ map made out.old.items ++ directory text.now ∷ []) }
 {
@@ -238,7 +268,12 @@ fn push_directory(alloc: Global, out: &mut Vec<GenEntry>, text: &str) -> Result<
     Ok(())
 }
 
-fn push_file(alloc: Global, out: &mut Vec<GenEntry>, at: &str, text: String) -> Result<(), NoMemory>
+pub(crate) fn push_file(
+    alloc: Global,
+    out: &mut Vec<GenEntry>,
+    at: &str,
+    text: String,
+) -> Result<(), NoMemory>
     requires { path_of at.now ≡ Ok (components at.now) }
     ensures { OnOk result (map made out.new.items ≡ map made out.old.items ++ file at.now (string_bytes text) ∷ []) }
 {
@@ -286,7 +321,7 @@ fn two_digits(alloc: Global, n: u64) -> Result<String, NoMemory>
 }
 
 #[tactic(auto, using(crate::specs::code::GeneratedLaws::digit_text))]
-fn push_digit(text: &mut String, digit: u64) -> Result<(), NoMemory>
+pub(crate) fn push_digit(text: &mut String, digit: u64) -> Result<(), NoMemory>
     requires { digit < 10 }
     ensures { OnOk result (string_bytes text.new ≡ string_bytes text.old ++ (48 + digit) ∷ []) }
 {

@@ -1,4 +1,4 @@
-//! The desk of drills, whose digests spell their layers.
+//! Desks whose digests spell their layers: that of drills, and one of hostile sizes for tests.
 //!
 //! ```text
 //! let mut desk = GenDesk::new();
@@ -7,5 +7,7 @@
 #![tactic(auto)]
 
 mod generated;
+mod hostile;
 
 pub use generated::GenDesk;
+pub use hostile::HostileDesk;
