@@ -47,8 +47,8 @@ ln -s ../../METADATA "$(folder 8)/opt/link.dist-info/METADATA"
 : >"$(folder 3)"
 put 4 "$(printf 'caf\xe9')" </dev/null
 
-# requests
-register() { printf '{"do":"register","lane":%s,"manifest":{"hash":"%s","layers":[%s]}}\n' "$1" "$2" "$(printf '{"hash":"%s"}\n' "${@:3}" | paste -sd,)"; }
+# requests. A layer to be registered may have its stated seal after `=`
+register() { printf '{"do":"register","lane":%s,"manifest":{"hash":"%s","layers":[%s]}}\n' "$1" "$2" "$(printf '{"hash":"%s"}\n' "${@:3}" | sed 's/=/","seal":"/' | paste -sd,)"; }
 report_of() { printf '{"do":"report","lane":%s,"image":"%s"}\n' "$1" "$2"; }
 drop() { printf '{"do":"drop","lane":%s,"image":"%s"}\n' "$1" "$2"; }
 update() { printf '{"do":"update","lane":%s,"feed":"%s","advisories":[%s]}\n' "$1" "$2" "$(IFS=, && echo "${*:3}")"; }
@@ -255,6 +255,51 @@ $registered
 {"at":5,"event":"indexed","layer":"<a>","reply":"entered","worker":0}
 EOT
 
+# an image stands with its seals
+{
+    register 0 '<1>' '<a>=<0>' '<b>'; register 0 '<1>' '<a>=<0>' '<b>'; register 0 '<1>' '<a>' '<b>'; register 0 '<1>' '<a>=<0>' '<b>=<0>'
+    register 0 '<1>' '<a>=<5>' '<b>'; register 0 '<1>' '<a>=<0>'; register 0 '<2>' '<a>'; register 0 '<2>' '<a>=<0>'; register 0 '<2>' '<a>'
+} >requests
+kept='"kept":["<a>","<b>"],"kept_seals":["<0>",null]'
+indexed_ab='{"at":10,"event":"claim","layer":"<a>","reply":"claimed","worker":0}
+{"at":11,"event":"indexed","layer":"<a>","reply":"entered","worker":0}
+{"at":12,"event":"claim","layer":"<b>","reply":"claimed","worker":0}
+{"at":13,"event":"indexed","layer":"<b>","reply":"entered","worker":0}'
+legal 'registrations with seals' <<EOT
+$registered
+{"at":2,"event":"register","image":"<1>","lane":0,"line":2,"reply":"already"}
+{"at":3,"event":"register","image":"<1>",$kept,"lane":0,"line":3,"reply":"conflict"}
+{"at":4,"event":"register","image":"<1>",$kept,"lane":0,"line":4,"reply":"conflict"}
+{"at":5,"event":"register","image":"<1>",$kept,"lane":0,"line":5,"reply":"conflict"}
+{"at":6,"event":"register","image":"<1>",$kept,"lane":0,"line":6,"reply":"conflict"}
+{"at":7,"event":"register","image":"<2>","lane":0,"line":7,"reply":"registered"}
+{"at":8,"event":"register","image":"<2>","kept":["<a>"],"lane":0,"line":8,"reply":"conflict"}
+{"at":9,"event":"register","image":"<2>","lane":0,"line":9,"reply":"already"}
+$indexed_ab
+EOT
+refused 'an image with other seals that is called already there' 3 '"reply":"conflict"' <<EOT
+$registered
+{"at":2,"event":"register","image":"<1>","lane":0,"line":2,"reply":"already"}
+{"at":3,"event":"register","image":"<1>","lane":0,"line":3,"reply":"already"}
+EOT
+refused 'a conflict without the seals that are kept' 3 'it has to be' <<EOT
+$registered
+{"at":2,"event":"register","image":"<1>","lane":0,"line":2,"reply":"already"}
+{"at":3,"event":"register","image":"<1>","kept":["<a>","<b>"],"lane":0,"line":3,"reply":"conflict"}
+EOT
+
+layers_of_request() { printf '{"do":"register","manifest":{"hash":"<1>","layers":[%s]}}\n' "$@"; }
+layers_of_request '{"hash":"<a>"},{"hash":"<a>","seal":"x"}' '{"hash":"<a>","seal":null}' '{"hash":"<a>","seal":"<0>","seal":1}' '{"seal":"x"}' \
+    '{"hash":"<a>","seal":"<0>"},{},{"hash":"<a>","seal":1}' '{"hash":"<a>","seal":"SHA256:<0>"},{}' >requests
+legal 'seals that are refused' <<'EOT'
+{"index":1,"line":1,"refused":"bad_request","what":"bad_seal"}
+{"index":0,"line":2,"refused":"bad_request","what":"bad_seal"}
+{"index":0,"line":3,"refused":"bad_request","what":"bad_seal"}
+{"index":0,"line":4,"refused":"bad_request","what":"bad_layer"}
+{"index":1,"line":5,"refused":"bad_request","what":"bad_layer"}
+{"index":0,"line":6,"refused":"bad_request","what":"bad_seal"}
+EOT
+
 { echo '{"do":"list"}'; echo '{'; update 0 deb "$(x X-1 1 1)" '{}'; echo '{"do":"list"}'; } >requests
 legal 'lines that are no requests' <<'EOT'
 {"line":2,"refused":"bad_json"}
@@ -424,8 +469,8 @@ $registered
 {"at":3,"event":"fault","layer":"<a>","reply":"requeued","worker":0}
 EOT
 
-# what a scan finds: layers, findings (or -), and why the image is bad. The records are on packages of npm and of Python, and of the
-# latter P-2 has a name that is not normalized, P-3 the type of another kind, and P-4 a text that is not a version
+# what a scan finds: layers with the stated seals, findings (or -), and why the image is bad. The records are on packages of npm and of
+# Python, and of the latter P-2 has a name that is not normalized, P-3 the type of another kind, and P-4 a text that is not a version
 scans() {
     local findings=$3 bad=${4:-} at layer layers
     read -ra layers <<<"$2"
@@ -435,7 +480,7 @@ scans() {
         echo "$registered"
         echo '{"at":2,"event":"update","feed":"osv","generation":1,"lane":0,"line":3,"reply":"updated","rows":0}'
         at=2
-        for layer in $(printf '%s\n' "${layers[@]}" | sort -u); do
+        for layer in $(printf '%s\n' "${layers[@]%%=*}" | sort -u); do
             printf '{"at":%s,"event":"claim","layer":"%s","reply":"claimed","worker":0}\n' $((at + 1)) "$layer"
             printf '{"at":%s,"event":"indexed","layer":"%s","reply":"entered","worker":0}\n' $((at + 2)) "$layer"
             at=$((at + 2))
@@ -462,6 +507,45 @@ scans 'a status file that is refused' '<d> <f>' - '{"cause":"bad_file","line":3,
 scans 'a whiteout of a status file that is refused' '<f> <b>' ''
 scans 'a bad mark' '<f> <0>' - '{"cause":"bad_tree","entry":1,"layer":1,"what":"bad_mark"}'
 scans 'a layer that is not there' '<0> <9>' - '{"cause":"no_layer","layer":1}'
+
+# seals: that of a tree, of one with marks, and of one at which a file of another size is
+seal_of() { "$tools/layer-seal" "$(folder "$1")"; }
+bad_seal() { printf '{"cause":"bad_seal","found":"%s","layer":%s,"stated":"<0>"}' "$(seal_of "$1")" "$2"; }
+same 'the seal of a mark alone' "$(seal_of b)" "sha256:$({
+    printf 'cvwatch seal 1\nd\0\0\0\003vard\0\0\0\007var/libd\0\0\0\014var/lib/dpkg'
+    printf 'f\0\0\0\027var/lib/dpkg/.wh.status\0\0\0\0\0\0\0\0'
+} | digits)"
+scans 'seals that are those of the trees' "<d>=$(seal_of d) <e>=$(seal_of e)" "$(found_npm N-2 y srv)"
+scans 'a seal of one layer' "<d> <e>=$(seal_of e)" "$(found_npm N-2 y srv)"
+scans 'another seal' '<d>=<0>' - "$(bad_seal d 0)"
+scans 'the seal of another layer' "<d>=$(seal_of d) <e>=$(seal_of d)" - "$(bad_seal e 1 | sed "s/<0>/$(seal_of d)/")"
+scans 'the first of two other seals' "<5> <d>=<0> <e>=<0>" - "$(bad_seal d 1)"
+scans 'a layer twice, with a seal that is right and another one' "<d>=$(seal_of d) <d>=<0>" - "$(bad_seal d 1)"
+scans 'another seal of a layer that is hidden' '<5>=<0> <7>' - "$(bad_seal 5 0)"
+scans 'another seal before a status file that is refused' '<d>=<0> <f>' - "$(bad_seal d 0)"
+scans 'a bad mark before another seal' '<d>=<0> <0>' - '{"cause":"bad_tree","entry":1,"layer":1,"what":"bad_mark"}'
+scans 'a layer that is not there before another seal' '<d>=<0> <9>=<0>' - '{"cause":"no_layer","layer":1}'
+{ register 0 '<1>' '<d>=<0>'; echo; echo; update 0 osv "$(npm N-1 x)"; report_of 0 '<1>'; } >requests
+indexed_d=${indexed_a//<a>/<d>}
+update_of_none='{"at":4,"event":"update","feed":"osv","generation":1,"lane":0,"line":4,"reply":"updated","rows":0}'
+legal 'an update after an image with another seal has no rows' <<EOT
+$registered
+$indexed_d
+$update_of_none
+{"at":4,"bad":$(bad_seal d 0),"image":"<1>","lane":0,"line":5,"read":"report","reply":"bad_image"}
+EOT
+refused 'another seal that is found' 5 'it has to be' <<EOT
+$registered
+$indexed_d
+$update_of_none
+{"at":4,"bad":$(bad_seal e 0),"image":"<1>","lane":0,"line":5,"read":"report","reply":"bad_image"}
+EOT
+refused 'findings of an image with another seal' 5 'it has to be' <<EOT
+$registered
+$indexed_d
+$update_of_none
+{"at":4,"findings":[$(found_npm N-1 x app)],"generation":1,"image":"<1>","lane":0,"line":5,"read":"report","reply":"good"}
+EOT
 
 # prints the places on standard input where a version of Python packages is not after the one before it, or with `equal` not the same
 misplaced() {
