@@ -1,6 +1,7 @@
 #!/usr/bin/env bash
 # Shows that fuzz finds nothing in cvwatch, and sees programs that answer otherwise: with another status, by a signal, with a line more or a message,
-# by the order of the records, by a line feed more, or with another transcript. Needs the built program, of which these are wrappers.
+# by the order of the records, by a line feed more, without a look at seals, with another seal, or with another transcript. Needs the built
+# program, of which these are wrappers.
 set -euo pipefail
 # shellcheck source=tools/test-common.sh
 . "$(dirname "$0")/test-common.sh"
@@ -43,6 +44,9 @@ no_findings='sed "s/\"findings\":\[.*\],\"image\"/\"findings\":[],\"image\"/" "$
     has 'a message' "$(fuzz_wrapper 'cat "$answer"; echo Aborted >&2')" 'and it says'
     has 'an answer by the order of the records' "$(fuzz_wrapper 'if tail -n 1 "$given" | cksum | grep -q ^[1-4]; then '"$no_findings"'; else cat "$answer"; fi')" 'reordered: the answer differs'
     has 'an answer by the number of line feeds' "$(fuzz_wrapper 'if grep -q ^$ "$given"; then '"$no_findings"'; else cat "$answer"; fi')" 'line-feeds: the answer differs'
+    has 'seals that are not compared' "$(fuzz_wrapper 'sed "s/,\"seal\":\"[^\"]*\"//g" "$given" >"$given.bare"; status=0; '"$(printf %q "$program")"' "$@" <"$given.bare" || status=$?')" 'other-seal: the answer is not'
+    has 'another seal that is found' "$(fuzz_wrapper 'sed "s/\"found\":\"sha256:./\"found\":\"sha256:/" "$answer"')" 'other-seal: the answer is not'
+    has 'seals that are never right' "$(fuzz_wrapper 'if grep -q "\"seal\":\"sha256" "$given"; then sed "s/\"findings\"/\"found\"/" "$answer"; else cat "$answer"; fi')" 'sealed: '
     has 'another report of a service' "$(fuzz_wrapper '[ "$1" != serve ] || sed -i "s/\"generation\":1/\"generation\":2/" "$answer"; cat "$answer"')" 'served: line'
     has 'a transcript without its last line' "$(fuzz_wrapper '[ "$1" != serve ] || sed -i "\$d" "$answer"; cat "$answer"')" 'serve: line'
 }

@@ -2,6 +2,11 @@
 
 import hashlib
 import json
+import os
+import tempfile
+
+import layer_seal
+import runs
 
 SYSTEM = b'ID=debian\nVERSION_ID="12"\n'
 STATUS = "var/lib/dpkg/status"
@@ -20,7 +25,8 @@ def compact(value):
 
 
 def manifest(image, *layers):
-    return {"hash": digest(image), "layers": [{"hash": digest(layer)} for layer in layers]}
+    """A manifest of these layers, each a word, or a word with the stated seal."""
+    return {"hash": digest(image), "layers": [{"hash": digest(layer)} if isinstance(layer, str) else {"hash": digest(layer[0]), "seal": layer[1]} for layer in layers]}
 
 
 def record(name, ecosystem, package, events, kind="ECOSYSTEM", **more):
@@ -48,6 +54,7 @@ LAYERS = {
     "cover": {"app": b"", "var/lib/dpkg": b""},
     "deep": {"d/" * 150 + "node_modules/deep/package.json": b'{"name":"deep","version":"1.0.0"}'},
     "parts": {"var/lib/dpkg/status.d/a": b"Package: a\nVersion: 1\n", "var/lib/dpkg/status.d/a.md5sums": b"no colon\n", "var/lib/dpkg/status.d/b": b"Package: b\nVersion: 2"},
+    "marks with bytes": {"var/lib/dpkg/status.d/.wh.a": b"in the seal", "app/.wh..wh.plnk/node_modules/x/package.json": b"in the seal", "etc/.wh.os-release": b"not in the seal"},
     "bad status": {STATUS: b"Package: a\nStatus: install ok installed\nnocolon\n"},
     "bad database": {"lib/apk/db/installed": b"P:a\nV:1\n\nP:b\nP:c\n"},
     "bad mark": {"etc/x": b"", "srv/.wh..": b""},
@@ -62,6 +69,13 @@ def layer_files():
         folder = f"layers/sha256/{digits(word)}"
         files |= {folder: b""} if layer is None else {f"{folder}/{path}": data for path, data in layer.items()}
     return files
+
+
+def sealed(word):
+    """A layer with its seal."""
+    with tempfile.TemporaryDirectory() as folder:
+        runs.put_files(folder, LAYERS[word])
+        return word, layer_seal.seal_of(os.fsencode(folder))
 
 
 # ---- records
@@ -95,6 +109,10 @@ SCANS = {
     "a bad record": [compact(manifest("image", "debian")), compact(DEB), '{"id":"A","modified":"","affected":[{"ranges":[{"type":"X","events":[{"fixed":1}]}]}]}'],
     "a record twice": [compact(manifest("image", "debian")), compact(DEB), compact(NPM), compact(DEB)],
     "deep JSON": [compact(manifest("image", "debian")), '{"id":"A","modified":"","x":' + "[" * 120 + "]" * 120 + "}", "[" * 5000],
+    "seals": [compact(manifest("image", sealed("debian"), "node", sealed("marks with bytes"), sealed("parts"))), *map(compact, RECORDS)],
+    "another seal": [compact(manifest("image", sealed("debian"), ("marks with bytes", digest("no seal")))), compact(DEB)],
+    "a bad mark before another seal": [compact(manifest("image", ("debian", digest("no seal")), "bad mark"))],
+    "a seal that is no digest": [compact(manifest("image", sealed("debian"), ("node", None)))],
     "escapes": [compact(manifest("image", "node")), '{"id":"\\ud83d\\ude00\\u0000","modified":"\\"\\\\","affected":[{"package":{"ecosystem":"npm","name":"n1"},"versions":["1.1.0-rc.1+build"]}]}', '{"id":"\\ud800"}'],
 }
 
@@ -129,6 +147,10 @@ SERVICES = {
     "notifications": [
         register("a", "debian", "parts"), register("b", "node", "deep"), register("c", "python", "marks"), "", "",
         update("x", RECORDS), "", update("x", [{**NPM, "modified": "later"}, DEB_2, NPM_2]), "", update("y", MANY), "", *PAGES, *(about("report", image) for image in "abc"),
+    ],
+    "seals": [
+        register("a", sealed("debian"), sealed("marks with bytes")), register("b", "debian", ("node", digest("no seal"))), register("a", "debian", sealed("marks with bytes")), register("c", ("node", "x")), "", "",
+        register("a", sealed("debian"), sealed("marks with bytes")), register("b", "debian", "node"), update("x", RECORDS), "", *(about("report", image) for image in "abc"), *PAGES,
     ],
     "lanes": [
         *(register(f"image {number}", "debian", *["node"] * (number % 3), lane=number) for number in range(8)), "",

@@ -14,7 +14,7 @@ TEXTS = [
     "SEMVER", "GIT", "openssl", "lodash", "src", "n3", "p-3", "\0", "\ufeff", "caf\u00e9", "\U0001f600", "a" * 5000, "sha256:" + "a" * 64, "list", "update",
 ]
 VALUES = [None, True, 0, 1, -1, 1.5, 7, 8, 2**64, [], {}, [[]], [{}], ["x"], {"introduced": "0"}, {"introduced": "0", "fixed": "2.0"}, {"package": {"ecosystem": "npm", "name": "n3"}, "versions": ["1.0.0"]}]
-NAMES = ["id", "modified", "withdrawn", "affected", "package", "ecosystem", "name", "ranges", "type", "events", "introduced", "fixed", "last_affected", "limit", "versions", "hash", "layers", "version", "lane", "do", "", "\0"]
+NAMES = ["id", "modified", "withdrawn", "affected", "package", "ecosystem", "name", "ranges", "type", "events", "introduced", "fixed", "last_affected", "limit", "versions", "hash", "layers", "seal", "version", "lane", "do", "", "\0"]
 
 
 # ---- of bytes
