@@ -108,12 +108,13 @@ enter_work_folder() {
 # the 64 digits that stand for a word, as the name of a layer or an image
 digest() { printf %s "$1" | sha256sum | cut -c1-64; }
 
-# the line of a manifest: the word of the image, and then those of its layers
+# the line of a manifest: the word of the image, and then those of its layers, each with its stated seal after `=` if it has one
 manifest() {
-    local image=$1 word layers=
+    local image=$1 word seal layers=
     shift
     for word in "$@"; do
-        layers="$layers,{\"hash\":\"sha256:$(digest "$word")\"}"
+        seal=${word#"${word%%=*}"}
+        layers="$layers,{\"hash\":\"sha256:$(digest "${word%%=*}")\"${seal:+,\"seal\":\"${seal#=}\"}}"
     done
     printf '{"hash":"sha256:%s","layers":[%s]}\n' "$(digest "$image")" "${layers#,}"
 }

@@ -1,7 +1,8 @@
 #!/usr/bin/env bash
 # Shows that cvwatch reads this machine's own Debian root as dpkg does. It makes a layer of the root's package files and scans it
 # three times. First with one record that has an entry for each source package and affects every version: what is found has to be
-# what `dpkg-query -W` lists. Then with one in which each source is fixed in the version of another one. Last with five records
+# what `dpkg-query -W` lists, also with the seal of the layer as tools/layer-seal gives it; with another seal both have to be named. Then
+# with one in which each source is fixed in the version of another one. Last with five records
 # for each third source, which are bound just below its version, at it and just above it. What is found then has to be what
 # `dpkg --compare-versions` says, the fixed version included. Prints the counts, and ends with 1 if the two differ.
 set -euo pipefail
@@ -18,9 +19,9 @@ own_packages >"$work/packages"
 awk -F'\t' '!seen[$3]++ { print $3 "\t" $4 }' "$work/packages" | sort >"$work/sources"
 cut -f2 "$work/sources" | tac | paste <(cut -f1 "$work/sources") - >"$work/fixes"
 
-# the findings with the records on standard input, one a line
+# the findings with the records on standard input, one a line, where the seal $1 is stated if there is one
 scan() {
-    { manifest own-image own-root; cat; } >"$work/input"
+    { manifest own-image "own-root${1:+=$1}"; cat; } >"$work/input"
     (cd "$work" && "$program" scan <input) >"$work/answer"
     jq -c '.findings[]' "$work/answer"
 }
@@ -48,6 +49,16 @@ package='.name, .version, .source, .source_version'
 cp "$work/packages" "$work/wanted"
 own_record false | scan | jq -r "[$package] | @tsv" >"$work/found"
 compare 'all versions' packages
+
+seal=$("$top/tools/layer-seal" "$work/layers/sha256/$(digest own-root)")
+own_record false | scan "$seal" | jq -r "[$package] | @tsv" >"$work/found"
+compare "all versions, with the seal $seal" packages
+
+other=sha256:$(digest 'another seal')
+(cd "$work" && manifest own-image "own-root=$other" | "$program" scan) >"$work/answer" || true
+printf '{"bad":{"cause":"bad_seal","found":"%s","layer":0,"stated":"%s"},"image":"sha256:%s","reply":"bad_image"}\n' "$seal" "$other" "$(digest own-image)" |
+    diff - "$work/answer" || { echo 'another seal: the answer differs' >&2; exit 1; }
+echo 'another seal: both are named'
 
 # each package with what stands after its source in a file that is sorted by sources
 joined() { join -t $'\t' -1 3 -2 1 -o 1.1,1.2,1.3,1.4,"$2" <(sort -t $'\t' -k 3,3 "$work/packages") "$1"; }

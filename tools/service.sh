@@ -89,6 +89,33 @@ $(updated 6 3 8 1)
 {"at":6,"lane":0,"line":11,"number":3,"page":1,"pages":1,"read":"page","reply":"page","rows":[{"finding":{"advisory":"X-1","arch":"amd64","ecosystem":"Debian:12","feed":"deb","fixed":"3.0.12-1","kind":"deb","name":"libssl3","path":"var/lib/dpkg/status","source":"openssl","source_version":"3.0.9-1","version":"3.0.9-1+b1"},"image":"<1>","reason":"changed"}],"size":10}
 EOT
 
+# an image whose manifest states another seal, and the same image with the right one and with none
+zeros=sha256:$(digits 0)
+seal=$("$top/tools/layer-seal" "$layer")
+with_seal() { printf '{"do":"register","manifest":{"hash":"%s","layers":[{"hash":"<a>","seal":"%s"}]}}\n' "$@"; }
+serve <<<"$(with_seal '<1>' "$zeros")
+$(with_seal '<2>' "$seal")
+$(with_seal '<1>' "$zeros")
+$(with_seal '<1>' "$seal")
+$register
+$(with_seal '<1>' null)
+
+
+$report
+{\"do\":\"report\",\"image\":\"<2>\"}"
+expect 'images with seals' "$(cat status)" 0 <<EOT
+{"index":0,"line":6,"refused":"bad_request","what":"bad_seal"}
+$registered
+{"at":2,"event":"register","image":"<2>","lane":0,"line":2,"reply":"registered"}
+{"at":3,"event":"register","image":"<1>","lane":0,"line":3,"reply":"already"}
+{"at":4,"event":"register","image":"<1>","kept":["<a>"],"kept_seals":["$zeros"],"lane":0,"line":4,"reply":"conflict"}
+{"at":5,"event":"register","image":"<1>","kept":["<a>"],"kept_seals":["$zeros"],"lane":0,"line":5,"reply":"conflict"}
+{"at":6,"event":"claim","layer":"<a>","reply":"claimed","worker":0}
+{"at":7,"event":"indexed","layer":"<a>","reply":"entered","worker":0}
+{"at":7,"bad":{"cause":"bad_seal","found":"$seal","layer":0,"stated":"$zeros"},"image":"<1>","lane":0,"line":9,"read":"report","reply":"bad_image"}
+{"at":7,"findings":[],"generation":0,"image":"<2>","lane":0,"line":10,"read":"report","reply":"good"}
+EOT
+
 # the input is a pipe that stays open: the answers of a round have to come while it does
 mkfifo pipe
 "$program" serve --workers 1 <pipe >answer &
