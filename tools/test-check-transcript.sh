@@ -603,8 +603,9 @@ refused 'a further line' 2 'no further lines' <<<"$empty_list
 $empty_list"
 refused 'a further empty line' 2 'no JSON' <<<"$empty_list
 "
-example=$tools/../examples/service
-has 'the example of the service' "$("$tools/check-transcript" "$example/input.jsonl" "$example/expected.jsonl" 8 "$example/layers")" 'legal: '
+for example in "$tools"/../examples/{service,sealed-image}; do
+    has "the example $(basename "$example")" "$("$tools/check-transcript" "$example/input.jsonl" "$example/expected.jsonl" 8 "$example/layers")" 'legal: '
+done
 put 2 lib/apk/db/installed </dev/null
 { register 0 '<1>' '<2>'; echo; echo; report_of 0 '<1>'; } | whole >input
 whole >output <<EOT

@@ -66,6 +66,12 @@ same 'a file at the limit' "$("$tools/layer-seal" large)" "sha256:$({
     head -c 33554432 /dev/zero
 } | digits)"
 
+# the example: its base has the seal that is stated, and the layer that was changed has the one that is found
+example=$tools/../examples/sealed-image
+example_seal() { "$tools/layer-seal" "$example/layers/sha256/$(printf 'sealed-image %s' "$1" | digits)"; }
+same 'the base of the example' "$(example_seal base)" "$(jq -nr 'input.manifest.layers[0].seal' "$example/input.jsonl")"
+same 'the changed layer of the example' "$(example_seal app)" "$(jq -r '.bad.found // empty' "$example/expected.jsonl")"
+
 mkdir bad
 : >"bad/$(printf '\377')"
 has 'a name that is not UTF-8' "$("$tools/layer-seal" bad 2>&1 || true)" 'not UTF-8'

@@ -7,7 +7,7 @@ from collections import namedtuple
 TOOLS = os.path.dirname(os.path.dirname(os.path.realpath(__file__)))
 EXAMPLES = os.path.join(os.path.dirname(TOOLS), "examples")
 # examples whose input is that of a scan, and those whose input is that of a service
-SCANS, SERVICES = ["first-scan", "three-layers", "python-image"], ["service"]
+SCANS, SERVICES = ["first-scan", "three-layers", "python-image"], ["service", "sealed-image"]
 # statuses of cvwatch
 DONE, USAGE, NO_MEMORY, REFUSED, DESK_FAULT = 0, 2, 5, 8, 9
 HANGS = "hangs"
