@@ -8,7 +8,7 @@ use Rattle.serde_json.specs.declared.value.Value.{Value}
 use Rattle.cv_base.specs.Results.{◌>>=◌}
 use Rattle.cv_osv.specs.Json.{object_or}
 use Rattle.cv_request.specs.Fault.{refusing}
-use Rattle.cv_request.specs.Manifest.{count, digest_or, layers_in, manifest_of}
+use Rattle.cv_request.specs.Manifest.{count, digest_or, layers_in, manifest_of, manifest_with}
 use Rattle.cv_request.specs.declared.error.RequestFault.{RequestFault}
 use Rattle.cv_request.specs.declared.error.RequestFault.TheVariants.{BadRequest}
 use Rattle.cv_request.specs.declared.error.RequestWhat.{RequestWhat}
@@ -31,4 +31,4 @@ pub manifest_fails : (d : Data) (hash : List ℕ) (fault : Option RequestFault) 
     → IfSome fault (λ x. refusing (manifest_of d) ≡ Err x)
 unfolding manifest_of
 manifest_fails d hash fault h k refused =
-    rw (h, k) (fails_by (layers_in (get (codes "layers") d)) (λ layers. Ok (record { hash = hash; layers = layers })) fault refused)
+    rw (h, k) (fails_by (layers_in (get (codes "layers") d)) (λ layers. Ok (manifest_with hash layers)) fault refused)

@@ -32,6 +32,9 @@ pub enum RequestWhat {
     /// The index of the layer, from 0.
     #[error("layer {0} has no digest")]
     BadLayer(u32),
+    /// The index of the layer, from 0.
+    #[error("the seal of layer {0} is not a digest")]
+    BadSeal(u32),
     #[error("`feed` is not the name of a feed")]
     BadFeed,
     #[error("`advisories` is not a list")]

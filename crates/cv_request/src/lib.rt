@@ -1,7 +1,7 @@
 //! Reads the requests of a client, each a line of JSON.
 //!
 //! ```text
-//! {"do":"register","manifest":{"hash":"sha256:11..","layers":[{"hash":"sha256:aa..","uri":"..","headers":{}}]}}
+//! {"do":"register","manifest":{"hash":"sha256:11..","layers":[{"hash":"sha256:aa..","seal":"sha256:5e..","uri":".."}]}}
 //! {"do":"update","feed":"debian","advisories":[{"id":"DSA-5417-1","modified":"2023-05-31T00:00:00Z"}]}
 //! {"lane":1,"do":"report","image":"sha256:11.."}
 //! {"lane":1,"do":"page","number":1,"size":100,"page":1}

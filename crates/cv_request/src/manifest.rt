@@ -4,27 +4,48 @@ ghost use Rattle.serde_json.specs.View.{view, items_view};
 ghost use Rattle.cv_base.specs.Answer.{MatchesUnlessOutOfMemory};
 ghost use Rattle.cv_osv.specs.Json.{object_or};
 ghost use Rattle.cv_request.specs.Fault.{fault_of, refusing};
-ghost use Rattle.cv_request.specs.Manifest.{checked_layers, digest_or, layer_of, layers_from, layers_in, list_or, manifest_of};
+ghost use Rattle.cv_request.specs.Manifest.{checked_layers, digest_or, layer_of, layers_from, layers_in, list_or, manifest_of, manifest_with, seal_or};
 
 use crate::error::{RequestError, RequestWhat};
-use cv_base::{Digest, MAX_LAYERS, Manifest, Seq};
+use cv_base::{Digest, MAX_LAYERS, Manifest, NoMemory, Seq};
 use serde_json::Value;
 use std::alloc::Global;
 
-/// Reads the manifest of an image, as Clair v4 takes it: its digest, and those of its 1 to 128 layers. `uri`, `headers`
-/// and unknown members are ignored. The first fault is the answer, in this order: the object, `hash`, the list
-/// `layers`, the count of its items, and each of them from the first on.
+/// Layers, each a digest and its stated seal.
+type SealedLayers = Vec<(Digest, Option<Digest>)>;
+
+/// Reads the manifest of an image, as Clair v4 takes it: its digest, and those of its 1 to 128 layers, each with the seal that
+/// is stated for it, if any. `uri`, `headers` and unknown members are ignored. The first fault is the answer, in this order: the
+/// object, `hash`, the list `layers`, the count of its items, and each of them from the first on, its `hash` before its `seal`.
 #[tactic(auto, unfolding(crate::specs::Manifest::manifest_of), using(crate::proofs::Layers::manifest_fails))]
 pub fn read_manifest(alloc: Global, value: &Value) -> Result<Manifest, RequestError>
     ensures value { MatchesUnlessOutOfMemory fault_of (λ manifest. manifest) result (refusing (manifest_of (view value.now))) }
     ensures at_most_128_layers { IfOk result (λ manifest. length manifest.layers ≤ MAX_LAYERS) }
+    ensures as_many_seals { IfOk result (λ manifest. length manifest.seals ≡ length manifest.layers) }
 {
     object_or(value, RequestWhat::BadManifest)?;
     let hash = digest_or(value.get("hash"), RequestWhat::BadHash)?;
     match read_layers(alloc, value.get("layers")) {
-        Ok(layers) => Ok(Manifest { hash, layers }),
+        Ok(layers) => Ok(manifest_with(alloc, hash, layers)?),
         Err(error) => Err(error),
     }
+}
+
+/// The manifest with these layers.
+fn manifest_with(alloc: Global, hash: Digest, sealed: SealedLayers) -> Result<Manifest, NoMemory>
+    ensures { IfOk result (λ manifest. manifest ≡ manifest_with hash sealed.items) }
+{
+    let mut layers = Vec::new(alloc);
+    let mut seals = Vec::new(alloc);
+    for (layer, seal) in sealed {
+        layers.push(layer)?;
+        seals.push(seal)?;
+    }
+    Ok(Manifest {
+        hash,
+        layers: Seq::of(layers),
+        seals: Seq::of(seals),
+    })
 }
 
 pub(crate) fn object_or(value: &Value, bad: RequestWhat) -> Result<(), RequestWhat>
@@ -56,8 +77,8 @@ fn list_or(found: Option<&Value>, bad: RequestWhat) -> Result<&[Value], RequestW
 }
 
 /// The layers of an image by their member.
-fn read_layers(alloc: Global, found: Option<&Value>) -> Result<Seq<Digest>, RequestError>
-    ensures { MatchesUnlessOutOfMemory fault_of (λ layers. layers) result (refusing (layers_in (option_map (λ v. view v.now) found.entry))) }
+fn read_layers(alloc: Global, found: Option<&Value>) -> Result<SealedLayers, RequestError>
+    ensures { MatchesUnlessOutOfMemory fault_of (λ layers. layers.items) result (refusing (layers_in (option_map (λ v. view v.now) found.entry))) }
 {
     let items = list_or(found, RequestWhat::BadLayers)?;
     read_checked(alloc, items)
@@ -65,8 +86,8 @@ fn read_layers(alloc: Global, found: Option<&Value>) -> Result<Seq<Digest>, Requ
 
 /// At least one layer, and at most 128.
 #[tactic(auto, using(crate::proofs::Layers::count_items))]
-fn read_checked(alloc: Global, items: &[Value]) -> Result<Seq<Digest>, RequestError>
-    ensures { MatchesUnlessOutOfMemory fault_of (λ layers. layers) result (refusing (checked_layers (items_view items.now))) }
+fn read_checked(alloc: Global, items: &[Value]) -> Result<SealedLayers, RequestError>
+    ensures { MatchesUnlessOutOfMemory fault_of (λ layers. layers.items) result (refusing (checked_layers (items_view items.now))) }
 {
     if items.is_empty() {
         return Err(RequestError::BadRequest(RequestWhat::NoLayers));
@@ -78,9 +99,9 @@ fn read_checked(alloc: Global, items: &[Value]) -> Result<Seq<Digest>, RequestEr
 }
 
 /// The layers of a list of items.
-fn read_each(alloc: Global, items: &[Value]) -> Result<Seq<Digest>, RequestError>
+fn read_each(alloc: Global, items: &[Value]) -> Result<SealedLayers, RequestError>
     requires { length items.now < 2 ^ 32 }
-    ensures { MatchesUnlessOutOfMemory fault_of (λ layers. layers) result (refusing (layers_from 0 (items_view items.now))) }
+    ensures { MatchesUnlessOutOfMemory fault_of (λ layers. layers.items) result (refusing (layers_from 0 (items_view items.now))) }
 {
     let mut layers = Vec::new(alloc);
     let mut index: u32 = 0;
@@ -88,12 +109,24 @@ fn read_each(alloc: Global, items: &[Value]) -> Result<Seq<Digest>, RequestError
         layers.push(layer_of(item, index)?)?;
         index += 1;
     }
-    Ok(Seq::of(layers))
+    Ok(layers)
 }
 
-/// The digest of the layer at this index.
-fn layer_of(item: &Value, index: u32) -> Result<Digest, RequestWhat>
+/// The digest of the layer at this index, and its stated seal.
+fn layer_of(item: &Value, index: u32) -> Result<(Digest, Option<Digest>), RequestWhat>
     ensures { result ≡ layer_of index (view item.now) }
 {
-    digest_or(item.get("hash"), RequestWhat::BadLayer(index))
+    let layer = digest_or(item.get("hash"), RequestWhat::BadLayer(index))?;
+    let seal = seal_or(item.get("seal"), RequestWhat::BadSeal(index))?;
+    Ok((layer, seal))
+}
+
+/// A seal, which may be absent.
+fn seal_or(found: Option<&Value>, bad: RequestWhat) -> Result<Option<Digest>, RequestWhat>
+    ensures { result ≡ seal_or bad (option_map (λ v. view v.now) found.entry) }
+{
+    if found.is_none() {
+        return Ok(None);
+    }
+    Ok(Some(digest_or(found, bad)?))
 }

@@ -1,8 +1,12 @@
--- The layers that were read are at most `MAX_LAYERS`.
+-- A manifest has at most `MAX_LAYERS` layers, and as many seals.
 use Rattle.std.specs.Option.{option_map}
 use Rattle.serde_json.specs.View.{view}
-use Rattle.cv_request.proofs.LayerLimit.{read_within}
+use Rattle.cv_request.proofs.LayerLimit.{as_many, read_within}
 use Rattle.cv_request.proofs.manifest.read_manifest.Goals as goal
 
-pub returns-in-Ok-clause-at_most_128_layers : goal.returns-in-Ok-clause-at_most_128_layers
-returns-in-Ok-clause-at_most_128_layers c = read_within (option_map (λ v. view v.now) c.get-2.result) c.in-Ok.layers c.in-Ok.ensures
+pub returns-in_ok-manifest_with-in-Ok-clause-at_most_128_layers : goal.returns-in_ok-manifest_with-in-Ok-clause-at_most_128_layers
+returns-in_ok-manifest_with-in-Ok-clause-at_most_128_layers c =
+    rw c.in_ok-manifest_with-in-Ok.ensures (read_within (option_map (λ v. view v.now) c.get-2.result) c.in-Ok.layers.items c.in-Ok.ensures)
+
+pub returns-in_ok-manifest_with-in-Ok-clause-as_many_seals : goal.returns-in_ok-manifest_with-in-Ok-clause-as_many_seals
+returns-in_ok-manifest_with-in-Ok-clause-as_many_seals c = rw c.in_ok-manifest_with-in-Ok.ensures (as_many c.in-Ok.layers.items)
