@@ -20,7 +20,7 @@ use Rattle.cv_packages.specs.Packages.{packages}
 use Rattle.cv_scan.specs.Root.{root_entries}
 use Rattle.cv_scan.specs.Layers.{distinct}
 use Rattle.cv_scan.specs.Image.{bad_seal_from, image_packages, packages_unless, seal_fault}
-use Rattle.cv_scan.specs.Scan.{scan}
+use Rattle.cv_scan.specs.Scan.{scan, with_findings}
 use Rattle.cv_seal.specs.Tree.{tree_seal}
 use Rattle.cv_packages.proofs.Examples.{zlib_of}
 
@@ -106,7 +106,7 @@ bad_line = (refl, refl)
 seal_first : tree_seal (with_status no_colon) ≡ another_seal
     → scan (Some (with_status no_colon) ∷ []) (Some a_seal ∷ []) [] ≡ Err (BadSeal 0 a_seal another_seal)
 unfolding scan image_packages
-seal_first h = ap (λ found. packages_unless (option_or (seal_fault 0 (Some a_seal) found) None) (map whole (with_status no_colon) ∷ [])) h
+seal_first h = ap (λ found. with_findings [] (packages_unless (option_or (seal_fault 0 (Some a_seal) found) None) (map whole (with_status no_colon) ∷ []))) h
 
 -- a layer that is named twice is one layer, at its first place
 twice : distinct (codes "a" ∷ codes "b" ∷ codes "a" ∷ []) ≡ codes "a" ∷ codes "b" ∷ []
