@@ -3,4 +3,5 @@ pub mod ListingLemmas
 pub mod OrderLemmas
 pub mod PlacedLemmas
 pub mod ReadLemmas
+pub mod SealLemmas
 pub mod TargetLemmas

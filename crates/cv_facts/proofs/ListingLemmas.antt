@@ -4,8 +4,7 @@ use Rattle.std.specs.List.{cons_option}
 use Rattle.std.specs.Option.{option_map, option_to_list}
 use Rattle.std.proofs.Common.{ap, append_assoc, sym, ◌∙◌}
 use Rattle.std.proofs.lemmas.List.{drop_more}
-use Rattle.cv_base.specs.InOrder.{in_order}
-use Rattle.cv_base.specs.Path.{Path, path_cmp}
+use Rattle.cv_base.specs.Path.{Path}
 use Rattle.cv_base.specs.Place.{place_of}
 use Rattle.cv_base.specs.declared.limits.TheConstants.{PACKAGE_FILE_LIMIT}
 use Rattle.cv_path.specs.declared.places.Place.{Place}
@@ -21,14 +20,15 @@ use Rattle.cv_overlay.specs.Fault.{fault, list_fault, tree_fault}
 use Rattle.cv_overlay.specs.Lay.{is_plain}
 use Rattle.cv_overlay.specs.Mark.{Outline, is_dir_kind, is_dir_node, listed, mark_of, outline}
 use Rattle.cv_overlay.specs.declared.fault.TreeFault.{TreeFault}
+use Rattle.cv_seal.specs.Tree.{tree_seal}
 use Rattle.cv_packages.specs.Files.{file_of}
 use Rattle.cv_packages.specs.Found.{found_at}
 use Rattle.cv_packages.specs.declared.found.FileFound.{FileFound}
 use Rattle.cv_packages.specs.declared.found.Found.TheVariants as found
-use Rattle.cv_facts.specs.Cover.{covers, opaque_dirs, place_dirs, targets}
 use Rattle.cv_facts.specs.Files.{own_file, own_files}
-use Rattle.cv_facts.specs.Reduction.{shape_by, shape_of}
-use Rattle.cv_facts.specs.code.Listing.{found_shape, listed_file, listed_files, listed_shape, listed_shape_by}
+use Rattle.cv_facts.specs.Reduction.{reduction_with, shape_by, shape_of}
+use Rattle.cv_facts.specs.code.Listing.{found_shape, listed_file, listed_files, listed_seal, listed_shape, listed_shape_by}
+use Rattle.cv_facts.proofs.SealLemmas.{seal_known}
 use Rattle.cv_facts.proofs.PlacedLemmas.{kind_is}
 use Rattle.cv_facts.specs.declared.error.IndexError.{IndexError}
 use Rattle.cv_facts.specs.declared.reduction.Shape.{Shape}
@@ -100,29 +100,24 @@ one_listed (Some t) es i x old new file lt at n h k =
 
 -- The shape.
 
-abbrev shape_from : Option TreeFault → List Outline → List FileFound → Shape
-shape_from (Some bad) outlines files = BadTree bad
-shape_from None outlines files = Reduced (record {
-  whiteouts = in_order path_cmp (targets outlines);
-  opaques = in_order path_cmp (opaque_dirs outlines);
-  covers = covers outlines;
-  place_dirs = place_dirs outlines;
-  files = files;
-})
+abbrev shape_from : Option TreeFault → List Outline → List FileFound → List ℕ → Shape
+shape_from (Some bad) outlines files seal = BadTree bad
+shape_from None outlines files seal = Reduced (reduction_with outlines files seal)
 
-listed_from : (bad : Option TreeFault) (tree : Option (List Stored)) (entries : List ListEntry) → listed_shape_by bad tree entries ≡ shape_from bad (map listed entries) (listed_files tree entries)
+listed_from : (bad : Option TreeFault) (tree : Option (List Stored)) (entries : List ListEntry)
+    → listed_shape_by bad tree entries ≡ shape_from bad (map listed entries) (listed_files tree entries) (listed_seal tree entries)
 listed_from None tree entries = refl
 listed_from (Some bad) tree entries = refl
 
-stored_from : (bad : Option TreeFault) (tree : List TreeEntry) → shape_from bad (map outline tree) (own_files tree) ≡ shape_by bad tree
-stored_from None tree = refl
-stored_from (Some bad) tree = refl
+stored_from : (bad : Option TreeFault) (es : List Stored) → shape_from bad (map outline (map whole es)) (own_files (map whole es)) (tree_seal es) ≡ shape_by bad es
+stored_from None es = refl
+stored_from (Some bad) es = refl
 
 shape_is : (es : List Stored) → IsDistinctIn (Some (Some es)) → listed_shape (Some es) (map listed_entry es) ≡ shape_of (Some es)
 shape_is es h =
     listed_from (list_fault (map listed_entry es)) (Some es) (map listed_entry es)
-    ∙ (λ i. shape_from (fault (outlines_are es i)) (outlines_are es i) (files_are es h i))
-    ∙ stored_from (tree_fault (map whole es)) (map whole es)
+    ∙ (λ i. shape_from (fault (outlines_are es i)) (outlines_are es i) (files_are es h i) (seal_known es h i))
+    ∙ stored_from (tree_fault (map whole es)) es
 
 pub shape_found : (tree : Option (Option (List Stored))) → IsDistinctIn tree → (found : Option (List ListEntry)) (r : Result Shape IndexError)
     → IfSome tree (λ t. found ≡ option_map (map listed_entry) t) → IfSome tree (λ t. IfOk r (λ s. s ≡ found_shape t found))

@@ -4,4 +4,5 @@ pub mod Files
 pub mod Order
 pub mod Reads
 pub mod Reduction
+pub mod Sealed
 pub mod code

@@ -1,5 +1,5 @@
 //! Reduces a layer to what the packages of an image need of it: what it hides of the layers below it, and what its own
-//! package files have.
+//! package files have; and seals it.
 //!
 //! ```text
 //! let facts = index_layer(alloc, &mut desk, digest)?;
@@ -14,6 +14,7 @@ mod facts;
 mod hides;
 mod index;
 mod order;
+mod reading;
 mod reduction;
 
 pub use cv_packages::{FileFound, Found};

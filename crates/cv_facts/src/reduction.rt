@@ -1,4 +1,4 @@
-use cv_base::{RelPath, Seq};
+use cv_base::{Digest, RelPath, Seq};
 use cv_overlay::TreeFault;
 use cv_packages::FileFound;
 
@@ -15,6 +15,8 @@ pub struct Reduction {
     pub place_dirs: Seq<RelPath>,
     /// The plain files at the places of package files, with what they have.
     pub files: Seq<FileFound>,
+    /// The seal of the tree.
+    pub seal: Digest,
 }
 
 /// What is known of a layer: that there is none, that its tree is bad, or its reduction.

@@ -1,18 +1,18 @@
 -- A layer as it is indexed from its listing and its reads. It is shown in `proofs/` that this is the shape of the layer as it
 -- is stored.
-use Rattle.std.specs.Prelude.{ℕ, Bool, false, ◌&&◌, if◌then◌else◌, List, map, Option, Some, None}
-use Rattle.std.specs.List.{count_by, filter_map}
-use Rattle.cv_base.specs.InOrder.{in_order}
-use Rattle.cv_base.specs.Path.{Path, path_cmp}
+use Rattle.std.specs.Prelude.{◌≡◌, ℕ, false, if◌then◌else◌, List, [], ◌∷◌, ◌++◌, map, Option, Some, None, IfSome}
+use Rattle.std.specs.List.{AllZip, filter_map}
+use Rattle.cv_base.specs.Path.{Path}
 use Rattle.cv_base.specs.Place.{place_of}
+use Rattle.cv_base.specs.declared.limits.TheConstants.{PACKAGE_FILE_LIMIT}
+use Rattle.cv_path.specs.declared.places.Place.{Place}
 use Rattle.cv_base.specs.declared.tree.Content.{Content}
 use Rattle.cv_base.specs.declared.tree.Content.TheVariants as content
 use Rattle.cv_base.specs.declared.tree.Kind.{Kind}
 use Rattle.cv_base.specs.declared.tree.Kind.TheVariants as kind
 use Rattle.cv_base.specs.declared.tree.ListEntry.{ListEntry}
 use Rattle.cv_desk.specs.Loaded.{loaded_file}
-use Rattle.cv_desk.specs.Stored.{Stored, item_in}
-use Rattle.cv_desk.specs.code.Listed.{is_file_kind}
+use Rattle.cv_desk.specs.Stored.{Stored, file_read, item_in}
 use Rattle.cv_desk.specs.declared.desk.FileRead.{FileRead}
 use Rattle.cv_desk.specs.declared.desk.FileRead.TheVariants as read
 use Rattle.cv_overlay.specs.Fault.{list_fault}
@@ -21,7 +21,11 @@ use Rattle.cv_overlay.specs.Mark.{listed, mark_of}
 use Rattle.cv_overlay.specs.declared.fault.TreeFault.{TreeFault}
 use Rattle.cv_packages.specs.Files.{file_of}
 use Rattle.cv_packages.specs.declared.found.FileFound.{FileFound}
-use Rattle.cv_facts.specs.Cover.{covers, is_place, opaque_dirs, place_dirs, targets}
+use Rattle.cv_seal.specs.Seal.{SealedEntry, seal_of}
+use Rattle.cv_seal.specs.Taken.{HasTaken}
+use Rattle.cv_seal.specs.declared.seal.Seal.{Seal}
+use Rattle.cv_facts.specs.Reduction.{reduction_with}
+use Rattle.cv_facts.specs.Sealed.{IsSealed, sealed_with}
 use Rattle.cv_facts.specs.declared.reduction.Reduction.{Reduction}
 use Rattle.cv_facts.specs.declared.reduction.Shape.{Shape}
 use Rattle.cv_facts.specs.declared.reduction.Shape.TheVariants as shape
@@ -43,15 +47,17 @@ listed_file tree entry = listed_kind tree entry.path entry.kind
 abbrev pub listed_files : Option (List Stored) → List ListEntry → List FileFound
 listed_files tree entries = filter_map (listed_file tree) entries
 
+-- an entry of a listing, with what the layer has of its file, as it is sealed
+abbrev pub listed_sealed : Option (List Stored) → ListEntry → SealedEntry
+listed_sealed tree entry = sealed_with (file_read (item_in tree entry.path) PACKAGE_FILE_LIMIT) entry
+
+-- the seal of a listing
+unfoldable pub listed_seal : Option (List Stored) → List ListEntry → List ℕ
+listed_seal tree entries = seal_of (map (listed_sealed tree) entries)
+
 -- the reduction of a listing
 abbrev pub listed_reduction : Option (List Stored) → List ListEntry → Reduction
-listed_reduction tree entries = record {
-  whiteouts = in_order path_cmp (targets (map listed entries));
-  opaques = in_order path_cmp (opaque_dirs (map listed entries));
-  covers = covers (map listed entries);
-  place_dirs = place_dirs (map listed entries);
-  files = listed_files tree entries;
-}
+listed_reduction tree entries = reduction_with (map listed entries) (listed_files tree entries) (listed_seal tree entries)
 
 abbrev pub listed_shape_by : Option TreeFault → Option (List Stored) → List ListEntry → Shape
 listed_shape_by (Some fault) tree entries = shape.BadTree fault
@@ -72,20 +78,28 @@ content_of (read.Bytes bytes) = Some (content.Bytes bytes)
 content_of read.TooLarge = Some content.TooLarge
 content_of read.NotFile = None
 
--- a file that is listed at a path is read: it is plain, and at a place of package files
-abbrev pub is_read_at : Path → Bool
-is_read_at path = is_place path && is_plain (mark_of path false)
+-- the place of a plain file that is listed at a path
+abbrev pub place_at : Path → Option Place
+place_at path = if is_plain (mark_of path false) then place_of path else None
 
--- the entry is listed as such a file
-abbrev pub is_read : ListEntry → Bool
-is_read entry = is_file_kind entry.kind && is_read_at entry.path
+-- the place of an entry that is listed as a plain file
+abbrev pub place_by : Path → Kind → Option Place
+place_by path kind.Dir = None
+place_by path kind.File = place_at path
+place_by path kind.Other = None
 
--- how many files of a listing with this fault are read
-abbrev pub reads_by : Option TreeFault → List ListEntry → ℕ
-reads_by (Some fault) entries = 0
-reads_by None entries = count_by is_read entries
+abbrev pub own_place : ListEntry → Option Place
+own_place entry = place_by entry.path entry.kind
 
--- how many files of a layer that was listed so are read
-abbrev pub found_reads : Option (List ListEntry) → ℕ
-found_reads None = 0
-found_reads (Some entries) = reads_by (list_fault entries) entries
+-- one more entry was sealed with what a read of its file gives, which is what the layer has there, if that is known
+pub record HasSealed (tree : Option (Option (List Stored))) (entry : ListEntry) (old new : Seal) : Type 0 where
+  pub found : FileRead
+  pub known : IfSome tree (λ t. found ≡ file_read (item_in t entry.path) PACKAGE_FILE_LIMIT)
+  pub sealed : (taken : List SealedEntry) → HasTaken old taken → HasTaken new (taken ++ sealed_with found entry ∷ [])
+
+-- a seal has taken in these entries of a listing
+pub record HasSealedAll (tree : Option (Option (List Stored))) (entries : List ListEntry) (seal : Seal) : Type 0 where
+  pub sealed : List SealedEntry
+  pub taken : HasTaken seal sealed
+  pub entries_sealed : AllZip IsSealed entries sealed
+  pub known : IfSome tree (λ t. sealed ≡ map (listed_sealed t) entries)

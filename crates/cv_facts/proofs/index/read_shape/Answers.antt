@@ -9,9 +9,9 @@ returns-clause-shape g c =
 pub returns-clause-reads : goal.returns-clause-reads
 returns-clause-reads g c =
     reads_known (g.D.Desk.tree c.args.layer.now) c.in_ok-listed.listed c.found_shape.result (g.D.Desk.reads c.args.desk.now) (g.D.Desk.reads c.found_shape.new.desk) c.in_ok-listed.ensures.entries
-    (returns-clause-shape g c) (rw (← c.in_ok-listed.ensures.unread) c.found_shape.ensures.reads)
+    (rw (← c.in_ok-listed.ensures.unread) c.found_shape.ensures.reads)
 
-pub returns-clause-at_most : goal.returns-clause-at_most
-returns-clause-at_most g c =
+pub returns-clause-listing : goal.returns-clause-listing
+returns-clause-listing g c =
     reads_any c.in_ok-listed.listed c.found_shape.result (g.D.Desk.reads c.args.desk.now) (g.D.Desk.reads c.found_shape.new.desk)
-    (rw (← c.in_ok-listed.ensures.unread) c.found_shape.ensures.reads) c.found_shape.ensures.at_most
+    (rw (← c.in_ok-listed.ensures.unread) c.found_shape.ensures.reads) c.found_shape.ensures.listing

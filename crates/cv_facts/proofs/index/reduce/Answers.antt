@@ -1,12 +1,8 @@
-use Rattle.std.specs.List.{count_by}
 use Rattle.std.specs.List.Sorted.{IsSorted}
-use Rattle.std.proofs.Common.{List, ◌≤◌, subst, sym, ◌∙◌}
-use Rattle.cv_base.specs.Path.{Path, path_cmp}
-use Rattle.cv_facts.specs.Cover.{is_place}
+use Rattle.std.proofs.Common.{subst, sym, ◌∙◌}
+use Rattle.cv_base.specs.Path.{path_cmp}
 use Rattle.cv_facts.specs.Order.{AreAscending}
-use Rattle.cv_facts.specs.code.Listing.{is_read}
 use Rattle.cv_facts.proofs.OrderLemmas.{covers_sorted, order_sorted, place_dirs_sorted}
-use Rattle.cv_facts.proofs.ReadLemmas.{reads_covered}
 use Rattle.cv_facts.proofs.index.reduce.Goals as goal
 
 pub returns-clause-ordered : goal.returns-clause-ordered
@@ -18,10 +14,5 @@ returns-clause-ordered g c =
       opaques = subst (IsSorted path_cmp) (sym (c.of-2.ensures ∙ c.in_ok-in_path_order-2.ensures)) (order_sorted hides.opaques.items);
       covers = subst (IsSorted path_cmp) (sym (c.of-3.ensures ∙ c.in_ok-hides.ensures.covers)) (covers_sorted entries c.requires.good);
       place_dirs = subst (IsSorted path_cmp) (sym (c.of-4.ensures ∙ c.in_ok-hides.ensures.place_dirs)) (place_dirs_sorted entries c.requires.good);
-      files = subst AreAscending (sym c.of-5.ensures) c.in_ok-files.ensures.ordered;
+      files = subst AreAscending (sym c.of-5.ensures) c.in_ok-contents.ensures.ordered;
     }
-
-pub returns-clause-at_most : goal.returns-clause-at_most
-returns-clause-at_most g c =
-    let entries = c.args.entries.now in
-    subst (λ (ps : List Path). count_by is_read entries ≤ count_by is_place ps) (sym (c.of-3.ensures ∙ c.in_ok-hides.ensures.covers)) (reads_covered entries)
