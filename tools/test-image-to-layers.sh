@@ -2,10 +2,14 @@
 # Shows that image-to-layers unpacks images as they are: of umoci, in the form of `docker save`, as an OCI archive, and from a registry
 # on this machine where docker-registry is installed; with layers in gzip, zstd and plain; with hard links, links to directories,
 # whiteouts, opaque marks, names with spaces and newlines, and a layer that stands twice. compare-with-umoci says for each image that
-# the package files are those of `umoci unpack`. Runs as root, as umoci does, and needs cvwatch, umoci, skopeo, jq, zstd and curl.
+# the package files are those of `umoci unpack`, and cvwatch that the layers have the seals that --seals states. Runs as root, as umoci does,
+# and needs cvwatch, umoci, skopeo, jq, zstd and curl.
 set -euo pipefail
 # shellcheck source=tools/test-common.sh
 . "$(dirname "$0")/test-common.sh"
+# shellcheck source=tools/find-cvwatch
+. "$tools/find-cvwatch"
+program=$(find_cvwatch "") || { echo "test-image-to-layers.sh: there is no cvwatch: build it, or set CVWATCH" >&2; exit 1; }
 cd "$work"
 layers_of() { jq -r '.layers[].hash' "$1" | cut -d: -f2; }
 
@@ -122,8 +126,15 @@ same 'the owner' "$(find first -printf '%U:%G\n' | sort -u)" "$(id -u):$(id -g)"
 same 'the line without its seals' "$(jq -c 'del(.layers[].seal)' sealed)" "$(cat line)"
 same 'the seal of each layer' "$(jq -r '.layers[].seal' sealed)" "$(layers_of line | while read -r layer; do "$tools/layer-seal" "first/layers/sha256/$layer"; done)"
 
-# what is there stays as it is, and nothing is said of it, whether the line of the image is kept or not
+# cvwatch finds these seals too, and sees that a layer has changed since
+scanned() { (cd first && "$program" scan) <"$1" || true; }
+has 'a scan without seals' "$(scanned line)" '"reply":"good"'
+same 'a scan with seals' "$(scanned sealed)" "$(scanned line)"
+before=$("$tools/layer-seal" "$one")
 touch "$one/kept"
+same 'a scan with the seal of before' "$(scanned sealed | jq -c .bad)" "{\"cause\":\"bad_seal\",\"found\":\"$("$tools/layer-seal" "$one")\",\"layer\":0,\"stated\":\"$before\"}"
+
+# what is there stays as it is, and nothing is said of it, whether the line of the image is kept or not
 "$tools/image-to-layers" by-umoci:test first 2>said | cmp - line
 same 'an image that is there' "$(ls "$one/kept") $(cat said)" "$one/kept "
 rm -r first/layers/images
