@@ -1,5 +1,6 @@
 mod apk_packages;
 mod apk_versions;
+mod damaged;
 mod debian_versions;
 mod dpkg;
 mod ecosystems;
