@@ -7,7 +7,7 @@ use Rattle.cv_base.specs.declared.finding.Finding.{Finding}
 use Rattle.cv_scan_output.specs.Finding.{findings_data, fixed_data}
 use Rattle.cv_scan_output.specs.Scan.{good_data}
 use Rattle.cv_overlay.specs.declared.fault.ImageFault.{ImageFault}
-use Rattle.cv_overlay.specs.declared.fault.ImageFault.TheVariants.{NoLayer, BadTree, BadFile, TooLarge}
+use Rattle.cv_overlay.specs.declared.fault.ImageFault.TheVariants.{NoLayer, BadTree, BadSeal, BadFile, TooLarge}
 use Rattle.cv_overlay.specs.declared.fault.TreeFault.{TreeFault}
 use Rattle.cv_overlay.specs.declared.fault.TreeFault.TheVariants.{Unsorted, NoParent, BadMark, TooMany}
 use Rattle.cv_scan_output.specs.Bad.{bad_data, bad_image_data, bad_tree_data}
@@ -32,6 +32,7 @@ tree_has_none layer TooMany = refl
 bad_has_none : (bad : ImageFault) → has_float (bad_data bad) ≡ false
 bad_has_none (NoLayer layer) = refl
 bad_has_none (BadTree layer fault) = tree_has_none layer fault
+bad_has_none (BadSeal layer stated found) = refl
 bad_has_none (BadFile path line what) = refl
 bad_has_none (TooLarge path) = refl
 

@@ -9,7 +9,7 @@ use Rattle.cv_scan_output.specs.Refusal.{bad_request_data, refusal_data}
 use Rattle.cv_scan_output.proofs.Requests.{each_request}
 
 request_has_none : (line : ℕ) (what : RequestWhat) → has_float (bad_request_data line what) ≡ false
-request_has_none line what = each_request (λ (d : Data). has_float d ≡ false) line (λ index. refl) (λ name. refl) what
+request_has_none line what = each_request (λ (d : Data). has_float d ≡ false) line (λ index name. refl) (λ name. refl) what
 
 pub refusal_has_none : (line : ℕ) (error : RequestError) → has_float (refusal_data line error) ≡ false
 refusal_has_none line BadJson = refl

@@ -1,4 +1,4 @@
--- A bad request is written by the name of what is bad, or with the number of the layer that is.
+-- A bad request is written by the name of what is bad, at a layer with its index.
 use Rattle.std.specs.Prelude.{ℕ, List, codes}
 use Rattle.serde_json.specs.Data.{Data}
 use Rattle.cv_request.specs.declared.error.RequestWhat.{RequestWhat}
@@ -6,9 +6,10 @@ use Rattle.cv_request.specs.declared.error.RequestWhat.TheVariants as request_wh
 use Rattle.cv_scan_output.specs.Refusal.{bad_layer_data, bad_request_data, named_data}
 
 -- what holds of both ways to write one holds of each
-pub each_request : (P : Data → Type 0) (line : ℕ) → ((index : ℕ) → P (bad_layer_data line index)) → ((name : List ℕ) → P (named_data line name))
+pub each_request : (P : Data → Type 0) (line : ℕ) → ((index : ℕ) (name : List ℕ) → P (bad_layer_data line index name)) → ((name : List ℕ) → P (named_data line name))
     → (what : RequestWhat) → P (bad_request_data line what)
-each_request P line layer named (request_what.BadLayer index) = layer index
+each_request P line layer named (request_what.BadLayer index) = layer index (codes "bad_layer")
+each_request P line layer named (request_what.BadSeal index) = layer index (codes "bad_seal")
 each_request P line layer named request_what.NotObject = named (codes "not_object")
 each_request P line layer named request_what.BadLane = named (codes "bad_lane")
 each_request P line layer named request_what.BadDo = named (codes "bad_do")

@@ -8,7 +8,7 @@ use Rattle.cv_base.specs.Path.{Path}
 use Rattle.cv_base.specs.declared.fault.What.{What}
 use Rattle.cv_base.specs.declared.fault.What.TheVariants.{NoColon, BadField, RepeatedField, LooseContinuation, NoPackage, NoVersion, BadStatus, BadValue, NoName, Repeated}
 use Rattle.cv_overlay.specs.declared.fault.ImageFault.{ImageFault}
-use Rattle.cv_overlay.specs.declared.fault.ImageFault.TheVariants.{NoLayer, BadTree, BadFile, TooLarge}
+use Rattle.cv_overlay.specs.declared.fault.ImageFault.TheVariants.{NoLayer, BadTree, BadSeal, BadFile, TooLarge}
 use Rattle.cv_overlay.specs.declared.fault.TreeFault.{TreeFault}
 use Rattle.cv_overlay.specs.declared.fault.TreeFault.TheVariants.{Unsorted, NoParent, BadMark, TooMany}
 use Rattle.cv_scan_output.specs.Line.{line_text}
@@ -39,6 +39,14 @@ bad_tree_data layer (NoParent entry) = entry_data layer entry (codes "no_parent"
 bad_tree_data layer (BadMark entry) = entry_data layer entry (codes "bad_mark")
 bad_tree_data layer TooMany = too_many_data layer
 
+-- a layer whose tree has another seal than the stated one
+abbrev pub bad_seal_data : ℕ → List ℕ → List ℕ → Data
+bad_seal_data layer stated found =
+    object (member (codes "cause") (string (codes "bad_seal"))
+    (member (codes "found") (string (digest_text found))
+    (member (codes "layer") (number (unsigned layer))
+    (member (codes "stated") (string (digest_text stated)) no_members))))
+
 -- the printed name of what is wrong with a line of a package database
 abbrev pub what_name : What → List ℕ
 what_name NoColon = codes "no_colon"
@@ -68,6 +76,7 @@ too_large_data path = object (member (codes "cause") (string (codes "too_large")
 abbrev pub bad_data : ImageFault → Data
 bad_data (NoLayer layer) = no_layer_data layer
 bad_data (BadTree layer fault) = bad_tree_data layer fault
+bad_data (BadSeal layer stated found) = bad_seal_data layer stated found
 bad_data (BadFile path line what) = bad_file_data path line what
 bad_data (TooLarge path) = too_large_data path
 

@@ -7,7 +7,7 @@ use Rattle.cv_osv.specs.declared.record_error.RecordWhat.TheVariants as record_w
 use Rattle.cv_request.specs.declared.error.RequestError.{RequestError}
 use Rattle.cv_request.specs.declared.error.RequestError.TheVariants.{BadJson, BadRequest, BadAdvisory, DuplicateId, TooManyAdvisories, NoMemory}
 use Rattle.cv_request.specs.declared.error.RequestWhat.{RequestWhat}
-use Rattle.cv_request.specs.declared.error.RequestWhat.TheVariants.{NotObject, BadLane, BadDo, BadImage, BadManifest, BadHash, BadLayers, NoLayers, TooManyLayers, BadLayer, BadFeed, BadAdvisories, BadNumber, BadSize, BadPage}
+use Rattle.cv_request.specs.declared.error.RequestWhat.TheVariants.{NotObject, BadLane, BadDo, BadImage, BadManifest, BadHash, BadLayers, NoLayers, TooManyLayers, BadLayer, BadSeal, BadFeed, BadAdvisories, BadNumber, BadSize, BadPage}
 use Rattle.cv_scan_output.specs.Line.{line_text}
 
 -- the JSON value of a refused line
@@ -26,9 +26,9 @@ item_data line word index what =
     (member (codes "refused") (string word)
     (member (codes "what") (string what) no_members))))
 
--- a manifest with a bad layer
-abbrev pub bad_layer_data : ℕ → ℕ → Data
-bad_layer_data line index = item_data line (codes "bad_request") index (codes "bad_layer")
+-- a manifest that is bad at a layer
+abbrev pub bad_layer_data : ℕ → ℕ → List ℕ → Data
+bad_layer_data line index what = item_data line (codes "bad_request") index what
 
 -- a request that is bad in another way
 abbrev pub named_data : ℕ → List ℕ → Data
@@ -48,7 +48,8 @@ bad_request_data line BadHash = named_data line (codes "bad_hash")
 bad_request_data line BadLayers = named_data line (codes "bad_layers")
 bad_request_data line NoLayers = named_data line (codes "no_layers")
 bad_request_data line TooManyLayers = named_data line (codes "too_many_layers")
-bad_request_data line (BadLayer index) = bad_layer_data line index
+bad_request_data line (BadLayer index) = bad_layer_data line index (codes "bad_layer")
+bad_request_data line (BadSeal index) = bad_layer_data line index (codes "bad_seal")
 bad_request_data line BadFeed = named_data line (codes "bad_feed")
 bad_request_data line BadAdvisories = named_data line (codes "bad_advisories")
 bad_request_data line BadNumber = named_data line (codes "bad_number")

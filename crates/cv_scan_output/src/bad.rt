@@ -1,6 +1,6 @@
 ghost use Rattle.std.specs.Prelude.{◌≡◌, IfOk, string_bytes};
 ghost use Rattle.serde_json.specs.View.{view};
-ghost use Rattle.cv_scan_output.specs.Bad.{bad_data, bad_file_data, bad_image_data, bad_image_text, bad_tree_data, entry_data, no_layer_data, too_large_data, too_many_data};
+ghost use Rattle.cv_scan_output.specs.Bad.{bad_data, bad_file_data, bad_image_data, bad_image_text, bad_seal_data, bad_tree_data, entry_data, no_layer_data, too_large_data, too_many_data};
 
 use crate::line::line_of;
 use crate::names::what_name;
@@ -27,12 +27,18 @@ fn bad_image_value(alloc: Global, image: &Digest, bad: &ImageFault) -> Result<Va
 }
 
 /// The JSON of why an image has no packages: a cause, the layer or the path, and what is wrong there.
+/// A bad seal has the seal that is stated and the one that was found.
 pub fn bad_value(alloc: Global, bad: &ImageFault) -> Result<Value, NoMemory>
     ensures { IfOk result (λ value. view value ≡ bad_data bad.now) }
 {
     match bad {
         ImageFault::NoLayer(layer) => no_layer_value(alloc, *layer),
         ImageFault::BadTree(layer, fault) => bad_tree_value(alloc, *layer, *fault),
+        ImageFault::BadSeal {
+            layer,
+            stated,
+            found,
+        } => bad_seal_value(alloc, *layer, stated, found),
         ImageFault::BadFile { path, line, what } => bad_file_value(alloc, path, *line, *what),
         ImageFault::TooLarge { path } => too_large_value(alloc, path),
     }
@@ -65,6 +71,21 @@ fn too_many_value(alloc: Global, layer: u32) -> Result<Value, NoMemory>
     ensures { IfOk result (λ value. view value ≡ too_many_data layer) }
 {
     Ok(json!(in alloc; {"cause": "bad_tree", "layer": layer, "what": "too_many"})?)
+}
+
+fn bad_seal_value(
+    alloc: Global,
+    layer: u32,
+    stated: &Digest,
+    found: &Digest,
+) -> Result<Value, NoMemory>
+    ensures { IfOk result (λ value. view value ≡ bad_seal_data layer stated.now found.now) }
+{
+    let found = found.text(alloc)?;
+    let stated = stated.text(alloc)?;
+    Ok(
+        json!(in alloc; {"cause": "bad_seal", "found": found.as_str(), "layer": layer, "stated": stated.as_str()})?,
+    )
 }
 
 fn bad_file_value(alloc: Global, path: &RelPath, line: u64, what: What) -> Result<Value, NoMemory>

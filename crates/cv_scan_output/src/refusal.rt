@@ -68,6 +68,7 @@ fn bad_request_value(alloc: Global, line: u64, what: RequestWhat) -> Result<Valu
         RequestWhat::NoLayers => named_value(alloc, line, "no_layers"),
         RequestWhat::TooManyLayers => named_value(alloc, line, "too_many_layers"),
         RequestWhat::BadLayer(index) => item_value(alloc, line, "bad_request", index, "bad_layer"),
+        RequestWhat::BadSeal(index) => item_value(alloc, line, "bad_request", index, "bad_seal"),
         RequestWhat::BadFeed => named_value(alloc, line, "bad_feed"),
         RequestWhat::BadAdvisories => named_value(alloc, line, "bad_advisories"),
         RequestWhat::BadNumber => named_value(alloc, line, "bad_number"),
