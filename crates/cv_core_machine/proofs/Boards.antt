@@ -11,7 +11,8 @@ use Rattle.cv_core_machine.specs.Answer.{Heads, Page, Read, Report, answer_to, p
 use Rattle.cv_core_machine.specs.Board.{board_answer, board_of}
 use Rattle.cv_core_machine.specs.Layers.{first_pending}
 use Rattle.cv_core_machine.specs.Scans.{Trees, image_scan}
-use Rattle.cv_core_machine.specs.State.{Image, State, value_at}
+use Rattle.cv_core_machine.specs.State.{State, value_at}
+use Rattle.cv_core_machine.specs.declared.image.Image.{Image}
 
 -- what is found where each value became another one
 found_mapped : {V W : Type 0} (f : V → W) (entries : List (List ℕ × V)) (key : List ℕ)

@@ -20,10 +20,11 @@ use Rattle.cv_core_machine.specs.Laws.{HaveRows, IsConsistent, acknowledges, cha
 use Rattle.cv_core_machine.specs.Layers.{is_claimed_by, is_named}
 use Rattle.cv_core_machine.specs.Rows.{rows_of}
 use Rattle.cv_core_machine.specs.Scans.{Trees}
-use Rattle.cv_core_machine.specs.State.{Image, Notifications, State, notification_at, opening, value_at, with_value, without_value}
+use Rattle.cv_core_machine.specs.State.{Notifications, State, notification_at, opening, value_at, with_value, without_value}
 use Rattle.cv_core_machine.specs.Step.{ack_at, claim_at, drop_at, entered, finish, image_of, is_full, notified, register_at, step, updated}
 use Rattle.cv_core_machine.specs.declared.event.MachineEvent.{MachineEvent}
 use Rattle.cv_core_machine.specs.declared.event.MachineEvent.TheVariants as act
+use Rattle.cv_core_machine.specs.declared.image.Image.{Image}
 use Rattle.cv_core_machine.specs.declared.limits.Limits.{Limits}
 use Rattle.cv_core_machine.specs.declared.status.Status.{Status}
 use Rattle.cv_core_machine.specs.declared.status.Status.TheVariants as status

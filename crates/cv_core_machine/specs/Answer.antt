@@ -9,7 +9,8 @@ use Rattle.cv_core_records.specs.declared.read.ReportOutcome.TheVariants as repo
 use Rattle.cv_scan.specs.Scan.{Scanned}
 use Rattle.cv_core_machine.specs.Layers.{first_pending}
 use Rattle.cv_core_machine.specs.Scans.{Trees, image_scan}
-use Rattle.cv_core_machine.specs.State.{Image, State, value_at}
+use Rattle.cv_core_machine.specs.State.{State, value_at}
+use Rattle.cv_core_machine.specs.declared.image.Image.{Image}
 
 -- a report by the scan of an image whose layers are all Indexed
 abbrev pub scan_report : ℕ → Scanned → ReportOutcome

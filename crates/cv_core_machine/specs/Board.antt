@@ -7,7 +7,8 @@ use Rattle.cv_core_records.specs.declared.read.ReportOutcome.{ReportOutcome}
 use Rattle.cv_core_records.specs.declared.read.ReportOutcome.TheVariants as report
 use Rattle.cv_core_machine.specs.Answer.{Heads, Page, Read, Report, report_at}
 use Rattle.cv_core_machine.specs.Scans.{Trees}
-use Rattle.cv_core_machine.specs.State.{Image, State, value_at}
+use Rattle.cv_core_machine.specs.State.{State, value_at}
+use Rattle.cv_core_machine.specs.declared.image.Image.{Image}
 
 -- the report of each registered image, in ascending order of their hashes, and the notifications
 pub record BoardView : Type 0 where

@@ -4,7 +4,8 @@ use Rattle.std.specs.Prelude.{ℕ, Bool, true, false, ◌==◌, not, List, map, 
 use Rattle.std.specs.List.{find, list_any}
 use Rattle.std.specs.Option.{is_none}
 use Rattle.cv_base.specs.Texts.{has_text}
-use Rattle.cv_core_machine.specs.State.{Image, Images, Layers, value_at}
+use Rattle.cv_core_machine.specs.State.{Images, Layers, value_at}
+use Rattle.cv_core_machine.specs.declared.image.Image.{Image}
 use Rattle.cv_core_machine.specs.declared.status.Status.{Status}
 use Rattle.cv_core_machine.specs.declared.status.Status.TheVariants.{Claimed, Indexed, Queued}
 

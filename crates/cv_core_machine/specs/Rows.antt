@@ -6,7 +6,8 @@ use Rattle.cv_findings.specs.Rows.{rows_of as image_rows}
 use Rattle.cv_scan.specs.Scan.{Scanned}
 use Rattle.cv_core_machine.specs.Layers.{is_indexed}
 use Rattle.cv_core_machine.specs.Scans.{Trees, image_scan}
-use Rattle.cv_core_machine.specs.State.{Feeds, Image, State}
+use Rattle.cv_core_machine.specs.State.{Feeds, State}
+use Rattle.cv_core_machine.specs.declared.image.Image.{Image}
 
 -- the rows of one image, by its scans before and after. An image that cannot be scanned has none
 abbrev pub scan_rows : List ℕ → Scanned → Scanned → List Row

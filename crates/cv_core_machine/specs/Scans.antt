@@ -4,7 +4,8 @@ use Rattle.std.specs.Prelude.{ℕ, List, map, Option, None, IsSome}
 use Rattle.std.specs.Option.{unwrap_or}
 use Rattle.cv_desk.specs.Stored.{Stored}
 use Rattle.cv_scan.specs.Scan.{Scanned, scan}
-use Rattle.cv_core_machine.specs.State.{Feeds, Image}
+use Rattle.cv_core_machine.specs.State.{Feeds}
+use Rattle.cv_core_machine.specs.declared.image.Image.{Image}
 
 -- the layer of each digest, and none where there is no such layer
 abbrev pub Trees : Type 0

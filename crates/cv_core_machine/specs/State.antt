@@ -9,7 +9,7 @@ use Rattle.cv_base.specs.declared.advisory.Advisory.{Advisory}
 use Rattle.cv_base.specs.declared.finding.Row.{Row}
 use Rattle.cv_match.specs.Findings.{text_cmp}
 pub use Rattle.cv_core_records.specs.Pages.{Notifications, notification_at}
-pub use Rattle.cv_core_machine.specs.declared.image.Image.{Image}
+use Rattle.cv_core_machine.specs.declared.image.Image.{Image}
 use Rattle.cv_core_machine.specs.declared.limits.Limits.{Limits}
 use Rattle.cv_core_machine.specs.declared.status.Status.{Status}
 
