@@ -14,7 +14,8 @@ use Rattle.cv_core_records.specs.declared.reply.Reply.TheVariants as reply
 use Rattle.cv_core_machine.specs.Laws.{IsConsistent}
 use Rattle.cv_core_machine.specs.Layers.{is_claimed_as, is_named}
 use Rattle.cv_core_machine.specs.State.{Images, Layers, State, value_at, with_value, without_value}
-use Rattle.cv_core_machine.specs.Step.{drop_at, entered, remaining}
+use Rattle.cv_core_machine.specs.Step.{drop_at, entered, image_of, remaining}
+use Rattle.cv_core_machine.specs.declared.image.Image.{Image}
 use Rattle.cv_core_machine.specs.declared.status.Status.{Status}
 use Rattle.cv_core_machine.specs.declared.status.Status.TheVariants as status
 use Rattle.cv_core_machine.proofs.Consistent.{claim_consistent, cut_right, drop_consistent, either, layers_changed, opening_consistent, put_right, register_consistent}
@@ -52,96 +53,103 @@ users_some images layers users limit layer set k found sorted =
 
 -- Register
 
-names_put : (images : Images) (image : List ℕ) (layers : List (List ℕ)) (users after : Users) → value_at images image ≡ None
-    → ((l q : List ℕ) → uses users l q ≡ names (value_at images q) l) → ArePut layers image users after
-    → (l q : List ℕ) → uses after l q ≡ names (value_at (with_value images image layers) q) l
-names_put images image layers users after new named put l q = put l q ∙ by_test (same image q) refl where
-  by_test : (b : Bool) → same image q ≡ b → (has_text layers l && same image q || uses users l q) ≡ names (value_at (with_value images image layers) q) l
+names_put : (images : Images) (image : List ℕ) (kept : Image) (users after : Users) → value_at images image ≡ None
+    → ((l q : List ℕ) → uses users l q ≡ names (value_at images q) l) → ArePut kept.layers image users after
+    → (l q : List ℕ) → uses after l q ≡ names (value_at (with_value images image kept) q) l
+names_put images image kept users after new named put l q = put l q ∙ by_test (same image q) refl where
+  by_test : (b : Bool) → same image q ≡ b → (has_text kept.layers l && same image q || uses users l q) ≡ names (value_at (with_value images image kept) q) l
   by_test true key =
       let unused : uses users l q ≡ false = named l q ∙ ap (λ k. names (value_at images k) l) (sym (same_is image q key)) ∙ ap (λ found. names found l) new in
-      ap (λ b. has_text layers l && b || uses users l q) key ∙ ap (λ u. has_text layers l && true || u) unused ∙ only (has_text layers l)
-      ∙ sym (ap (λ found. names found l) (value_put images image layers q ∙ ap (λ b. cond b (Some layers) (value_at images q)) key)) where
+      ap (λ b. has_text kept.layers l && b || uses users l q) key ∙ ap (λ u. has_text kept.layers l && true || u) unused ∙ only (has_text kept.layers l)
+      ∙ sym (ap (λ found. names found l) (value_put images image kept q ∙ ap (λ b. cond b (Some kept) (value_at images q)) key)) where
         only : (b : Bool) → (b && true || false) ≡ b
         only true = refl
         only false = refl
   by_test false key =
-      ap (λ b. has_text layers l && b || uses users l q) key ∙ ap (λ b. b || uses users l q) (none (has_text layers l)) ∙ named l q
-      ∙ sym (ap (λ found. names found l) (value_put images image layers q ∙ ap (λ b. cond b (Some layers) (value_at images q)) key)) where
+      ap (λ b. has_text kept.layers l && b || uses users l q) key ∙ ap (λ b. b || uses users l q) (none (has_text kept.layers l)) ∙ named l q
+      ∙ sym (ap (λ found. names found l) (value_put images image kept q ∙ ap (λ b. cond b (Some kept) (value_at images q)) key)) where
         none : (b : Bool) → (b && false) ≡ false
         none true = refl
         none false = refl
 
 pub kept_registered : (images next : Images) (table after : Layers) (users more : Users) (limit : ℕ) (m : Manifest) → IsKept images table users limit
-    → value_at images m.hash ≡ None → nat_lt (length images) limit ≡ true → next ≡ with_value images m.hash m.layers → after ≡ entered table m.layers
+    → value_at images m.hash ≡ None → nat_lt (length images) limit ≡ true → next ≡ with_value images m.hash (image_of m) → after ≡ entered table m.layers
     → ArePut m.layers m.hash users more → IsKept next after more limit
 kept_registered images next table after users more limit m k new room a b put = rw (a, b) record {
   regular = subst
-      (λ (b : Bool). IsConsistent (either b (record now { images = with_value images m.hash m.layers; layers = entered table m.layers }, reply.Registered) (now, reply.TooManyImages)).0)
+      (λ (b : Bool). IsConsistent (either b (record now { images = with_value images m.hash (image_of m); layers = entered table m.layers }, reply.Registered) (now, reply.TooManyImages)).0)
       room (register_consistent None now m new k.regular);
-  named = names_put images m.hash m.layers users more new k.named put;
+  named = names_put images m.hash (image_of m) users more new k.named put;
 } where
   now : State
   now = alone (record { images = images; layers = table; limit = limit })
 
-pub kept_added : (images next : Images) (table after : Layers) (users more : Users) (limit : ℕ) (m : Manifest) (names kept : List (List ℕ)) → IsKept images table users limit
-    → value_at images m.hash ≡ None → nat_lt (length images) limit ≡ true → names ≡ m.layers → kept ≡ names → next ≡ with_value images m.hash kept
-    → after ≡ entered table names → ArePut names m.hash users more → IsKept next after more limit
-kept_added images next table after users more limit m names kept k new room same copy a b put =
-    kept_registered images next table after users more limit m k new room (a ∙ ap (with_value images m.hash) (copy ∙ same)) (b ∙ ap (entered table) same)
+pub kept_added : (images next : Images) (table after : Layers) (users more : Users) (limit : ℕ) (m : Manifest) (layers : List (List ℕ)) (kept : Image) → IsKept images table users limit
+    → value_at images m.hash ≡ None → nat_lt (length images) limit ≡ true → layers ≡ m.layers → kept ≡ image_of m → next ≡ with_value images m.hash kept
+    → after ≡ entered table layers → ArePut layers m.hash users more → IsKept next after more limit
+kept_added images next table after users more limit m layers kept k new room same copy a b put =
+    kept_registered images next table after users more limit m k new room (a ∙ ap (with_value images m.hash) copy) (b ∙ ap (entered table) same)
     (subst (λ (ls : List (List ℕ)). ArePut ls m.hash users more) same put)
 
 -- DropImage
 
-names_taken : (images : Images) (image : List ℕ) (layers : List (List ℕ)) (users after : Users) → IsStrictlySortedBy text_cmp (keys_of images)
-    → value_at images image ≡ Some layers → ((l q : List ℕ) → uses users l q ≡ names (value_at images q) l) → AreTaken layers image users after
+names_taken : (images : Images) (image : List ℕ) (kept : Image) (users after : Users) → IsStrictlySortedBy text_cmp (keys_of images)
+    → value_at images image ≡ Some kept → ((l q : List ℕ) → uses users l q ≡ names (value_at images q) l) → AreTaken kept.layers image users after
     → (l q : List ℕ) → uses after l q ≡ names (value_at (without_value images image) q) l
-names_taken images image layers users after h found named taken l q = taken l q ∙ by_test (same image q) refl where
-  by_test : (b : Bool) → same image q ≡ b → cond (has_text layers l && same image q) false (uses users l q) ≡ names (value_at (without_value images image) q) l
+names_taken images image kept users after h found named taken l q = taken l q ∙ by_test (same image q) refl where
+  by_test : (b : Bool) → same image q ≡ b → cond (has_text kept.layers l && same image q) false (uses users l q) ≡ names (value_at (without_value images image) q) l
   by_test true key =
-      let used : uses users l q ≡ has_text layers l =
+      let used : uses users l q ≡ has_text kept.layers l =
       named l q ∙ ap (λ k. names (value_at images k) l) (sym (same_is image q key)) ∙ ap (λ f. names f l) found in
-      ap (λ b. cond (has_text layers l && b) false (uses users l q)) key ∙ ap (cond (has_text layers l && true) false) used ∙ none (has_text layers l)
+      ap (λ b. cond (has_text kept.layers l && b) false (uses users l q)) key ∙ ap (cond (has_text kept.layers l && true) false) used ∙ none (has_text kept.layers l)
       ∙ sym (ap (λ f. names f l) (value_cut images image q h ∙ ap (λ b. cond b None (value_at images q)) key)) where
         none : (b : Bool) → cond (b && true) false b ≡ false
         none true = refl
         none false = refl
   by_test false key =
-      ap (λ b. cond (has_text layers l && b) false (uses users l q)) key ∙ whole (has_text layers l) ∙ named l q
+      ap (λ b. cond (has_text kept.layers l && b) false (uses users l q)) key ∙ whole (has_text kept.layers l) ∙ named l q
       ∙ sym (ap (λ f. names f l) (value_cut images image q h ∙ ap (λ b. cond b None (value_at images q)) key)) where
         whole : (b : Bool) → cond (b && false) false (uses users l q) ≡ uses users l q
         whole true = refl
         whole false = refl
 
-pub dropped_table : (images : Images) (table : Layers) (users fewer : Users) (limit : ℕ) (image : List ℕ) (layers : List (List ℕ)) → IsKept images table users limit
-    → value_at images image ≡ Some layers → AreTaken layers image users fewer → without_unused table layers fewer ≡ remaining table layers (without_value images image)
-dropped_table images table users fewer limit image layers k found taken =
-    left_remaining table layers fewer (without_value images image) k.regular.layers
+-- an image is taken out of the sets of its layers
+taken_out : (users fewer : Users) (image : List ℕ) (kept : Image) (layers : List (List ℕ)) → layers ≡ kept.layers → AreTaken layers image users fewer
+    → AreTaken kept.layers image users fewer
+taken_out users fewer image kept layers same taken = subst (λ (ls : List (List ℕ)). AreTaken ls image users fewer) same taken
+
+pub dropped_table : (images : Images) (table : Layers) (users fewer : Users) (limit : ℕ) (image : List ℕ) (kept : Image) (layers : List (List ℕ)) → IsKept images table users limit
+    → value_at images image ≡ Some kept → layers ≡ kept.layers → AreTaken layers image users fewer
+    → without_unused table layers fewer ≡ remaining table kept.layers (without_value images image)
+dropped_table images table users fewer limit image kept layers k found same taken =
+    ap (λ (ls : List (List ℕ)). without_unused table ls fewer) same
+    ∙ left_remaining table kept.layers fewer (without_value images image) k.regular.layers
     (λ q.
     used_named (without_value images image) fewer q (sorted_cut text_cmp (is_at (text_cmp image)) images k.regular.images)
-    (names_taken images image layers users fewer k.regular.images found k.named taken))
+    (names_taken images image kept users fewer k.regular.images found k.named (taken_out users fewer image kept layers same taken)))
 
-pub kept_dropped : (images next : Images) (table after : Layers) (users fewer : Users) (limit : ℕ) (image : List ℕ) (layers : List (List ℕ)) → IsKept images table users limit
-    → value_at images image ≡ Some layers → next ≡ without_value images image → after ≡ without_unused table layers fewer → AreTaken layers image users fewer
-    → IsKept next after fewer limit
-kept_dropped images next table after users fewer limit image layers k found a b taken =
-    rw (a, b, dropped_table images table users fewer limit image layers k found taken) record {
-      regular = drop_consistent (Some layers) (alone (record { images = images; layers = table; limit = limit })) image found k.regular;
-      named = names_taken images image layers users fewer k.regular.images found k.named taken;
+pub kept_dropped : (images next : Images) (table after : Layers) (users fewer : Users) (limit : ℕ) (image : List ℕ) (kept : Image) (layers : List (List ℕ)) → IsKept images table users limit
+    → value_at images image ≡ Some kept → layers ≡ kept.layers → next ≡ without_value images image → after ≡ without_unused table layers fewer
+    → AreTaken layers image users fewer → IsKept next after fewer limit
+kept_dropped images next table after users fewer limit image kept layers k found same a b taken =
+    rw (a, b, dropped_table images table users fewer limit image kept layers k found same taken) record {
+      regular = drop_consistent (Some kept) (alone (record { images = images; layers = table; limit = limit })) image found k.regular;
+      named = names_taken images image kept users fewer k.regular.images found k.named (taken_out users fewer image kept layers same taken);
     }
 
 -- registrations of these parts
 abbrev pub having : Images → Layers → ℕ → Registrations
 having images layers limit = record { images = images; layers = layers; limit = limit }
 
-pub dropped_leads : (images next : Images) (table after : Layers) (users fewer : Users) (limit : ℕ) (image : List ℕ) (layers : List (List ℕ)) (before made : Registrations)
-    → IsKept images table users limit → having images table limit ≡ before → value_at images image ≡ Some layers → next ≡ without_value images image
+pub dropped_leads : (images next : Images) (table after : Layers) (users fewer : Users) (limit : ℕ) (image : List ℕ) (kept : Image) (layers : List (List ℕ)) (before made : Registrations)
+    → IsKept images table users limit → having images table limit ≡ before → value_at images image ≡ Some kept → layers ≡ kept.layers → next ≡ without_value images image
     → after ≡ without_unused table layers fewer → AreTaken layers image users fewer → made ≡ having next after limit
-    → Leads (λ state. drop_at (Some layers) state image) before (made, reply.Dropped)
-dropped_leads images next table after users fewer limit image layers before made k was found a b taken is =
-    subst (λ (r : Registrations). Leads (λ state. drop_at (Some layers) state image) r (made, reply.Dropped)) was
+    → Leads (λ state. drop_at (Some kept) state image) before (made, reply.Dropped)
+dropped_leads images next table after users fewer limit image kept layers before made k was found same a b taken is =
+    subst (λ (r : Registrations). Leads (λ state. drop_at (Some kept) state image) r (made, reply.Dropped)) was
     (λ state. ap (λ (r : Registrations). (holding state r, reply.Dropped)) (sym (is ∙ parts))) where
-      parts : having next after limit ≡ having (without_value images image) (remaining table layers (without_value images image)) limit
-      parts = rw (a, b, dropped_table images table users fewer limit image layers k found taken) refl
+      parts : having next after limit ≡ having (without_value images image) (remaining table kept.layers (without_value images image)) limit
+      parts = rw (a, b, dropped_table images table users fewer limit image kept layers k found same taken) refl
 
 -- Claim, Indexed, Fault, Memory
 

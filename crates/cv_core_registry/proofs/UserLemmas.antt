@@ -15,6 +15,7 @@ use Rattle.cv_base.proofs.Same.{same_is}
 use Rattle.cv_match.specs.Findings.{text_cmp}
 use Rattle.cv_core_machine.specs.Layers.{is_named}
 use Rattle.cv_core_machine.specs.State.{Images, value_at, with_value, without_value}
+use Rattle.cv_core_machine.specs.declared.image.Image.{Image}
 use Rattle.cv_core_machine.proofs.Entries.{any_cut, lookup_filter, passing, sorted_filter}
 use Rattle.cv_core_machine.proofs.LayerTables.{value_put, value_cut}
 use Rattle.cv_tree.specs.Entries.{first_entry}
@@ -178,11 +179,11 @@ unnamed (e ∷ es) layer h none =
       by_test q true key = ap (λ found. names found layer) (past_head nat_list_cmp_total q e es h key)
       by_test q false key = sym (ap (λ b. names (cond b (Some e.1) (value_at es q)) layer) key) ∙ none q
 
-named : (images : Images) (layer q : List ℕ) (found : Option (List (List ℕ))) → value_at images q ≡ found → names found layer ≡ true → is_named images layer ≡ true
+named : (images : Images) (layer q : List ℕ) (found : Option Image) → value_at images q ≡ found → names found layer ≡ true → is_named images layer ≡ true
 named images layer q None is h = absurd (cc h)
-named images layer q (Some layers) is h =
-    any_cut (λ ls. has_text ls layer) (is_at (text_cmp q)) images layers is
-    ∙ ap (λ b. b || list_any (λ (e : List ℕ × List (List ℕ)). has_text e.1 layer) (without_value images q)) h
+named images layer q (Some image) is h =
+    any_cut (λ (kept : Image). has_text kept.layers layer) (is_at (text_cmp q)) images image is
+    ∙ ap (λ b. b || list_any (λ (e : List ℕ × Image). has_text e.1.layers layer) (without_value images q)) h
 
 -- a layer has users exactly if a registered image names it
 pub used_named : (images : Images) (users : Users) (layer : List ℕ) → IsStrictlySortedBy text_cmp (keys_of images)
@@ -198,12 +199,12 @@ used_named images users layer h same_images = by_set (set_at users layer) refl w
 pub keys_users : (images : Images) (layer : List ℕ) (set : ImageSet) → IsStrictlySortedBy text_cmp (keys_of images) → IsStrictlySortedBy text_cmp (keys_of set)
     → ((q : List ℕ) → is_some (value_at set q) ≡ names (value_at images q) layer) → keys_of set ≡ users_of images layer
 keys_users images layer set h k members =
-    same_keys nat_list_cmp_total exact_bytes set _ k (sorted_filter text_cmp (λ (image : List ℕ × List (List ℕ)). has_text image.1 layer) images h)
+    same_keys nat_list_cmp_total exact_bytes set _ k (sorted_filter text_cmp (λ (image : List ℕ × Image). has_text image.1.layers layer) images h)
     (λ q. members q ∙ by_found q (value_at images q)
-    ∙ sym (ap is_some (lookup_filter nat_list_cmp_total exact_bytes (λ (image : List ℕ × List (List ℕ)). has_text image.1 layer) images q h))) where
-      by_found : (q : List ℕ) (found : Option (List (List ℕ))) → names found layer ≡ is_some (passing (λ (image : List ℕ × List (List ℕ)). has_text image.1 layer) q found)
+    ∙ sym (ap is_some (lookup_filter nat_list_cmp_total exact_bytes (λ (image : List ℕ × Image). has_text image.1.layers layer) images q h))) where
+      by_found : (q : List ℕ) (found : Option Image) → names found layer ≡ is_some (passing (λ (image : List ℕ × Image). has_text image.1.layers layer) q found)
       by_found q None = refl
-      by_found q (Some layers) = by_test (has_text layers layer) where
-        by_test : (b : Bool) → b ≡ is_some (cond b (Some layers) None)
+      by_found q (Some kept) = by_test (has_text kept.layers layer) where
+        by_test : (b : Bool) → b ≡ is_some (cond b (Some kept) None)
         by_test true = refl
         by_test false = refl

@@ -5,8 +5,9 @@ use Rattle.cv_base.specs.Texts.{has_text}
 use Rattle.cv_core_records.specs.declared.reply.Reply.{Reply}
 use Rattle.cv_core_machine.specs.Parts.{IsRegularIn, LeadsIn, alone_in}
 use Rattle.cv_core_machine.specs.State.{Images, Layers, State}
+use Rattle.cv_core_machine.specs.declared.image.Image.{Image}
 
--- the images with their layers, the layers with their status, and how many images there may be
+-- the images with their layers and seals, the layers with their status, and how many images there may be
 pub record Registrations : Type 0 where
   pub images : Images
   pub layers : Layers
@@ -32,4 +33,4 @@ IsRegular = IsRegularIn holding
 -- the images that name a layer, in ascending order
 abbrev pub users_of : Images → List ℕ → List (List ℕ)
 users_of images layer =
-    map (λ (image : List ℕ × List (List ℕ)). image.0) (filter (λ (image : List ℕ × List (List ℕ)). has_text image.1 layer) images)
+    map (λ (image : List ℕ × Image). image.0) (filter (λ (image : List ℕ × Image). has_text image.1.layers layer) images)

@@ -1,25 +1,26 @@
 ghost use Rattle.std.specs.Prelude.{◌<◌, ◌≡◌, IfOk, None, Some, length};
 ghost use Rattle.cv_core_machine.specs.State.{value_at};
-ghost use Rattle.cv_core_machine.specs.Step.{drop_at, drop_image, register, register_at};
+ghost use Rattle.cv_core_machine.specs.Step.{drop_at, drop_image, image_of, register, register_at, same_image};
 ghost use Rattle.cv_core_registry.specs.Registrations.{Leads};
 
 use crate::registry::Registry;
 use crate::table::{entered, without_unused};
 use crate::users::{put_all, take_all};
-use cv_base::{Digest, Manifest, NoMemory, Seq};
+use cv_base::{Digest, Manifest, NoMemory};
+use cv_core_machine::Image;
 use cv_core_records::{Replied, Reply};
 use cv_tree::Shared;
 use std::alloc::Global;
 
 impl Registry {
-    /// Registers an image: `Already` if it is registered with these layers, `Conflict` with its layers if with others,
-    /// `TooManyImages` if there are as many images as may be. After `Registered` its layers that were not in the table wait for a
-    /// worker. The time is in proportion to the number of its layers, times the logarithm of what is registered.
+    /// Registers an image: `Already` if it is registered with these layers and seals, `Conflict` with its layers and seals if with
+    /// others, `TooManyImages` if there are as many images as may be. After `Registered` its layers that were not in the table wait
+    /// for a worker. The time is in proportion to the number of its layers, times the logarithm of what is registered.
     pub fn register(&self, alloc: Global, manifest: &Manifest) -> Replied<Registry>
         ensures { IfOk result (Leads (λ state. register state manifest.now) self.now) }
     {
-        if let Some(kept) = self.layers_of(&manifest.hash) {
-            return self.kept(alloc, kept, manifest);
+        if let Some(kept) = self.image_of(&manifest.hash) {
+            return self.kept(kept, manifest);
         }
         if self.images.len() >= u64::from(self.limit) {
             return self.unchanged(Reply::TooManyImages);
@@ -27,15 +28,15 @@ impl Registry {
         self.added(alloc, manifest)
     }
 
-    /// The reply about an image that is registered with these layers.
-    fn kept(&self, alloc: Global, kept: &[Digest], manifest: &Manifest) -> Replied<Registry>
+    /// The reply about an image that is registered as this one.
+    fn kept(&self, kept: &Image, manifest: &Manifest) -> Replied<Registry>
         ensures { IfOk result (Leads (λ state. register_at (Some kept.now) state manifest.now) self.now) }
     {
-        if *kept == *manifest.layers.as_slice() {
+        if is_same(kept, manifest) {
             return self.unchanged(Reply::Already);
         }
-        let kept = Seq::of(kept.to_vec(alloc)?);
-        self.unchanged(Reply::Conflict { kept })
+        let conflict = conflict_with(kept)?;
+        self.unchanged(conflict)
     }
 
     /// The registry with a new image.
@@ -47,9 +48,8 @@ impl Registry {
         let names = manifest.layers.as_slice();
         let layers = entered(alloc, &self.layers, names)?;
         let users = put_all(alloc, &self.users, names, manifest.hash)?;
-        let images = self
-            .images
-            .set(alloc, manifest.hash, shared(alloc, names)?)?;
+        let image = shared(alloc, manifest)?;
+        let images = self.images.set(alloc, manifest.hash, image)?;
         let registry = Registry::of(images, layers, users, self.limit);
         Ok((registry, Reply::Registered))
     }
@@ -60,17 +60,18 @@ impl Registry {
     pub fn drop_image(&self, alloc: Global, image: &Digest) -> Replied<Registry>
         ensures { IfOk result (Leads (λ state. drop_image state image.now) self.now) }
     {
-        match self.layers_of(image) {
+        match self.image_of(image) {
             None => self.unchanged(Reply::NotRegistered),
-            Some(layers) => self.dropped(alloc, image, layers),
+            Some(kept) => self.dropped(alloc, image, kept),
         }
     }
 
-    /// The registry without an image that has these layers.
-    fn dropped(&self, alloc: Global, image: &Digest, names: &[Digest]) -> Replied<Registry>
-        requires { value_at self.now.images image.now ≡ Some names.now }
-        ensures { IfOk result (Leads (λ state. drop_at (Some names.now) state image.now) self.now) }
+    /// The registry without an image that is registered as this one.
+    fn dropped(&self, alloc: Global, image: &Digest, kept: &Image) -> Replied<Registry>
+        requires { value_at self.now.images image.now ≡ Some kept.now }
+        ensures { IfOk result (Leads (λ state. drop_at (Some kept.now) state image.now) self.now) }
     {
+        let names = kept.layers.as_slice();
         let users = take_all(alloc, &self.users, names, image)?;
         let layers = without_unused(alloc, &self.layers, names, &users)?;
         let images = self.images.without(alloc, image)?;
@@ -79,9 +80,30 @@ impl Registry {
     }
 }
 
-/// A copy of these layers that may have several owners.
-fn shared(alloc: Global, layers: &[Digest]) -> Result<Shared<Seq<Digest>>, NoMemory>
-    ensures { IfOk result (λ copy. copy ≡ layers.now) }
+/// Whether a manifest has the layers and the seals of an image.
+fn is_same(kept: &Image, manifest: &Manifest) -> bool
+    ensures { result ≡ same_image kept.now (image_of manifest.now) }
 {
-    Shared::of(alloc, Seq::of(layers.to_vec(alloc)?))
+    kept.layers == manifest.layers && kept.seals == manifest.seals
+}
+
+/// What is kept of the image of a manifest. It may have several owners.
+fn shared(alloc: Global, manifest: &Manifest) -> Result<Shared<Image>, NoMemory>
+    ensures { IfOk result (λ image. image ≡ image_of manifest.now) }
+{
+    let image = Image {
+        layers: manifest.layers.clone()?,
+        seals: manifest.seals.clone()?,
+    };
+    Shared::of(alloc, image)
+}
+
+/// The reply that an image is registered with other layers or other seals.
+fn conflict_with(kept: &Image) -> Result<Reply, NoMemory>
+    ensures { IfOk result (λ reply. reply ≡ Reply.Conflict kept.now.layers kept.now.seals) }
+{
+    Ok(Reply::Conflict {
+        kept: kept.layers.clone()?,
+        kept_seals: kept.seals.clone()?,
+    })
 }

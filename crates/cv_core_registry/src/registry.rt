@@ -6,20 +6,20 @@ ghost use Rattle.cv_core_registry.specs.Registrations.{IsRegular, users_of};
 
 use crate::layer_status::LayerStatus;
 use crate::users::Users;
-use cv_base::{Digest, NoMemory, Seq};
-use cv_core_machine::Status;
+use cv_base::{Digest, NoMemory};
+use cv_core_machine::{Image, Status};
 use cv_tree::{Share, Shared, Tree};
 use std::alloc::Global;
 use std::marker::Model;
 
-/// The images by hash with their layers, the base first.
-pub type Images = Tree<Digest, Shared<Seq<Digest>>>;
+/// The images by hash, each with its layers and their seals.
+pub type Images = Tree<Digest, Shared<Image>>;
 
 /// The status of each layer that a registered image names or that is claimed.
 pub type Layers = Tree<Digest, LayerStatus>;
 
-/// What is registered. Contracts see the images with their layers, the layers with their status, and how many images there may
-/// be. Beside them it keeps for each layer the set of the images that name it.
+/// What is registered. Contracts see the images with their layers and seals, the layers with their status, and how many images
+/// there may be. Beside them it keeps for each layer the set of the images that name it.
 pub struct Registry {
     pub(crate) images: Images,
     pub(crate) layers: Layers,
@@ -77,12 +77,12 @@ impl Registry {
         self.limit
     }
 
-    /// The layers of an image, the base first, or None if it is not registered.
-    pub fn layers_of(&self, image: &Digest) -> Option<&[Digest]>
-        ensures { option_map (λ layers. layers.now) result ≡ value_at self.now.images image.now }
+    /// The layers of an image with their seals, or None if it is not registered.
+    pub fn image_of(&self, image: &Digest) -> Option<&Image>
+        ensures { option_map (λ kept. kept.now) result ≡ value_at self.now.images image.now }
     {
-        let layers = self.images.get(image)?;
-        Some(layers.value().as_slice())
+        let kept = self.images.get(image)?;
+        Some(kept.value())
     }
 
     /// The status of a layer, or None if no registered image names it and it is not claimed.

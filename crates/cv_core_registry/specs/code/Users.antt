@@ -3,6 +3,7 @@ use Rattle.std.specs.Prelude.{◌≡◌, ℕ, Bool, false, ◌&&◌, ◌||◌, c
 use Rattle.std.specs.Option.{is_some}
 use Rattle.cv_base.specs.Texts.{has_text, same}
 use Rattle.cv_core_machine.specs.State.{Images, Layers, value_at}
+use Rattle.cv_core_machine.specs.declared.image.Image.{Image}
 use Rattle.cv_tree.specs.Entries.{first_entry}
 use Rattle.cv_core_registry.specs.Registrations.{IsRegular}
 
@@ -26,10 +27,10 @@ uses users layer image = is_some (value_at (set_at users layer) image)
 abbrev pub is_used : Users → List ℕ → Bool
 is_used users layer = is_some (first_entry (set_at users layer))
 
--- an image with these layers, if it is registered, names a layer
-abbrev pub names : Option (List (List ℕ)) → List ℕ → Bool
+-- an image, if it is registered, names a layer
+abbrev pub names : Option Image → List ℕ → Bool
 names None layer = false
-names (Some layers) layer = has_text layers layer
+names (Some image) layer = has_text image.layers layer
 
 -- the sets after an image is put into those of these layers
 abbrev pub ArePut : List (List ℕ) → List ℕ → Users → Users → Type 0

@@ -11,5 +11,5 @@ of-registry-requires c =
     let new : value_at inside.images m.hash ≡ None = ap (λ (r : Registrations). value_at r.images m.hash) c.self.view_is ∙ c.requires.new in
     let room : nat_lt (length inside.images) inside.limit ≡ true =
     ap (λ (r : Registrations). nat_lt (length r.images) r.limit) c.self.view_is ∙ lt-ltb _ _ c.requires.room in
-    kept_added inside.images c.in_ok-images.images inside.layers c.in_ok-layers.layers inside.users c.in_ok-users.users inside.limit m c.as_slice-names.result.now c.in_ok-shared.field-0
-    c.self.invariant new room c.as_slice-names.ensures c.in_ok-shared.ensures c.in_ok-images.ensures c.in_ok-layers.ensures c.in_ok-users.ensures
+    kept_added inside.images c.in_ok-images.images inside.layers c.in_ok-layers.layers inside.users c.in_ok-users.users inside.limit m c.as_slice-names.result.now c.in_ok-image.image
+    c.self.invariant new room c.as_slice-names.ensures c.in_ok-image.ensures c.in_ok-images.ensures c.in_ok-layers.ensures c.in_ok-users.ensures
