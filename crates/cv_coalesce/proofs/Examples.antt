@@ -1,9 +1,14 @@
 -- Worked examples of what is gathered from the layers of an image.
-use Rattle.std.specs.Prelude.{◌≡◌, false, List, [], ◌∷◌, codes, refl}
+use Rattle.std.specs.Prelude.{◌≡◌, ℕ, false, List, [], ◌∷◌, codes, Some, None, refl}
 use Rattle.cv_base.specs.Path.{Path, components}
 use Rattle.cv_facts.specs.declared.reduction.Reduction.{Reduction}
+use Rattle.cv_facts.specs.declared.reduction.Shape.{Shape}
+use Rattle.cv_facts.specs.declared.reduction.Shape.TheVariants as shape
+use Rattle.cv_overlay.specs.declared.fault.ImageFault.TheVariants as fault
+use Rattle.cv_overlay.specs.declared.fault.TreeFault.TheVariants.{BadMark}
 use Rattle.cv_packages.specs.declared.found.FileFound.{FileFound}
 use Rattle.cv_packages.specs.declared.found.Found.TheVariants.{TooLarge}
+use Rattle.cv_coalesce.specs.Coalesced.{first_fault}
 use Rattle.cv_coalesce.specs.Gathered.{gathered}
 use Rattle.cv_coalesce.specs.Hides.{hides}
 
@@ -18,14 +23,14 @@ file path = record { path = path; found = TooLarge }
 
 -- a layer with these files and nothing else
 abbrev with_files : List Path → List FileFound → Reduction
-with_files covers files = record { whiteouts = []; opaques = []; covers = covers; place_dirs = []; files = files }
+with_files covers files = record { whiteouts = []; opaques = []; covers = covers; place_dirs = []; files = files; seal = [] }
 
 abbrev base : Reduction
 base = with_files (release ∷ status ∷ []) (file release ∷ file status ∷ [])
 
 -- a layer with these whiteouts, opaque directories, entries that are no directories, and directories at places
 abbrev hiding : List Path → List Path → List Path → List Path → Reduction
-hiding whiteouts opaques covers place_dirs = record { whiteouts = whiteouts; opaques = opaques; covers = covers; place_dirs = place_dirs; files = [] }
+hiding whiteouts opaques covers place_dirs = record { whiteouts = whiteouts; opaques = opaques; covers = covers; place_dirs = place_dirs; files = []; seal = [] }
 
 -- a whiteout hides its target, and all below it
 whiteout : gathered (base ∷ hiding (status ∷ []) [] [] [] ∷ []) ≡ file release ∷ []
@@ -35,7 +40,7 @@ whiteout_above : gathered (base ∷ hiding (components (codes "var/lib") ∷ [])
 whiteout_above = refl
 
 -- it hides nothing of its own layer
-own : gathered (record { whiteouts = status ∷ []; opaques = []; covers = status ∷ []; place_dirs = []; files = file status ∷ [] } ∷ []) ≡ file status ∷ []
+own : gathered (record { whiteouts = status ∷ []; opaques = []; covers = status ∷ []; place_dirs = []; files = file status ∷ []; seal = [] } ∷ []) ≡ file status ∷ []
 own = refl
 
 -- an opaque mark hides all below its directory, at any depth, and that at the top hides all; the directory itself stays
@@ -67,3 +72,18 @@ topmost = refl
 -- a layer that stands again brings its files back
 twice : gathered (base ∷ hiding [] ([] ∷ []) [] [] ∷ base ∷ []) ≡ file release ∷ file status ∷ []
 twice = refl
+
+-- A missing layer is named before a bad tree, and that before the first layer with another seal than the stated one.
+
+-- an empty layer with this seal
+abbrev sealed : List ℕ → Shape
+sealed seal = shape.Reduced (record { whiteouts = []; opaques = []; covers = []; place_dirs = []; files = []; seal = seal })
+
+first : (first_fault (sealed (codes "a") ∷ shape.BadTree (BadMark 0) ∷ shape.NoLayer ∷ []) (Some (codes "b") ∷ None ∷ None ∷ []) ≡ Some (fault.NoLayer 2))
+    × (first_fault (sealed (codes "a") ∷ shape.BadTree (BadMark 0) ∷ []) (Some (codes "b") ∷ None ∷ []) ≡ Some (fault.BadTree 1 (BadMark 0)))
+first = (refl, refl)
+
+-- each seal is compared with that of its own tree
+own_seal : (first_fault (sealed (codes "a") ∷ sealed (codes "b") ∷ []) (None ∷ Some (codes "b") ∷ []) ≡ None)
+    × (first_fault (sealed (codes "a") ∷ sealed (codes "b") ∷ []) (Some (codes "a") ∷ Some (codes "a") ∷ []) ≡ Some (fault.BadSeal 1 (codes "a") (codes "b")))
+own_seal = (refl, refl)

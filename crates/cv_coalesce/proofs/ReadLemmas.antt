@@ -13,6 +13,8 @@ use Rattle.cv_base.specs.declared.tree.Node.TheVariants as node
 use Rattle.cv_base.specs.declared.tree.TreeEntry.{TreeEntry}
 use Rattle.cv_base.proofs.InOrder.{any_order}
 use Rattle.cv_base.proofs.Same.{tied_path}
+use Rattle.cv_desk.specs.Loaded.{whole}
+use Rattle.cv_desk.specs.Stored.{Stored}
 use Rattle.cv_facts.specs.Cover.{covers, opaque_dirs, place_dirs, targets}
 use Rattle.cv_facts.specs.Files.{own_files}
 use Rattle.cv_facts.specs.Order.{AreAscending as AreAscendingFiles}
@@ -94,31 +96,32 @@ kept_read hidden (x ∷ xs) = by_test (hidden x.path) (kept_read hidden xs) wher
 
 -- What a reduction hides is what its tree does: the order of its lists does not matter.
 
-hides_read : (tree : List TreeEntry) (p : Path) → hides (reduction_of tree) p ≡ tree_hides tree p
-hides_read tree p =
+hides_read : (layer : List Stored) (p : Path) → hides (reduction_of layer) p ≡ tree_hides (map whole layer) p
+hides_read layer p =
+    let tree = map whole layer in
     let t = any_order (λ q. at_or_above q p) (λ q r h. ap (λ (x : Path). at_or_above x p) (tied_path q r h)) (targets (map outline tree)) in
     let o = any_order (λ q. is_above q p) (λ q r h. ap (λ (x : Path). is_above x p) (tied_path q r h)) (opaque_dirs (map outline tree)) in
     let rest = hides_at [] [] (covers (map outline tree)) (place_dirs (map outline tree)) p in
     λ i. t i || (o i || rest)
 
-hidden_read : (trees : List (List TreeEntry)) (p : Path) → is_hidden (map reduction_of trees) p ≡ hidden_by trees p
+hidden_read : (layers : List (List Stored)) (p : Path) → is_hidden (map reduction_of layers) p ≡ hidden_by (map (map whole) layers) p
 hidden_read [] p = refl
-hidden_read (tree ∷ trees) p = λ i. hides_read tree p i || hidden_read trees p i
+hidden_read (layer ∷ layers) p = λ i. hides_read layer p i || hidden_read layers p i
 
 -- All together.
 
-visible_read : (higher : List (List TreeEntry)) (tree : List TreeEntry)
-    → filter (λ (f : FileFound). not (is_hidden (map reduction_of higher) f.path)) (own_files tree) ≡ map read (visible_entries higher tree)
+visible_read : (higher : List (List Stored)) (tree : List TreeEntry)
+    → filter (λ (f : FileFound). not (is_hidden (map reduction_of higher) f.path)) (own_files tree) ≡ map read (visible_entries (map (map whole) higher) tree)
 visible_read higher tree =
     ap (filter (λ (f : FileFound). not (is_hidden (map reduction_of higher) f.path))) (own_read tree)
     ∙ kept_read (is_hidden (map reduction_of higher)) (layer_files tree)
     ∙ (λ i. map read (filter (λ (e : TreeEntry). not (hidden_read higher e.path i)) (layer_files tree)))
 
-gathered_read : (trees : List (List TreeEntry)) → merged_layers (map reduction_of trees) ≡ map read (gathered_entries trees)
+gathered_read : (layers : List (List Stored)) → merged_layers (map reduction_of layers) ≡ map read (gathered_entries (map (map whole) layers))
 gathered_read [] = refl
-gathered_read (tree ∷ trees) =
-    (λ i. merged (visible_read trees tree i) (gathered_read trees i))
-    ∙ merged_read (visible_entries trees tree) (gathered_entries trees)
+gathered_read (layer ∷ layers) =
+    (λ i. merged (visible_read layers (map whole layer) i) (gathered_read layers i))
+    ∙ merged_read (visible_entries (map (map whole) layers) (map whole layer)) (gathered_entries (map (map whole) layers))
 
 -- Files that are read from ascending entries ascend.
 
@@ -134,12 +137,12 @@ read_ascends (e ∷ es) h = (after_read e.path es h.0, read_ascends es h.1)
 own_ascends : (tree : List TreeEntry) → AreAscending tree → AreAscendingFiles (own_files tree)
 own_ascends tree h = subst AreAscendingFiles (sym (own_read tree)) (read_ascends (layer_files tree) (ascending_kept (λ (e : TreeEntry). is_plain (mark e) && is_placed_file e) tree h))
 
-all_ascend : (trees : List (List TreeEntry)) → AllAscend trees → AllByRecursion (λ (r : Reduction). AreAscendingFiles r.files) (map reduction_of trees)
+all_ascend : (layers : List (List Stored)) → AllAscend (map (map whole) layers) → AllByRecursion (λ (r : Reduction). AreAscendingFiles r.files) (map reduction_of layers)
 all_ascend [] h = tt
-all_ascend (tree ∷ trees) h = (own_ascends tree h.0, all_ascend trees h.1)
+all_ascend (layer ∷ layers) h = (own_ascends (map whole layer) h.0, all_ascend layers h.1)
 
--- the files that are gathered from the reductions of trees are the package files of the root of the image
-pub files_are : (trees : List (List TreeEntry)) → AllAscend trees → gathered (map reduction_of trees) ≡ files_found (root_entries trees)
-files_are trees h =
-    sym (merged_gathered (map reduction_of trees) (all_ascend trees h))
-    ∙ gathered_read trees ∙ ap (map read) (gathered_root trees h) ∙ sym (files_read (root_entries trees))
+-- the files that are gathered from the reductions of layers are the package files of the root of the image
+pub files_are : (layers : List (List Stored)) → AllAscend (map (map whole) layers) → gathered (map reduction_of layers) ≡ files_found (root_entries (map (map whole) layers))
+files_are layers h =
+    sym (merged_gathered (map reduction_of layers) (all_ascend layers h))
+    ∙ gathered_read layers ∙ ap (map read) (gathered_root (map (map whole) layers) h) ∙ sym (files_read (root_entries (map (map whole) layers)))

@@ -1,5 +1,6 @@
 -- The packages of an image from the shapes of its layers (defined by this project): the first layer that is missing, or else the
--- first whose tree is not good, or else the packages of the files that are gathered from the layers, or their refusal.
+-- first whose tree is not good, or else the first whose tree has another seal than the stated one, or else the packages of the
+-- files that are gathered from the layers, or their refusal.
 use Rattle.std.specs.Prelude.{ℕ, ◌+◌, List, [], ◌∷◌, map, slice_index_or, Option, Some, None, Result, Ok, Err}
 use Rattle.std.specs.List.{filter_map}
 use Rattle.std.specs.Option.{option_or}
@@ -12,6 +13,7 @@ use Rattle.cv_facts.specs.declared.reduction.Shape.TheVariants.{BadTree, NoLayer
 use Rattle.cv_packages.specs.Faults.{image_fault}
 use Rattle.cv_packages.specs.Packages.{assembled}
 use Rattle.cv_packages.specs.declared.error.FileFault.{FileFault}
+use Rattle.cv_scan.specs.Seals.{seal_fault}
 use Rattle.cv_coalesce.specs.Gathered.{gathered}
 use Rattle.cv_coalesce.specs.declared.image.ImagePackages.{ImagePackages}
 use Rattle.cv_coalesce.specs.declared.image.ImagePackages.TheVariants.{Good, Bad}
@@ -46,9 +48,21 @@ abbrev pub bad_from : ℕ → List Shape → Option ImageFault
 bad_from index [] = None
 bad_from index (shape ∷ shapes) = option_or (tree_fault_in index shape) (bad_from (index + 1) shapes)
 
--- the first missing layer, or else the first whose tree is not good
-abbrev pub first_fault : List Shape → Option ImageFault
-first_fault shapes = option_or (missing_from 0 shapes) (bad_from 0 shapes)
+-- the fault of a layer whose tree has another seal than the stated one
+abbrev pub seal_fault_in : ℕ → Option (List ℕ) → Shape → Option ImageFault
+seal_fault_in index stated NoLayer = None
+seal_fault_in index stated (BadTree bad) = None
+seal_fault_in index stated (Reduced r) = seal_fault index stated r.seal
+
+-- the first layer whose tree has another seal than the stated one
+abbrev pub other_seal_from : ℕ → List (Option (List ℕ)) → List Shape → Option ImageFault
+other_seal_from index [] shapes = None
+other_seal_from index (stated ∷ seals) [] = None
+other_seal_from index (stated ∷ seals) (shape ∷ shapes) = option_or (seal_fault_in index stated shape) (other_seal_from (index + 1) seals shapes)
+
+-- the first missing layer, or else the first whose tree is not good, or else the first with another seal
+abbrev pub first_fault : List Shape → List (Option (List ℕ)) → Option ImageFault
+first_fault shapes seals = option_or (option_or (missing_from 0 shapes) (bad_from 0 shapes)) (other_seal_from 0 seals shapes)
 
 -- the reduction of a layer
 abbrev pub reduction_in : Shape → Option Reduction
@@ -70,6 +84,6 @@ abbrev pub or_packages : Option ImageFault → List Reduction → ImagePackages
 or_packages (Some bad) layers = Bad bad
 or_packages None layers = with_packages (assembled (gathered layers))
 
--- the packages of an image of these layers, the base first, or why it has none
-unfoldable pub coalesced : List Shape → ImagePackages
-coalesced shapes = or_packages (first_fault shapes) (reductions shapes)
+-- the packages of an image of these layers, the base first, with the seal that is stated for each, if one is, or why it has none
+unfoldable pub coalesced : List Shape → List (Option (List ℕ)) → ImagePackages
+coalesced shapes seals = or_packages (first_fault shapes seals) (reductions shapes)

@@ -1,13 +1,13 @@
 ghost use Rattle.std.specs.Prelude.{◌≡◌, [], ◌<◌, ◌≤◌, All, length, map, slice_index_or, IfOk, IfSome};
 ghost use Rattle.cv_base.specs.declared.limits.TheConstants.{MAX_LAYERS};
-ghost use Rattle.cv_coalesce.specs.Coalesced.{at_places, bad_from, chosen, first_fault, missing_from, reductions};
+ghost use Rattle.cv_coalesce.specs.Coalesced.{at_places, bad_from, chosen, first_fault, missing_from, other_seal_from, reductions, seal_fault_in};
 ghost use Rattle.cv_coalesce.specs.code.Known.{known_at};
 ghost use Rattle.cv_facts.specs.Order.{HasOrderedLists, IsOrdered};
 ghost use Rattle.cv_facts.specs.Reduction.{IsRight, shape_of};
 ghost use Rattle.cv_facts.specs.declared.reduction.Shape.TheVariants.{NoLayer};
 ghost use Rattle.cv_scan.specs.Layers.{stored_layers};
 
-use cv_base::NoMemory;
+use cv_base::{Digest, NoMemory};
 use cv_desk::Desk;
 use cv_facts::{LayerFacts, Reduction, Shape};
 use cv_overlay::ImageFault;
@@ -46,12 +46,16 @@ fn shape_at<D: Desk>(facts: &[LayerFacts<D>], place: u32) -> &Shape
     known.shape()
 }
 
-/// The first layer that is missing, or else the first whose tree is not good.
-pub fn first_fault(shapes: &[&Shape]) -> Option<ImageFault>
-    requires { length shapes.now ≤ MAX_LAYERS }
-    ensures { result ≡ first_fault (map (λ s. s.now) shapes.now) }
+/// The first layer that is missing, or else the first whose tree is not good, or else the first whose tree has another seal than
+/// the stated one.
+pub fn first_fault(shapes: &[&Shape], seals: &[Option<Digest>]) -> Option<ImageFault>
+    requires at_most_128_layers { length shapes.now ≤ MAX_LAYERS }
+    requires as_many_seals { length seals.now ≡ length shapes.now }
+    ensures { result ≡ first_fault (map (λ s. s.now) shapes.now) seals.now }
 {
-    missing_layer(shapes).or_else(|| bad_tree(shapes))
+    missing_layer(shapes)
+        .or_else(|| bad_tree(shapes))
+        .or_else(|| other_seal(shapes, seals))
 }
 
 fn missing_layer(shapes: &[&Shape]) -> Option<ImageFault>
@@ -76,6 +80,36 @@ fn bad_tree(shapes: &[&Shape]) -> Option<ImageFault>
         }
     }
     None
+}
+
+fn other_seal(shapes: &[&Shape], seals: &[Option<Digest>]) -> Option<ImageFault>
+    requires at_most_128_layers { length shapes.now ≤ MAX_LAYERS }
+    requires as_many_seals { length seals.now ≡ length shapes.now }
+    ensures { result ≡ other_seal_from 0 seals.now (map (λ s. s.now) shapes.now) }
+{
+    for (index, shape) in shapes.iter().enumerate() {
+        let fault = seal_fault(index as u32, seals[index], shape);
+        if fault.is_some() {
+            return fault;
+        }
+    }
+    None
+}
+
+/// The fault of the layer of this index, from 0, if its tree has another seal than the stated one.
+fn seal_fault(index: u32, stated: Option<Digest>, shape: &Shape) -> Option<ImageFault>
+    ensures { result ≡ seal_fault_in index stated shape.now }
+{
+    match (shape, stated) {
+        (Shape::Reduced(layer), Some(stated)) if layer.seal != stated => {
+            Some(ImageFault::BadSeal {
+                layer: index,
+                stated,
+                found: layer.seal,
+            })
+        }
+        _ => None,
+    }
 }
 
 /// The reductions of the layers that have one.
