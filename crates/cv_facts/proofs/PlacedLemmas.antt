@@ -9,6 +9,7 @@ use Rattle.cv_base.specs.declared.tree.Content.{Content}
 use Rattle.cv_base.specs.declared.tree.Content.TheVariants as content
 use Rattle.cv_base.specs.declared.tree.Kind.{Kind}
 use Rattle.cv_base.specs.declared.tree.Kind.TheVariants as kind
+use Rattle.cv_base.specs.declared.tree.ListEntry.{ListEntry}
 use Rattle.cv_base.specs.declared.tree.Node.TheVariants as node
 use Rattle.cv_desk.specs.Loaded.{answered, loaded_file}
 use Rattle.cv_desk.specs.code.Loaded.{loaded_kind}
@@ -21,7 +22,7 @@ use Rattle.cv_packages.specs.Files.{file_of}
 use Rattle.cv_packages.specs.Found.{found_in}
 use Rattle.cv_packages.specs.declared.found.FileFound.{FileFound}
 use Rattle.cv_facts.specs.Files.{own_file}
-use Rattle.cv_facts.specs.code.Listing.{content_of, listed_kind}
+use Rattle.cv_facts.specs.code.Listing.{content_of, listed_file, listed_kind, own_place, place_at, place_by}
 
 loaded_by_place : (path : Path) (pl : Place) (item : Option Item) → place_of path ≡ Some pl → loaded_file path item ≡ answered (file_read item PACKAGE_FILE_LIMIT)
 loaded_by_place path pl item h = ap (λ (p : Option Place). if is_none p then node.File content.Unread else answered (file_read item PACKAGE_FILE_LIMIT)) h
@@ -33,7 +34,7 @@ kept path pl (Bytes bytes) = refl
 kept path pl TooLarge = refl
 kept path pl NotFile = refl
 
-pub placed : (tree : Option (Option (List Stored))) (path : Path) (pl : Place) (found : FileRead) (c : Option Content) (file : Option FileFound)
+placed : (tree : Option (Option (List Stored))) (path : Path) (pl : Place) (found : FileRead) (c : Option Content) (file : Option FileFound)
     → place_of path ≡ Some pl → IfSome tree (λ t. found ≡ file_read (item_in t path) PACKAGE_FILE_LIMIT) → c ≡ content_of found
     → file ≡ option_map (λ (c : Content). record { path = path; found = found_in pl c }) c
     → IfSome tree (λ t. file ≡ file_of path (Some pl) (loaded_file path (item_in t path)))
@@ -73,3 +74,45 @@ kind_is tree path kind.Other = sym (by_mark_other (is_plain (mark_of path false)
 kind_is tree path kind.File =
     ap (λ (dir : Bool). if is_plain (mark_of path dir) then file_of path (place_of path) (loaded_file path (item_in tree path)) else None)
     (sym (not_dir_file path (is_none (place_of path)) (file_read (item_in tree path) PACKAGE_FILE_LIMIT)))
+
+-- An entry with the place that it has as a plain file.
+
+none_by : (plain : Bool) (place : Option Place) → place ≡ None → None ≡ (if plain then place else None)
+none_by true place h = sym h
+none_by false place h = refl
+
+pub none_at : (path : Path) → place_of path ≡ None → None ≡ place_at path
+none_at path h = none_by (is_plain (mark_of path false)) (place_of path) h
+
+unplaced : (tree : Option (List Stored)) (path : Path) (k : Kind) → place_by path k ≡ None → listed_kind tree path k ≡ None
+unplaced tree path kind.Dir h = refl
+unplaced tree path kind.File h = by_place (is_plain (mark_of path false)) (place_of path) h where
+  by_place : (plain : Bool) (place : Option Place) → (if plain then place else None) ≡ None → (if plain then file_of path place (loaded_file path (item_in tree path)) else None) ≡ None
+  by_place true None h = refl
+  by_place true (Some pl) h = cc
+  by_place false place h = refl
+unplaced tree path kind.Other h = refl
+
+own_placed : (tree : Option (List Stored)) (path : Path) (k : Kind) (pl : Place) → place_by path k ≡ Some pl
+    → (listed_kind tree path k ≡ file_of path (Some pl) (loaded_file path (item_in tree path))) × (place_of path ≡ Some pl)
+own_placed tree path kind.Dir pl h = cc
+own_placed tree path kind.File pl h = by_place (is_plain (mark_of path false)) (place_of path) h where
+  by_place : (plain : Bool) (place : Option Place) → (if plain then place else None) ≡ Some pl
+      → ((if plain then file_of path place (loaded_file path (item_in tree path)) else None) ≡ file_of path (Some pl) (loaded_file path (item_in tree path))) × (place ≡ Some pl)
+  by_place true place h = (ap (λ (p : Option Place). file_of path p (loaded_file path (item_in tree path))) h, h)
+  by_place false place h = cc
+own_placed tree path kind.Other pl h = cc
+
+-- an entry that has no place as a plain file is no package file
+pub entry_unplaced : (tree : Option (Option (List Stored))) (entry : ListEntry) → own_place entry ≡ None → IfSome tree (λ t. None ≡ listed_file t entry)
+entry_unplaced None entry h = tt
+entry_unplaced (Some t) entry h = sym (unplaced t entry.path entry.kind h)
+
+-- an entry that has one is the file that was read
+pub entry_placed : (tree : Option (Option (List Stored))) (entry : ListEntry) (pl : Place) (found : FileRead) (c : Option Content) (file : Option FileFound)
+    → own_place entry ≡ Some pl → IfSome tree (λ t. found ≡ file_read (item_in t entry.path) PACKAGE_FILE_LIMIT) → c ≡ content_of found
+    → file ≡ option_map (λ (c : Content). record { path = entry.path; found = found_in pl c }) c → IfSome tree (λ t. file ≡ listed_file t entry)
+entry_placed None entry pl found c file h k e f = tt
+entry_placed (Some t) entry pl found c file h k e f =
+    let own = own_placed t entry.path entry.kind pl h in
+    placed (Some t) entry.path pl found c file own.1 k e f ∙ sym own.0

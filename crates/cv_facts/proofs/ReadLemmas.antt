@@ -3,6 +3,7 @@ use Rattle.std.proofs.Common.{◌≡◌, ℕ, ◌+◌, ◌<◌, ◌≤◌, Bool,
 use Rattle.std.specs.Prelude.{IfOk, IfSome, OnOk, Result, Ok, Err, if◌then◌else◌}
 use Rattle.std.specs.List.{count_by}
 use Rattle.std.specs.Option.{is_none, is_some, option_map}
+use Rattle.std.proofs.lemmas.Bool.{or_parts}
 use Rattle.std.proofs.lemmas.List.{drop_all, drop_more}
 use Rattle.cv_base.specs.Path.{Path}
 use Rattle.cv_base.specs.Place.{place_of}
@@ -40,25 +41,38 @@ all_counted es i now all n h = sym (ap (λ (ys : List ListEntry). count_after no
 
 -- An entry is read if it has a place as a plain file, or is summed.
 
-with_mark : (plain : Bool) (place : Option Place) → is_none (if plain then place else None) ≡ not (is_some place && plain)
+with_mark : (plain : Bool) (place : Option Place) → is_some (if plain then place else None) ≡ is_some place && plain
 with_mark true None = refl
 with_mark true (Some pl) = refl
 with_mark false None = refl
 with_mark false (Some pl) = refl
 
-no_place : (path : Path) (k : Kind) → is_none (place_by path k) ≡ not (is_file k && (is_place path && is_plain (mark_of path false)))
-no_place path kind.Dir = refl
-no_place path kind.File = with_mark (is_plain (mark_of path false)) (place_of path)
-no_place path kind.Other = refl
+has_place : (path : Path) (k : Kind) → is_some (place_by path k) ≡ is_file k && (is_place path && is_plain (mark_of path false))
+has_place path kind.Dir = refl
+has_place path kind.File = with_mark (is_plain (mark_of path false)) (place_of path)
+has_place path kind.Other = refl
 
-read_by : (none file summed : Bool) → none ≡ not file → (none && not summed) ≡ not (file || summed)
-read_by none true true h = rw h refl
-read_by none true false h = rw h refl
-read_by none false true h = rw h refl
-read_by none false false h = rw h refl
+read_is : (e : ListEntry) → is_some (own_place e) || is_summed e ≡ is_read e
+read_is e = ap (λ (b : Bool). b || is_summed e) (has_place e.path e.kind)
 
-pub read_is : (e : ListEntry) → (is_none (own_place e) && not (is_summed e)) ≡ not (is_read e)
-read_is e = read_by (is_none (own_place e)) (is_file e.kind && (is_place e.path && is_plain (mark_of e.path false))) (is_summed e) (no_place e.path e.kind)
+pub placed_read : (e : ListEntry) (place : Option Place) (b : Bool) → place ≡ own_place e → b ≡ is_some place → b ≡ true → b ≡ is_read e
+placed_read e place b h k t = t ∙ ap (λ (c : Bool). c || is_summed e) (sym t ∙ k ∙ ap is_some h) ∙ read_is e
+
+pub unplaced_read : (e : ListEntry) (place : Option Place) (b summed : Bool) → place ≡ own_place e → b ≡ is_some place → b ≡ false → summed ≡ is_summed e → summed ≡ is_read e
+unplaced_read e place b summed h k f s = s ∙ ap (λ (c : Bool). c || is_summed e) (sym f ∙ k ∙ ap is_some h) ∙ read_is e
+
+unread : (e : ListEntry) → is_read e ≡ false → (is_some (own_place e) ≡ false) × (is_summed e ≡ false)
+unread e h = or_parts (is_some (own_place e)) (is_summed e) (read_is e ∙ h)
+
+pub not_summed : (e : ListEntry) → is_read e ≡ false → is_summed e ≡ false
+not_summed e h = (unread e h).1
+
+none_by : (place : Option Place) → is_some place ≡ false → place ≡ None
+none_by None h = refl
+none_by (Some pl) h = cc
+
+pub no_place : (e : ListEntry) → is_read e ≡ false → own_place e ≡ None
+no_place e h = none_by (own_place e) (unread e h).0
 
 -- The reads of a layer that is known.
 pub reads_known : (tree : Option (Option (List Stored))) (found : Option (List ListEntry)) (r : Result Shape IndexError) (before now : ℕ)

@@ -50,6 +50,11 @@ within n m h = le-ltb m n (leb-true n m h)
 same_length : (n : ℕ) → (n == n) ≡ true
 same_length n = eq-eqb n n refl
 
+-- as many bytes as the entry is listed with
+same_bytes : (path : Path) (bytes : List ℕ) → (length bytes == length bytes) ≡ true
+    → sealed_read (record { path = path; kind = kind.File; size = length bytes }) (read.Bytes bytes) ≡ record { entry = record { path = path; kind = kind.File; size = length bytes }; content = bytes }
+same_bytes path bytes h = rw h refl
+
 one_known : (tree : Option (List Stored)) (path : Path) (item : Item) → loaded_by tree (listed (record { path = path; item = item })) ≡ loaded (record { path = path; item = item })
     → listed_sealed tree (listed (record { path = path; item = item })) ≡ sealed (record { path = path; item = item })
 one_known tree path Dir h = refl
@@ -65,10 +70,7 @@ one_known tree path (File bytes) h = by_sum (is_sealed_place (place_of path) && 
       (and_left (is_sealed_place (place_of path)) (nat_le (length bytes) PACKAGE_FILE_LIMIT) s)
       (within (length bytes) PACKAGE_FILE_LIMIT (and_right (is_sealed_place (place_of path)) (nat_le (length bytes) PACKAGE_FILE_LIMIT) s))
       (ap (λ (e : TreeEntry). e.node) h) in
-      ap (sealed_read (record { path = path; kind = kind.File; size = length bytes })) whole ∙ by_length bytes (same_length (length bytes))
-  by_length : (xs : List ℕ) → (length xs == length xs) ≡ true
-      → sealed_read (record { path = path; kind = kind.File; size = length xs }) (read.Bytes xs) ≡ record { entry = record { path = path; kind = kind.File; size = length xs }; content = xs }
-  by_length xs h = rw h refl
+      ap (sealed_read (record { path = path; kind = kind.File; size = length bytes })) whole ∙ same_bytes path bytes (same_length (length bytes))
 
 heads : {X : Type 0} (x y : X) (xs ys : List X) → x ∷ xs ≡ y ∷ ys → (x ≡ y) × (xs ≡ ys)
 heads x y xs ys h = (cc, cc)
@@ -134,3 +136,12 @@ unread_known : (tree : Option (Option (List Stored))) (path : Path) → (found :
 unread_known None path = (read.NotFile, tt)
 unread_known (Some t) path = (file_read (item_in t path) PACKAGE_FILE_LIMIT, refl)
 
+pub unread_sealed : (tree : Option (Option (List Stored))) (entry : ListEntry) (old new : Seal) → is_summed entry ≡ false
+    → ((taken : List SealedEntry) → HasTaken old taken → HasTaken new (taken ++ sealed_entry entry None ∷ [])) → HasSealed tree entry old new
+unread_sealed tree entry old new h one =
+    let any = unread_known tree entry.path in
+    record {
+      found = any.0;
+      known = any.1;
+      sealed = λ taken held. subst (λ (b : Bool). HasTaken new (taken ++ (if b then sealed_read entry any.0 else sealed_entry entry None) ∷ [])) (sym h) (one taken held);
+    }

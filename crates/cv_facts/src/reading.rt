@@ -76,7 +76,7 @@ fn read_entry<D: Desk>(
     ensures reads { OnOk result (D.reads desk.new ≡ count_after (D.reads desk.old) (cond (is_read entry.now) 1 0)) }
 {
     let place = own_place(entry);
-    if place.is_none() && !is_summed(entry) {
+    if !is_read(entry, place) {
         seal.entry(entry, None);
         return Ok(None);
     }
@@ -86,6 +86,14 @@ fn read_entry<D: Desk>(
         None => Ok(None),
         Some(place) => Ok(file_found(alloc, &entry.path, place, content_of(read))?),
     }
+}
+
+/// Whether an entry is read, of which this is the place as a plain file.
+fn is_read(entry: &ListEntry, place: Option<Place>) -> bool
+    requires { place ≡ own_place entry.now }
+    ensures { result ≡ is_read entry.now }
+{
+    place.is_some() || is_summed(entry)
 }
 
 /// The place of an entry that is listed as a plain file at a place of package files.
@@ -102,7 +110,9 @@ fn own_place(entry: &ListEntry) -> Option<Place>
 fn place_at(path: &RelPath) -> Option<Place>
     ensures { result ≡ place_at path.now }
 {
-    let place = place(path)?;
+    let Some(place) = place(path) else {
+        return None;
+    };
     match mark_of(path, false) {
         Mark::Plain => Some(place),
         Mark::Reserved | Mark::Opaque | Mark::Whiteout | Mark::Bad => None,
