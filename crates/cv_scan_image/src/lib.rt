@@ -2,7 +2,7 @@
 //! are found from what was indexed, and matched with all records. The root of the image is not made.
 //!
 //! ```text
-//! let findings = scan_layers(alloc, desk, manifest.layers.as_slice(), &feed, advisories)?;
+//! let findings = scan_layers(alloc, desk, manifest.layers.as_slice(), manifest.seals.as_slice(), &feed, advisories)?;
 //! ```
 #![tactic(auto)]
 

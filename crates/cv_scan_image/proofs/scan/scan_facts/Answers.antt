@@ -13,5 +13,5 @@ places_of-requires-clause-known g c = all_known (map (λ (f : Known). f.digest) 
 
 pub returns-clause-answer : goal.returns-clause-answer
 returns-clause-answer g c =
-    scanned g.D.Desk.tree (at_places [] (map (λ (f : Known). f.digest) c.args.facts.now) c.deref.result.now) c.args.layers.now ((c.args.feed.now, c.args.advisories.now) ∷ []) c.in_ok-packages.packages c.findings_of.result
+    scanned g.D.Desk.tree (at_places [] (map (λ (f : Known). f.digest) c.args.facts.now) c.deref.result.now) c.args.layers.now c.args.seals.now ((c.args.feed.now, c.args.advisories.now) ∷ []) c.in_ok-packages.packages c.findings_of.result
     (ap (at_places [] (map (λ (f : Known). f.digest) c.args.facts.now)) c.deref.ensures.value ∙ c.in_ok-places.ensures.layers) c.in_ok-packages.ensures.answer c.findings_of.ensures.answer
