@@ -38,7 +38,7 @@ unfolding facts one two
 twice = refl
 
 -- such an image waits for this layer, whatever comes after it
-pending : outcome_at facts [] (two ∷ three ∷ one ∷ []) ≡ Pending three
+pending : outcome_at facts [] (record { layers = two ∷ three ∷ one ∷ []; seals = None ∷ None ∷ None ∷ [] }) ≡ Pending three
 unfolding facts one two three
 pending = refl
 

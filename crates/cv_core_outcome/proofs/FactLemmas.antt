@@ -8,9 +8,11 @@ use Rattle.std.proofs.lemmas.Bool.{or_left, or_right}
 use Rattle.cv_base.specs.Texts.{has_text, same}
 use Rattle.cv_base.proofs.Same.{same_self, same_is}
 use Rattle.cv_facts.specs.Reduction.{Known}
+use Rattle.cv_facts.specs.declared.reduction.Shape.{Shape}
 use Rattle.cv_coalesce.specs.Coalesced.{coalesced}
 use Rattle.cv_coalesce.specs.declared.image.ImagePackages.{ImagePackages}
 use Rattle.cv_core_machine.specs.State.{Feeds, value_at, with_value}
+use Rattle.cv_core_machine.specs.declared.image.Image.{Image}
 use Rattle.cv_core_machine.proofs.LayerTables.{value_put}
 use Rattle.cv_core_outcome.specs.Facts.{waits_for}
 use Rattle.cv_core_outcome.specs.Outcome.{FactTable, first_unknown, has_facts, known_layers, known_shapes, outcome_at, outcome_by}
@@ -38,10 +40,11 @@ shapes_agree : (ones others : FactTable) (layers : List (List ℕ)) → AgreeOn 
 shapes_agree ones others layers h = ap (map (λ (known : Known). known.shape)) (known_agrees ones others layers h)
 
 -- an outcome depends on the facts of the image's layers alone
-pub agree : (ones others : FactTable) (feeds : Feeds) (layers : List (List ℕ)) → ((layer : List ℕ) → has_text layers layer ≡ true → value_at ones layer ≡ value_at others layer)
-    → outcome_at ones feeds layers ≡ outcome_at others feeds layers
-agree ones others feeds layers h =
-    λ i. outcome_by (first_agrees ones others layers (agree_on ones others layers h) i) feeds (coalesced (shapes_agree ones others layers (agree_on ones others layers h) i))
+pub agree : (ones others : FactTable) (feeds : Feeds) (image : Image) → ((layer : List ℕ) → has_text image.layers layer ≡ true → value_at ones layer ≡ value_at others layer)
+    → outcome_at ones feeds image ≡ outcome_at others feeds image
+agree ones others feeds image h =
+    let on = agree_on ones others image.layers h in
+    λ i. outcome_by (first_agrees ones others image.layers on i) feeds (coalesced (shapes_agree ones others image.layers on i) image.seals)
 
 other_layer : (b : Bool) (found : Option Known) (known : Known) → b ≡ false → cond b (Some known) found ≡ found
 other_layer true found known h = absurd (cc h)
@@ -54,11 +57,11 @@ has_first layers layer q none has = by_test (same layer q) refl where
   by_test false e = refl
 
 -- the facts of a layer that the image does not name change nothing
-pub unnamed : (facts : FactTable) (layer : List ℕ) (known : Known) (feeds : Feeds) (layers : List (List ℕ)) → has_text layers layer ≡ false
-    → outcome_at (with_value facts layer known) feeds layers ≡ outcome_at facts feeds layers
-unnamed facts layer known feeds layers none =
-    agree (with_value facts layer known) facts feeds layers
-    (λ q has. value_put facts layer known q ∙ other_layer (same layer q) (value_at facts q) known (has_first layers layer q none has))
+pub unnamed : (facts : FactTable) (layer : List ℕ) (known : Known) (feeds : Feeds) (image : Image) → has_text image.layers layer ≡ false
+    → outcome_at (with_value facts layer known) feeds image ≡ outcome_at facts feeds image
+unnamed facts layer known feeds image none =
+    agree (with_value facts layer known) facts feeds image
+    (λ q has. value_put facts layer known q ∙ other_layer (same layer q) (value_at facts q) known (has_first image.layers layer q none has))
 
 -- New facts of a layer for which the image does not wait.
 
@@ -105,11 +108,14 @@ all_stay facts layer known (l ∷ ls) new e =
     (value_put facts layer known l ∙ parts.0, all_stay facts layer known ls new parts.1)
 
 -- new facts change nothing for an image that does not wait for them
-pub fresh : (facts : FactTable) (layer : List ℕ) (known : Known) (feeds : Feeds) (layers : List (List ℕ)) → has_facts facts layer ≡ false
-    → waits_for layer (outcome_at facts feeds layers) ≡ false → outcome_at (with_value facts layer known) feeds layers ≡ outcome_at facts feeds layers
-fresh facts layer known feeds layers new waits =
+pub fresh : (facts : FactTable) (layer : List ℕ) (known : Known) (feeds : Feeds) (image : Image) → has_facts facts layer ≡ false
+    → waits_for layer (outcome_at facts feeds image) ≡ false → outcome_at (with_value facts layer known) feeds image ≡ outcome_at facts feeds image
+fresh facts layer known feeds image new waits =
+    let layers = image.layers in
     let with = with_value facts layer known in
-    ap (λ (first : Option (List ℕ)). outcome_by first feeds (coalesced (known_shapes with layers)))
-    (first_stays facts layer known layers new (first_waits layer (first_unknown facts layers) feeds (coalesced (known_shapes facts layers)) waits))
-    ∙ by_first (first_unknown facts layers) feeds (coalesced (known_shapes with layers)) (coalesced (known_shapes facts layers))
-    (λ e. ap coalesced (shapes_agree with facts layers (all_stay facts layer known layers new e)))
+    let before = coalesced (known_shapes facts layers) image.seals in
+    let after = coalesced (known_shapes with layers) image.seals in
+    ap (λ (first : Option (List ℕ)). outcome_by first feeds after)
+    (first_stays facts layer known layers new (first_waits layer (first_unknown facts layers) feeds before waits))
+    ∙ by_first (first_unknown facts layers) feeds after before
+    (λ e. ap (λ (shapes : List Shape). coalesced shapes image.seals) (shapes_agree with facts layers (all_stay facts layer known layers new e)))

@@ -1,13 +1,14 @@
 -- The facts of an image's layers.
-use Rattle.std.specs.Prelude.{◌≡◌, ℕ, ◌+◌, ◌<◌, ◌≤◌, List, [], ◌∷◌, ◌++◌, drop, length, Option, Some, None, slice_index_or, refl}
+use Rattle.std.specs.Prelude.{◌≡◌, ℕ, suc, ◌+◌, ◌<◌, ◌≤◌, not, cond, List, [], ◌∷◌, ◌++◌, drop, length, Option, Some, None, slice_index_or, refl}
 use Rattle.std.specs.List.{All, cons_option, filter_map, range_with_len}
+use Rattle.std.specs.Option.{is_some}
 use Rattle.std.proofs.Common.{append_assoc, arith, ap, get_or, sym, ◌∙◌}
 use Rattle.std.proofs.lemmas.List.{at_drop_more}
 use Rattle.std.proofs.lemmas.List.FromFn.{fill_by_all, get_or-range_with_len, length-range_with_len}
 use Rattle.cv_facts.specs.Reduction.{Known}
 use Rattle.cv_coalesce.specs.Coalesced.{at_places}
 use Rattle.cv_core_machine.specs.State.{value_at}
-use Rattle.cv_core_outcome.specs.Outcome.{FactTable, known_layers}
+use Rattle.cv_core_outcome.specs.Outcome.{FactTable, first_unknown, known_layers}
 
 -- the items at all places of a list are the list
 pub all_places : {A : Type 0} (other : A) (items : List A) (n : ℕ) → length items ≡ n → at_places other items (range_with_len 0 n) ≡ items
@@ -28,6 +29,16 @@ at_most f (x ∷ xs) = omega (arith, one_more (f x) (filter_map f xs) (length xs
 -- there are at most as many facts as layers
 pub known_at_most : (facts : FactTable) (layers : List (List ℕ)) (n : ℕ) → length layers ≤ n → length (known_layers facts layers) ≤ n
 known_at_most facts layers n h = omega (arith, at_most (value_at facts) layers, h)
+
+known_more : (found : Option Known) (l : List ℕ) (others : List Known) (layers : List (List ℕ)) (rest : Option (List ℕ)) → cond (not (is_some found)) (Some l) rest ≡ None
+    → (rest ≡ None → length others ≡ length layers) → length (cons_option found others) ≡ length (l ∷ layers)
+known_more None l others layers rest e h = absurd (cc e)
+known_more (Some known) l others layers rest e h = λ i. suc (h e i)
+
+-- there are as many facts as layers, if none of these lacks them
+pub all_known : (facts : FactTable) (layers : List (List ℕ)) → first_unknown facts layers ≡ None → length (known_layers facts layers) ≡ length layers
+all_known facts [] e = refl
+all_known facts (l ∷ ls) e = known_more (value_at facts l) l (known_layers facts ls) ls (first_unknown facts ls) e (all_known facts ls)
 
 -- the facts of the layers from the next one on
 known_next : (facts : FactTable) (layers : List (List ℕ)) (i : ℕ) (l : List ℕ) → i < length layers → l ≡ get_or layers i l

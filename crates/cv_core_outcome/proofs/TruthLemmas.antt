@@ -8,7 +8,7 @@ use Rattle.cv_base.specs.declared.«package».Package.{Package}
 use Rattle.cv_desk.specs.Stored.{Stored}
 use Rattle.cv_overlay.specs.declared.fault.ImageFault.{ImageFault}
 use Rattle.cv_facts.specs.Reduction.{IsRight, Known, shape_of}
-use Rattle.cv_scan.specs.Layers.{whole_layers}
+use Rattle.cv_facts.specs.declared.reduction.Shape.{Shape}
 use Rattle.cv_coalesce.specs.Coalesced.{coalesced}
 use Rattle.cv_coalesce.specs.Image.{answer_of, image_findings, image_packages}
 use Rattle.cv_coalesce.specs.declared.image.ImagePackages.{ImagePackages}
@@ -20,6 +20,7 @@ use Rattle.cv_core_machine.specs.Layers.{first_pending, is_indexed, is_indexed_a
 use Rattle.cv_core_machine.specs.Rows.{rows_of as machine_rows, scan_rows}
 use Rattle.cv_core_machine.specs.Scans.{StatesEveryLayer, Trees, image_scan, trees_of}
 use Rattle.cv_core_machine.specs.State.{Feeds, Images, Layers, State, value_at}
+use Rattle.cv_core_machine.specs.declared.image.Image.{Image}
 use Rattle.cv_tree.specs.Entries.{map_values, remade_entries, rows_of}
 use Rattle.cv_core_outcome.specs.Facts.{pending_layer}
 use Rattle.cv_core_outcome.specs.Outcome.{FactTable, first_unknown, has_facts, known_layers, known_shapes, matched, outcome_at, outcome_by}
@@ -67,22 +68,22 @@ waits_first None feeds (packages.Good ps) = refl
 waits_first None feeds (packages.Bad fault) = refl
 
 -- an image waits for the first of its layers that is not Indexed
-pub waiting_is : (tree : List ℕ → Option (Option (List Stored))) (table : Layers) (facts : FactTable) (feeds : Feeds) (layers : List (List ℕ)) → AreFactsOf tree table facts
-    → pending_layer (outcome_at facts feeds layers) ≡ first_pending table layers
-waiting_is tree table facts feeds layers are =
-    waits_first (first_unknown facts layers) feeds (coalesced (known_shapes facts layers)) ∙ first_same table facts layers are.indexed
+pub waiting_is : (tree : List ℕ → Option (Option (List Stored))) (table : Layers) (facts : FactTable) (feeds : Feeds) (image : Image) → AreFactsOf tree table facts
+    → pending_layer (outcome_at facts feeds image) ≡ first_pending table image.layers
+waiting_is tree table facts feeds image are =
+    waits_first (first_unknown facts image.layers) feeds (coalesced (known_shapes facts image.layers) image.seals) ∙ first_same table facts image.layers are.indexed
 
 -- and then its outcome is this layer alone
-pub pending_is : (tree : List ℕ → Option (Option (List Stored))) (table : Layers) (facts : FactTable) (feeds : Feeds) (layers : List (List ℕ)) (layer : List ℕ) → AreFactsOf tree table facts
-    → first_pending table layers ≡ Some layer → outcome_at facts feeds layers ≡ Pending layer
-pending_is tree table facts feeds layers layer are first =
-    ap (λ (f : Option (List ℕ)). outcome_by f feeds (coalesced (known_shapes facts layers))) (first_same table facts layers are.indexed ∙ first)
+pub pending_is : (tree : List ℕ → Option (Option (List Stored))) (table : Layers) (facts : FactTable) (feeds : Feeds) (image : Image) (layer : List ℕ) → AreFactsOf tree table facts
+    → first_pending table image.layers ≡ Some layer → outcome_at facts feeds image ≡ Pending layer
+pending_is tree table facts feeds image layer are first =
+    ap (λ (f : Option (List ℕ)). outcome_by f feeds (coalesced (known_shapes facts image.layers) image.seals)) (first_same table facts image.layers are.indexed ∙ first)
 
 -- The outcome of an image.
 
--- the packages of an image as its trees have them
-abbrev tree_packages : Trees → List (List ℕ) → Result (List Package) ImageFault
-tree_packages trees layers = image_packages (whole_layers (map trees layers))
+-- the packages of an image as its trees have them, or why it has none
+abbrev tree_packages : Trees → Image → Result (List Package) ImageFault
+tree_packages trees image = image_packages (map trees image.layers) image.seals
 
 -- packages are not asked for where a layer has no facts
 pub by_first : (first : Option (List ℕ)) (feeds : Feeds) (ones others : ImagePackages) → (first ≡ None → ones ≡ others) → outcome_by first feeds ones ≡ outcome_by first feeds others
@@ -90,12 +91,15 @@ by_first (Some l) feeds ones others h = refl
 by_first None feeds ones others h = ap (matched feeds) (h refl)
 
 -- the outcome by the facts of the Indexed layers is that by the trees
-pub outcome_is : (tree : List ℕ → Option (Option (List Stored))) (table : Layers) (facts : FactTable) (feeds : Feeds) (layers : List (List ℕ)) → StatesEveryLayer tree → AreFactsOf tree table facts
-    → outcome_at facts feeds layers ≡ outcome_by (first_pending table layers) feeds (answer_of (tree_packages (trees_of tree) layers))
-outcome_is tree table facts feeds layers all are =
-    by_first (first_unknown facts layers) feeds (coalesced (known_shapes facts layers)) (answer_of (tree_packages (trees_of tree) layers))
-    (λ e. ap coalesced (shapes_are tree table facts layers all are e) ∙ stored_image (map (trees_of tree) layers))
-    ∙ ap (λ (first : Option (List ℕ)). outcome_by first feeds (answer_of (tree_packages (trees_of tree) layers))) (first_same table facts layers are.indexed)
+pub outcome_is : (tree : List ℕ → Option (Option (List Stored))) (table : Layers) (facts : FactTable) (feeds : Feeds) (image : Image) → StatesEveryLayer tree → AreFactsOf tree table facts
+    → outcome_at facts feeds image ≡ outcome_by (first_pending table image.layers) feeds (answer_of (tree_packages (trees_of tree) image))
+outcome_is tree table facts feeds image all are =
+    let layers = image.layers in
+    by_first (first_unknown facts layers) feeds (coalesced (known_shapes facts layers) image.seals) (answer_of (tree_packages (trees_of tree) image))
+    (λ e.
+    ap (λ (shapes : List Shape). coalesced shapes image.seals) (shapes_are tree table facts layers all are e)
+    ∙ stored_image (map (trees_of tree) layers) image.seals)
+    ∙ ap (λ (first : Option (List ℕ)). outcome_by first feeds (answer_of (tree_packages (trees_of tree) image))) (first_same table facts layers are.indexed)
 
 report_by : (first : Option (List ℕ)) (generation : ℕ) (feeds : Feeds) (found : Result (List Package) ImageFault)
     → report_with generation (outcome_by first feeds (answer_of found)) ≡ pending_report first generation (image_findings feeds found)
@@ -104,16 +108,16 @@ report_by None generation feeds (Ok ps) = refl
 report_by None generation feeds (Err bad) = refl
 
 -- and so is the report
-pub report_is : (tree : List ℕ → Option (Option (List Stored))) (state : State) (facts : FactTable) (layers : List (List ℕ)) → StatesEveryLayer tree → AreFactsOf tree state.layers facts
-    → report_with state.generation (outcome_at facts state.feeds layers) ≡ report_at (Some layers) (trees_of tree) state
-report_is tree state facts layers all are =
-    ap (report_with state.generation) (outcome_is tree state.layers facts state.feeds layers all are)
-    ∙ report_by (first_pending state.layers layers) state.generation state.feeds (tree_packages (trees_of tree) layers)
-    ∙ ap (pending_report (first_pending state.layers layers) state.generation) (sym (scan_is (whole_layers (map (trees_of tree) layers)) state.feeds))
+pub report_is : (tree : List ℕ → Option (Option (List Stored))) (state : State) (facts : FactTable) (image : Image) → StatesEveryLayer tree → AreFactsOf tree state.layers facts
+    → report_with state.generation (outcome_at facts state.feeds image) ≡ report_at (Some image) (trees_of tree) state
+report_is tree state facts image all are =
+    ap (report_with state.generation) (outcome_is tree state.layers facts state.feeds image all are)
+    ∙ report_by (first_pending state.layers image.layers) state.generation state.feeds (tree_packages (trees_of tree) image)
+    ∙ ap (pending_report (first_pending state.layers image.layers) state.generation) (sym (scan_is (map (trees_of tree) image.layers) image.seals state.feeds))
 
 all_reported : (tree : List ℕ → Option (Option (List Stored))) (state : State) (facts : FactTable) (images : Images) → StatesEveryLayer tree → AreFactsOf tree state.layers facts
     → map_values (report_with state.generation) (map_values (outcome_at facts state.feeds) images)
-    ≡ map (λ (image : List ℕ × List (List ℕ)). (image.0, report_at (Some image.1) (trees_of tree) state)) images
+    ≡ map (λ (image : List ℕ × Image). (image.0, report_at (Some image.1) (trees_of tree) state)) images
 all_reported tree state facts [] all are = refl
 all_reported tree state facts (image ∷ images) all are = λ i. (image.0, report_is tree state facts image.1 all are i) ∷ all_reported tree state facts images all are i
 
@@ -130,8 +134,8 @@ rematched_by None before after (packages.Good ps) = refl
 rematched_by None before after (packages.Bad fault) = refl
 
 -- an outcome that is made anew is that with the feeds after the update
-pub rematched_is : (facts : FactTable) (before after : Feeds) (layers : List (List ℕ)) → rematched after (outcome_at facts before layers) ≡ outcome_at facts after layers
-rematched_is facts before after layers = rematched_by (first_unknown facts layers) before after (coalesced (known_shapes facts layers))
+pub rematched_is : (facts : FactTable) (before after : Feeds) (image : Image) → rematched after (outcome_at facts before image) ≡ outcome_at facts after image
+rematched_is facts before after image = rematched_by (first_unknown facts image.layers) before after (coalesced (known_shapes facts image.layers) image.seals)
 
 pub all_rematched : (facts : FactTable) (before after : Feeds) (images : Images)
     → remade_entries (λ _. rematched after) (map_values (outcome_at facts before) images) ≡ map_values (outcome_at facts after) images
@@ -139,7 +143,7 @@ all_rematched facts before after [] = refl
 all_rematched facts before after (image ∷ images) = λ i. (image.0, rematched_is facts before after image.1 i) ∷ all_rematched facts before after images i
 
 -- the rows of one image before those of others
-rows_more : (first : Option (List ℕ)) (image : List ℕ × List (List ℕ)) (others : Images) (rows : (List ℕ × List (List ℕ)) → List Row) (before after : Feeds)
+rows_more : (first : Option (List ℕ)) (image : List ℕ × Image) (others : Images) (rows : (List ℕ × Image) → List Row) (before after : Feeds)
     (found : Result (List Package) ImageFault) (rest : List Row)
     → rows image ≡ scan_rows image.0 (image_findings before found) (image_findings after found) → rest ≡ flat_map rows others
     → update_rows after image.0 (outcome_by first before (answer_of found)) ++ rest ≡ flat_map rows (cond (is_none first) (image ∷ others) others)
@@ -148,19 +152,19 @@ rows_more None image others rows before after (Ok ps) rest e h = λ i. sym e i +
 rows_more None image others rows before after (Err bad) rest e h = λ i. sym e i ++ h i
 
 -- the rows of images by their scans
-abbrev two_scans : Trees → Feeds → Feeds → (List ℕ × List (List ℕ)) → List Row
+abbrev two_scans : Trees → Feeds → Feeds → (List ℕ × Image) → List Row
 two_scans trees before after image = scan_rows image.0 (image_scan trees before image.1) (image_scan trees after image.1)
 
 rows_are : (tree : List ℕ → Option (Option (List Stored))) (table : Layers) (facts : FactTable) (before after : Feeds) (images : Images) → StatesEveryLayer tree → AreFactsOf tree table facts
     → rows_of (update_rows after) (map_values (outcome_at facts before) images)
-    ≡ flat_map (two_scans (trees_of tree) before after) (filter (λ (image : List ℕ × List (List ℕ)). is_indexed table image.1) images)
+    ≡ flat_map (two_scans (trees_of tree) before after) (filter (λ (image : List ℕ × Image). is_indexed table image.1.layers) images)
 rows_are tree table facts before after [] all are = refl
 rows_are tree table facts before after (image ∷ images) all are =
     let rest = rows_of (update_rows after) (map_values (outcome_at facts before) images) in
     ap (λ o. update_rows after image.0 o ++ rest) (outcome_is tree table facts before image.1 all are)
-    ∙ rows_more (first_pending table image.1) image (filter (λ (image : List ℕ × List (List ℕ)). is_indexed table image.1) images) (two_scans (trees_of tree) before after)
+    ∙ rows_more (first_pending table image.1.layers) image (filter (λ (image : List ℕ × Image). is_indexed table image.1.layers) images) (two_scans (trees_of tree) before after)
     before after (tree_packages (trees_of tree) image.1) rest
-    (λ i. scan_rows image.0 (scan_is (whole_layers (map (trees_of tree) image.1)) before i) (scan_is (whole_layers (map (trees_of tree) image.1)) after i))
+    (λ i. scan_rows image.0 (scan_is (map (trees_of tree) image.1.layers) image.1.seals before i) (scan_is (map (trees_of tree) image.1.layers) image.1.seals after i))
     (rows_are tree table facts before after images all are)
 
 -- the rows that an update adds are those of the machine

@@ -10,6 +10,7 @@ use Rattle.cv_facts.specs.Reduction.{Known}
 use Rattle.cv_facts.specs.declared.reduction.Shape.{Shape}
 use Rattle.cv_findings.specs.Pairs.{pair_count}
 use Rattle.cv_core_machine.specs.State.{Feeds, value_at}
+use Rattle.cv_core_machine.specs.declared.image.Image.{Image}
 use Rattle.cv_match.specs.Findings.{findings}
 use Rattle.cv_core_outcome.specs.declared.outcome.Outcome.{Outcome}
 use Rattle.cv_core_outcome.specs.declared.outcome.Outcome.TheVariants.{Bad, Good, Pending}
@@ -44,10 +45,10 @@ abbrev pub outcome_by : Option (List ℕ) → Feeds → ImagePackages → Outcom
 outcome_by (Some layer) feeds found = Pending layer
 outcome_by None feeds found = matched feeds found
 
--- the outcome of an image: takes the facts of layers, the feeds, each by its name with its records, and the layers of the image,
--- the base first
-abbrev pub outcome_at : FactTable → Feeds → List (List ℕ) → Outcome
-outcome_at facts feeds layers = outcome_by (first_unknown facts layers) feeds (coalesced (known_shapes facts layers))
+-- the outcome of an image: takes the facts of layers, the feeds, each by its name with its records, and the image, by its layers,
+-- the base first, and their stated seals
+abbrev pub outcome_at : FactTable → Feeds → Image → Outcome
+outcome_at facts feeds image = outcome_by (first_unknown facts image.layers) feeds (coalesced (known_shapes facts image.layers) image.seals)
 
 -- how many pairs there are of a package of the image and a record under one of its keys
 abbrev pub outcome_pairs : Feeds → Outcome → ℕ

@@ -45,16 +45,18 @@ pub fn known_layers<D: Desk>(
     Ok(known)
 }
 
-/// The packages of an image of layers with these facts, the base first, or why it has none.
+/// The packages of an image of layers with these facts, the base first, and with these stated seals, or why it has none.
 pub fn packages_of<D: Desk>(
     alloc: Global,
     known: &[LayerFacts<D>],
+    seals: &[Option<Digest>],
 ) -> Result<ImagePackages, NoMemory>
-    requires { length known.now ≤ MAX_LAYERS }
-    ensures { IfOk result (λ found. found ≡ coalesced (map (λ facts. facts.shape) known.now)) }
+    requires at_most_128_layers { length known.now ≤ MAX_LAYERS }
+    requires as_many_seals { length seals.now ≡ length known.now }
+    ensures { IfOk result (λ found. found ≡ coalesced (map (λ facts. facts.shape) known.now) seals.now) }
 {
     let places = places(alloc, known.len() as u32)?;
-    coalesce(alloc, known, &places)
+    coalesce(alloc, known, &places, seals)
 }
 
 /// The places of so many layers, in order.

@@ -14,24 +14,27 @@ use cv_tree::{Shared, Tree};
 use std::alloc::Global;
 use std::sync::ledger::Ledger;
 
-/// The outcome of an image of these layers, the base first. A layer may stand more than once. A layer without facts is named
-/// before any fault of a layer. Each try of a record is a step, and there are none where the image has no packages.
+/// The outcome of an image of these layers, the base first, and their stated seals. A layer may stand more than once. A layer
+/// without facts is named before any fault of a layer. Each try of a record is a step, and there are none where the image has no
+/// packages.
 pub fn outcome_of<D: Desk + Drop, L: Ledger>(
     alloc: Global,
     facts: &Tree<Digest, Shared<LayerFacts<D>>>,
     feeds: &Feeds,
     layers: &[Digest],
+    seals: &[Option<Digest>],
     steps: &mut Steps<L>,
 ) -> Result<Outcome, NoMemory>
     requires at_most_128_layers { length layers.now ≤ MAX_LAYERS }
-    ensures value { IfOk result (λ outcome. outcome ≡ outcome_at facts.now feeds.now.feeds layers.now) }
-    ensures counted { steps.new ≤ steps.old + outcome_pairs feeds.now.feeds (outcome_at facts.now feeds.now.feeds layers.now) }
+    requires as_many_seals { length seals.now ≡ length layers.now }
+    ensures value { IfOk result (λ outcome. outcome ≡ outcome_at facts.now feeds.now.feeds (record { layers = layers.now; seals = seals.now })) }
+    ensures counted { steps.new ≤ steps.old + outcome_pairs feeds.now.feeds (outcome_at facts.now feeds.now.feeds (record { layers = layers.now; seals = seals.now })) }
 {
     if let Some(layer) = first_unknown(facts, layers) {
         return Ok(Outcome::Pending(layer));
     }
     let known = known_layers(alloc, facts, layers)?;
-    let packages = packages_of(alloc, &known)?;
+    let packages = packages_of(alloc, &known, seals)?;
     by_packages(alloc, packages, feeds, steps)
 }
 

@@ -8,6 +8,7 @@ ghost use Rattle.cv_core_machine.specs.Layers.{first_pending};
 ghost use Rattle.cv_core_machine.specs.Rows.{rows_of as machine_rows};
 ghost use Rattle.cv_core_machine.specs.Scans.{StatesEveryLayer, trees_of};
 ghost use Rattle.cv_core_machine.specs.State.{Feeds, Images, State, value_at, with_value};
+ghost use Rattle.cv_core_machine.specs.declared.image.Image.{Image};
 ghost use Rattle.cv_core_outcome.specs.Facts.{pending_layer, waits_for};
 ghost use Rattle.cv_core_outcome.specs.Outcome.{FactTable, first_unknown, has_facts, outcome_at};
 ghost use Rattle.cv_core_outcome.specs.Truth.{AreFactsOf, report_with};
@@ -19,8 +20,8 @@ ghost use Rattle.cv_tree.specs.Entries.{map_values, remade_entries, rows_of};
 /// Why reports are read from outcomes. If a desk's type is known, and the facts are those of the Indexed layers, the report by an
 /// image's outcome is that of the machine, `report`, and the reports of all images are those of the machine's board, `board`.
 pub fn image_laws()
-    ensures report { (tree : List ℕ → Option (Option (List Stored))) (state : State) (facts : FactTable) (layers : List (List ℕ)) → StatesEveryLayer tree → AreFactsOf tree state.layers facts
-        → report_with state.generation (outcome_at facts state.feeds layers) ≡ report_at (Some layers) (trees_of tree) state }
+    ensures report { (tree : List ℕ → Option (Option (List Stored))) (state : State) (facts : FactTable) (image : Image) → StatesEveryLayer tree → AreFactsOf tree state.layers facts
+        → report_with state.generation (outcome_at facts state.feeds image) ≡ report_at (Some image) (trees_of tree) state }
     ensures board { (tree : List ℕ → Option (Option (List Stored))) (state : State) (facts : FactTable) → StatesEveryLayer tree → AreFactsOf tree state.layers facts
         → map_values (report_with state.generation) (map_values (outcome_at facts state.feeds) state.images) ≡ (board_of (trees_of tree) state).reports }
 {}
@@ -32,31 +33,31 @@ pub fn image_laws()
 pub fn pending_laws()
     ensures first { (tree : List ℕ → Option (Option (List Stored))) (state : State) (facts : FactTable) (layers : List (List ℕ)) → AreFactsOf tree state.layers facts
         → first_unknown facts layers ≡ first_pending state.layers layers }
-    ensures waiting { (tree : List ℕ → Option (Option (List Stored))) (state : State) (facts : FactTable) (feeds : Feeds) (layers : List (List ℕ)) → AreFactsOf tree state.layers facts
-        → pending_layer (outcome_at facts feeds layers) ≡ first_pending state.layers layers }
-    ensures outcome { (tree : List ℕ → Option (Option (List Stored))) (state : State) (facts : FactTable) (feeds : Feeds) (layers : List (List ℕ)) (layer : List ℕ) → AreFactsOf tree state.layers facts
-        → outcome_at facts feeds layers ≡ Outcome.Pending layer ↔ first_pending state.layers layers ≡ Some layer }
-    ensures report { (tree : List ℕ → Option (Option (List Stored))) (state : State) (facts : FactTable) (feeds : Feeds) (layers : List (List ℕ)) (layer : List ℕ) (generation : ℕ) → AreFactsOf tree state.layers facts
-        → first_pending state.layers layers ≡ Some layer → report_with generation (outcome_at facts feeds layers) ≡ ReportOutcome.Pending layer }
+    ensures waiting { (tree : List ℕ → Option (Option (List Stored))) (state : State) (facts : FactTable) (feeds : Feeds) (image : Image) → AreFactsOf tree state.layers facts
+        → pending_layer (outcome_at facts feeds image) ≡ first_pending state.layers image.layers }
+    ensures outcome { (tree : List ℕ → Option (Option (List Stored))) (state : State) (facts : FactTable) (feeds : Feeds) (image : Image) (layer : List ℕ) → AreFactsOf tree state.layers facts
+        → outcome_at facts feeds image ≡ Outcome.Pending layer ↔ first_pending state.layers image.layers ≡ Some layer }
+    ensures report { (tree : List ℕ → Option (Option (List Stored))) (state : State) (facts : FactTable) (feeds : Feeds) (image : Image) (layer : List ℕ) (generation : ℕ) → AreFactsOf tree state.layers facts
+        → first_pending state.layers image.layers ≡ Some layer → report_with generation (outcome_at facts feeds image) ≡ ReportOutcome.Pending layer }
 {}
 
-/// Where an outcome changes with the facts of layers. It depends on the facts of the image's layers alone, `agree`, so that those of
-/// a layer that the image does not name change nothing, `unnamed`. The first facts of a layer change nothing but for the images that
+/// Where an outcome changes with the facts of layers. Of these it depends on those of the image's layers alone, `agree`, so that those
+/// of a layer that the image does not name change nothing, `unnamed`. The first facts of a layer change nothing but for the images that
 /// wait for this layer, `fresh`.
 pub fn fact_laws()
-    ensures agree { (ones others : FactTable) (feeds : Feeds) (layers : List (List ℕ)) → ((layer : List ℕ) → has_text layers layer ≡ true → value_at ones layer ≡ value_at others layer)
-        → outcome_at ones feeds layers ≡ outcome_at others feeds layers }
-    ensures unnamed { (facts : FactTable) (layer : List ℕ) (known : Known) (feeds : Feeds) (layers : List (List ℕ)) → has_text layers layer ≡ false
-        → outcome_at (with_value facts layer known) feeds layers ≡ outcome_at facts feeds layers }
-    ensures fresh { (facts : FactTable) (layer : List ℕ) (known : Known) (feeds : Feeds) (layers : List (List ℕ)) → has_facts facts layer ≡ false
-        → waits_for layer (outcome_at facts feeds layers) ≡ false → outcome_at (with_value facts layer known) feeds layers ≡ outcome_at facts feeds layers }
+    ensures agree { (ones others : FactTable) (feeds : Feeds) (image : Image) → ((layer : List ℕ) → has_text image.layers layer ≡ true → value_at ones layer ≡ value_at others layer)
+        → outcome_at ones feeds image ≡ outcome_at others feeds image }
+    ensures unnamed { (facts : FactTable) (layer : List ℕ) (known : Known) (feeds : Feeds) (image : Image) → has_text image.layers layer ≡ false
+        → outcome_at (with_value facts layer known) feeds image ≡ outcome_at facts feeds image }
+    ensures fresh { (facts : FactTable) (layer : List ℕ) (known : Known) (feeds : Feeds) (image : Image) → has_facts facts layer ≡ false
+        → waits_for layer (outcome_at facts feeds image) ≡ false → outcome_at (with_value facts layer known) feeds image ≡ outcome_at facts feeds image }
 {}
 
 /// Why an update needs the outcomes alone. Those that it makes are the outcomes with the feeds after it, of one image, `image`, and
 /// of all, `images`. The rows that it adds are those of the machine, if a desk's type is known, and the facts are those of the
 /// Indexed layers, `rows`.
 pub fn update_laws()
-    ensures image { (facts : FactTable) (before after : Feeds) (layers : List (List ℕ)) → rematched after (outcome_at facts before layers) ≡ outcome_at facts after layers }
+    ensures image { (facts : FactTable) (before after : Feeds) (image : Image) → rematched after (outcome_at facts before image) ≡ outcome_at facts after image }
     ensures images { (facts : FactTable) (before after : Feeds) (images : Images)
         → remade_entries (λ _. rematched after) (map_values (outcome_at facts before) images) ≡ map_values (outcome_at facts after) images }
     ensures rows { (tree : List ℕ → Option (Option (List Stored))) (state : State) (facts : FactTable) (after : Feeds) → StatesEveryLayer tree → AreFactsOf tree state.layers facts

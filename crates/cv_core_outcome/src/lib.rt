@@ -1,8 +1,9 @@
 //! The outcome of an image: all that a report of it is read from, so that reports are read without matching. It is made from
-//! the facts of the image's layers and the feeds, and an update of the feeds makes it anew from the packages that it keeps.
+//! the facts of the image's layers, their stated seals and the feeds, and an update of the feeds makes it anew from the packages
+//! that it keeps.
 //!
 //! ```text
-//! match outcome_of(alloc, &facts, &feeds, &layers, &mut steps)? {
+//! match outcome_of(alloc, &facts, &feeds, &layers, &seals, &mut steps)? {
 //!     Outcome::Pending(layer) => wait_for(layer),
 //!     Outcome::Bad(fault) => refuse(fault.value()),
 //!     Outcome::Good { findings, .. } => report(findings.seq()),

@@ -3,7 +3,7 @@ use cv_base::{Digest, NoMemory, Package, Seq};
 use cv_overlay::ImageFault;
 use cv_tree::{Share, Shared};
 
-/// What is known of a registered image, by the facts of its layers and the feeds. Copies share all of it.
+/// What is known of a registered image, by the facts of its layers, their stated seals and the feeds. Copies share all of it.
 #[derive(Drop)]
 pub enum Outcome {
     /// The first layer of the image that has no facts.
