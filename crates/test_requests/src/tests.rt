@@ -3,3 +3,4 @@ mod osv_text;
 mod read;
 mod record;
 mod records;
+mod seals;
