@@ -1,7 +1,7 @@
 -- Examples of lines, of their tags, and of their order.
-use Rattle.std.proofs.Common.{◌≡◌, ℕ, List, [], ◌∷◌, arith, inl, inr, true, Some, refl}
+use Rattle.std.proofs.Common.{◌≡◌, ℕ, List, [], ◌∷◌, arith, inl, inr, true, Some, None, refl}
 use Rattle.std.specs.Prelude.{codes}
-use Rattle.serde_json.specs.Data.{member, no_members, number, object, string, unsigned}
+use Rattle.serde_json.specs.Data.{array, item, member, no_items, no_members, null, number, object, string, unsigned}
 use Rattle.cv_base.specs.Digest.{digest_text}
 use Rattle.cv_core_records.specs.declared.event.Act.TheVariants as act
 use Rattle.cv_core_records.specs.declared.event.By.TheVariants as by
@@ -9,7 +9,8 @@ use Rattle.cv_core_records.specs.declared.event.EventEntry.{EventEntry}
 use Rattle.cv_core_records.specs.declared.read.Answer.TheVariants as answer
 use Rattle.cv_core_records.specs.declared.read.ReadEntry.{ReadEntry}
 use Rattle.cv_core_records.specs.declared.reply.Reply.TheVariants as reply
-use Rattle.cv_transcript.specs.Event.{event_data}
+use Rattle.cv_transcript.specs.Event.{event_data, put_reply}
+use Rattle.cv_transcript.specs.Members.{digest_data}
 use Rattle.cv_transcript.specs.Order.{AreAscending, Precedes, reads_by, reads_of}
 use Rattle.cv_transcript.specs.Read.{read_data}
 use Rattle.cv_transcript.specs.Tag.{LaneEvent, LaneRead, tag_of}
@@ -20,6 +21,18 @@ claim : (layer : List ℕ) → event_data (record { number = 2; by = by.Worker 0
     ≡ object (member (codes "at") (number (unsigned 2)) (member (codes "event") (string (codes "claim")) (member (codes "layer") (string (digest_text layer))
     (member (codes "reply") (string (codes "claimed")) (member (codes "worker") (number (unsigned 0)) no_members)))))
 claim layer = refl
+
+-- a conflict has the kept seals where the image has one, with null for a layer without
+conflict : (a b seal : List ℕ) → put_reply (reply.Conflict (a ∷ b ∷ []) (None ∷ Some seal ∷ [])) no_members
+    ≡ member (codes "kept") (array (item (digest_data a) (item (digest_data b) no_items)))
+    (member (codes "kept_seals") (array (item null (item (digest_data seal) no_items)))
+    (member (codes "reply") (string (codes "conflict")) no_members))
+conflict a b seal = refl
+
+-- and no such member where it has none
+unsealed_conflict : (a : List ℕ) → put_reply (reply.Conflict (a ∷ []) (None ∷ [])) no_members
+    ≡ member (codes "kept") (array (item (digest_data a) no_items)) (member (codes "reply") (string (codes "conflict")) no_members)
+unsealed_conflict a = refl
 
 -- a read that ran out of memory has neither its word nor its query
 no_memory : read_data (record { front = 4; lane = 1; line = 9; answer = answer.NoMemory })

@@ -1,7 +1,8 @@
 -- The value of an entry has no number with a point and nests at most six deep.
-use Rattle.std.proofs.Common.{◌≡◌, ℕ, suc, ◌≤◌, false, List, [], ◌∷◌, map, Ordering, Less, Equal, Greater, refl, arith}
+use Rattle.std.proofs.Common.{◌≡◌, ℕ, suc, ◌≤◌, Bool, true, false, List, [], ◌∷◌, map, Ordering, Less, Equal, Greater, refl, arith}
 use Rattle.std.proofs.lemmas.Bool.{or_parts}
-use Rattle.std.specs.Prelude.{codes, Option, Some, None}
+use Rattle.std.specs.Prelude.{codes, cond, Option, Some, None, is_some}
+use Rattle.std.specs.List.{list_any}
 use Rattle.std.specs.Ordering.{match_ordering, nat_cmp}
 use Rattle.std.specs.Cmp.Lexicographic.{slice_cmp}
 use Rattle.serde_json.specs.Data.{Data, Items, Members, array, depth, items_depth, member, members_depth, no_members, number, object, put, string, unsigned}
@@ -10,7 +11,7 @@ use Rattle.cv_base.specs.Digest.{digest_text}
 use Rattle.cv_base.specs.declared.finding.Finding.{Finding}
 use Rattle.cv_base.specs.declared.finding.Row.{Row}
 use Rattle.cv_overlay.specs.declared.fault.ImageFault.{ImageFault}
-use Rattle.cv_overlay.specs.declared.fault.ImageFault.TheVariants.{NoLayer, BadTree, BadFile, TooLarge}
+use Rattle.cv_overlay.specs.declared.fault.ImageFault.TheVariants.{NoLayer, BadTree, BadSeal, BadFile, TooLarge}
 use Rattle.cv_overlay.specs.declared.fault.TreeFault.{TreeFault}
 use Rattle.cv_overlay.specs.declared.fault.TreeFault.TheVariants.{Unsorted, NoParent, BadMark, TooMany}
 use Rattle.cv_core_records.specs.declared.event.Act.{Act}
@@ -33,9 +34,9 @@ use Rattle.cv_transcript.specs.declared.entry.Entry.{Entry}
 use Rattle.cv_transcript.specs.declared.entry.Entry.TheVariants.{Refused, Event, Read}
 use Rattle.cv_scan_output.specs.Bad.{bad_data, bad_tree_data}
 use Rattle.cv_transcript.specs.Entry.{entry_data}
-use Rattle.cv_transcript.specs.Event.{put_by, put_details, put_subject}
+use Rattle.cv_transcript.specs.Event.{put_by, put_details, put_seals, put_subject}
 use Rattle.cv_scan_output.specs.Finding.{finding_data, fixed_data, items_of}
-use Rattle.cv_transcript.specs.Members.{digest_data, put_number, put_text}
+use Rattle.cv_transcript.specs.Members.{digest_data, put_number, put_text, seal_data, seals_data}
 use Rattle.cv_transcript.specs.Read.{answer_members, head_data, list_members, page_members, reply_members, report_members}
 use Rattle.cv_scan_output.specs.Refusal.{bad_request_data, refusal_data}
 use Rattle.cv_transcript.specs.Rows.{row_data, rows_data}
@@ -105,10 +106,20 @@ line_plain ms q = (q.0, omega (arith, q.1))
 digest_plain : (digest : List ℕ) → IsPlain 4 (digest_data digest)
 digest_plain digest = (refl, omega arith)
 
+seal_plain : (seal : Option (List ℕ)) → IsPlain 4 (seal_data seal)
+seal_plain None = (refl, omega arith)
+seal_plain (Some digest) = (refl, omega arith)
+
+seals_plain : (seals : List (Option (List ℕ))) (ms : Members) → ArePlain 5 ms → ArePlain 5 (put_seals seals ms)
+seals_plain seals ms q = by_test (list_any is_some seals) where
+  by_test : (b : Bool) → ArePlain 5 (cond b (put (codes "kept_seals") (seals_data seals) ms) ms)
+  by_test true = put_list seal_data _ seals ms seal_plain q
+  by_test false = q
+
 details_plain : (r : Reply) (ms : Members) → ArePlain 5 ms → ArePlain 5 (put_details r ms)
 details_plain reply.Registered ms q = q
 details_plain reply.Already ms q = q
-details_plain (reply.Conflict kept) ms q = put_list digest_data _ kept ms digest_plain q
+details_plain (reply.Conflict kept seals) ms q = put_list digest_data _ kept _ digest_plain (seals_plain seals ms q)
 details_plain reply.TooManyImages ms q = q
 details_plain reply.Dropped ms q = q
 details_plain reply.NotRegistered ms q = q
@@ -162,6 +173,7 @@ tree_plain layer TooMany = (refl, omega arith)
 bad_plain : (bad : ImageFault) → IsPlain 5 (bad_data bad)
 bad_plain (NoLayer layer) = (refl, omega arith)
 bad_plain (BadTree layer fault) = tree_plain layer fault
+bad_plain (BadSeal layer stated found) = (refl, omega arith)
 bad_plain (BadFile path line what) = (refl, omega arith)
 bad_plain (TooLarge path) = (refl, omega arith)
 
@@ -201,7 +213,7 @@ answer_plain answer.NoMemory = reply_plain (codes "no_memory")
 -- ---- refused lines
 
 request_depth : (line : ℕ) (what : RequestWhat) → depth (bad_request_data line what) ≡ 1
-request_depth line what = each_request (λ (d : Data). depth d ≡ 1) line (λ index. refl) (λ name. refl) what
+request_depth line what = each_request (λ (d : Data). depth d ≡ 1) line (λ index name. refl) (λ name. refl) what
 
 refusal_depth : (line : ℕ) (e : RequestError) → depth (refusal_data line e) ≡ 1
 refusal_depth line (error.BadRequest what) = request_depth line what

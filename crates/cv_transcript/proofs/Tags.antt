@@ -1,7 +1,8 @@
 -- The tag of the value of an entry is the entry's own.
-use Rattle.std.proofs.Common.{◌≡◌, ℕ, ◌==◌, true, false, List, [], ◌∷◌, Some, None, refl, sym, ap, ◌∙◌, true≢false, ◌≤◌, subst, arith}
-use Rattle.std.specs.Prelude.{codes, Option, option_and_then, Result, Ok, Err, OnOk}
+use Rattle.std.proofs.Common.{◌≡◌, ℕ, ◌==◌, Bool, true, false, List, [], ◌∷◌, Some, None, refl, sym, ap, ◌∙◌, true≢false, ◌≤◌, subst, arith}
+use Rattle.std.specs.Prelude.{codes, cond, Option, is_some, option_and_then, Result, Ok, Err, OnOk}
 use Rattle.std.specs.Cmp.Lexicographic.{pointwise, nat_list_eq_equiv}
+use Rattle.std.specs.List.{list_any}
 use Rattle.serde_json.specs.Data.{Data, Members, depth, no_members, number, object, put, string, unsigned}
 use Rattle.serde_json.specs.Find.{as_str, get_member}
 use Rattle.serde_json.specs.Read.{max_depth, read}
@@ -26,8 +27,8 @@ use Rattle.cv_request.specs.declared.error.RequestWhat.{RequestWhat}
 use Rattle.cv_transcript.specs.declared.entry.Entry.{Entry}
 use Rattle.cv_transcript.specs.declared.entry.Entry.TheVariants.{Refused, Event, Read}
 use Rattle.cv_transcript.specs.Entry.{entry_data, entry_json}
-use Rattle.cv_transcript.specs.Event.{act_name, event_data, put_by, put_details, put_reply, put_subject}
-use Rattle.cv_transcript.specs.Members.{put_number, put_text}
+use Rattle.cv_transcript.specs.Event.{act_name, event_data, put_by, put_details, put_reply, put_seals, put_subject}
+use Rattle.cv_transcript.specs.Members.{put_number, put_text, seals_data}
 use Rattle.cv_transcript.specs.Read.{answer_members}
 use Rattle.cv_scan_output.specs.Refusal.{bad_request_data, refusal_data}
 use Rattle.cv_transcript.specs.Tag.{Tag, RefusedLine, LaneEvent, WorkerEvent, LaneRead, entry_tag, event_tag, is_no_memory_answer, is_no_memory_error, layer_of, tag_of, tag_of_json}
@@ -48,12 +49,18 @@ other q k d ms h = get_member-put_other q k d ms (λ e. true≢false (sym (nat_l
 
 -- the name is none of those of a reply
 abbrev IsFree : List ℕ → Type 0
-IsFree q = AreOther q (codes "reply") × AreOther q (codes "kept") × AreOther q (codes "generation") × AreOther q (codes "rows")
+IsFree q = AreOther q (codes "reply") × AreOther q (codes "kept") × AreOther q (codes "generation") × AreOther q (codes "rows") × AreOther q (codes "kept_seals")
+
+seals_other : (q : List ℕ) → IsFree q → (seals : List (Option (List ℕ))) (ms : Members) → get_member q (put_seals seals ms) ≡ get_member q ms
+seals_other q h seals ms = by_test (list_any is_some seals) where
+  by_test : (b : Bool) → get_member q (cond b (put (codes "kept_seals") (seals_data seals) ms) ms) ≡ get_member q ms
+  by_test true = other q _ _ ms h.4
+  by_test false = refl
 
 details_other : (q : List ℕ) → IsFree q → (r : Reply) (ms : Members) → get_member q (put_details r ms) ≡ get_member q ms
 details_other q h reply.Registered ms = refl
 details_other q h reply.Already ms = refl
-details_other q h (reply.Conflict kept) ms = other q _ _ ms h.1
+details_other q h (reply.Conflict kept seals) ms = other q _ _ _ h.1 ∙ seals_other q h seals ms
 details_other q h reply.TooManyImages ms = refl
 details_other q h reply.Dropped ms = refl
 details_other q h reply.NotRegistered ms = refl
@@ -154,10 +161,10 @@ worker_event at worker name layer ms r l =
 event_is : (at : ℕ) (b : By) (a : Act) (r : Reply)
     → tag_of (object (put_number (codes "at") at (put_text (codes "event") (act_name a) (put_by b (put_subject a (put_reply r no_members)))))) ≡ Some (event_tag at b a)
 event_is at (by.Lane lane line) a r =
-    lane_event at lane line (act_name a) (put_subject a (put_reply r no_members)) (inner_other (codes "refused") (refl, refl, refl, refl) (refl, refl, refl, refl) a r) (inner_other (codes "worker") (refl, refl, refl, refl) (refl, refl, refl, refl) a r)
+    lane_event at lane line (act_name a) (put_subject a (put_reply r no_members)) (inner_other (codes "refused") (refl, refl, refl, refl) (refl, refl, refl, refl, refl) a r) (inner_other (codes "worker") (refl, refl, refl, refl) (refl, refl, refl, refl, refl) a r)
 event_is at (by.Worker worker) a r =
-    worker_event at worker (act_name a) (layer_of a) (put_subject a (put_reply r no_members)) (inner_other (codes "refused") (refl, refl, refl, refl) (refl, refl, refl, refl) a r)
-    (layer_found a (put_reply r no_members) (reply_other (codes "layer") (refl, refl, refl, refl) r))
+    worker_event at worker (act_name a) (layer_of a) (put_subject a (put_reply r no_members)) (inner_other (codes "refused") (refl, refl, refl, refl) (refl, refl, refl, refl, refl) a r)
+    (layer_found a (put_reply r no_members) (reply_other (codes "layer") (refl, refl, refl, refl, refl) r))
 
 -- ---- reads
 
@@ -184,7 +191,7 @@ read_is front lane line answer.NoMemory = refl
 -- ---- refused lines
 
 request_is : (line : ℕ) (what : RequestWhat) → tag_of (bad_request_data line what) ≡ Some (RefusedLine line false)
-request_is line what = each_request (λ (d : Data). tag_of d ≡ Some (RefusedLine line false)) line (λ index. refl) (λ name. refl) what
+request_is line what = each_request (λ (d : Data). tag_of d ≡ Some (RefusedLine line false)) line (λ index name. refl) (λ name. refl) what
 
 refusal_is : (line : ℕ) (e : RequestError) → tag_of (refusal_data line e) ≡ Some (RefusedLine line (is_no_memory_error e))
 refusal_is line (error.BadRequest what) = request_is line what

@@ -1,6 +1,7 @@
 -- The line of an event that was applied (defined by this project): its number, who submitted it, what it is about, and the
 -- reply. Events and lines are numbered from 1, lanes and workers from 0.
-use Rattle.std.specs.Prelude.{ℕ, List, codes}
+use Rattle.std.specs.Prelude.{ℕ, if◌then◌else◌, List, codes, Option, is_some}
+use Rattle.std.specs.List.{list_any}
 use Rattle.serde_json.specs.Data.{Data, Members, no_members, object, put}
 use Rattle.cv_core_records.specs.declared.event.Act.{Act}
 use Rattle.cv_core_records.specs.declared.event.Act.TheVariants as act
@@ -9,7 +10,7 @@ use Rattle.cv_core_records.specs.declared.event.By.TheVariants as by
 use Rattle.cv_core_records.specs.declared.event.EventEntry.{EventEntry}
 use Rattle.cv_core_records.specs.declared.reply.Reply.{Reply}
 use Rattle.cv_core_records.specs.declared.reply.Reply.TheVariants as reply
-use Rattle.cv_transcript.specs.Members.{digests_data, put_digest, put_number, put_text}
+use Rattle.cv_transcript.specs.Members.{digests_data, put_digest, put_number, put_text, seals_data}
 
 -- an event by its word
 abbrev pub act_name : Act → List ℕ
@@ -26,7 +27,7 @@ act_name (act.Ack number) = codes "ack"
 abbrev pub reply_name : Reply → List ℕ
 reply_name reply.Registered = codes "registered"
 reply_name reply.Already = codes "already"
-reply_name (reply.Conflict kept) = codes "conflict"
+reply_name (reply.Conflict kept seals) = codes "conflict"
 reply_name reply.TooManyImages = codes "too_many_images"
 reply_name reply.Dropped = codes "dropped"
 reply_name reply.NotRegistered = codes "not_registered"
@@ -58,9 +59,14 @@ abbrev pub put_by : By → Members → Members
 put_by (by.Lane lane line) members = put_number (codes "lane") lane (put_number (codes "line") line members)
 put_by (by.Worker worker) members = put_number (codes "worker") worker members
 
--- with what the reply says besides its word: the layers that a conflict keeps, the generation of an update and its number of rows
+-- with the seals that a conflict keeps, if any layer has one
+abbrev pub put_seals : List (Option (List ℕ)) → Members → Members
+put_seals seals members = if list_any is_some seals then put (codes "kept_seals") (seals_data seals) members else members
+
+-- with what the reply says besides its word: the layers and the seals that a conflict keeps, the generation of an update and its
+-- number of rows
 abbrev pub put_details : Reply → Members → Members
-put_details (reply.Conflict kept) members = put (codes "kept") (digests_data kept) members
+put_details (reply.Conflict kept seals) members = put (codes "kept") (digests_data kept) (put_seals seals members)
 put_details (reply.Updated generation rows) members =
     put_number (codes "generation") generation (put_number (codes "rows") rows members)
 put_details other members = members

@@ -1,8 +1,9 @@
-ghost use Rattle.std.specs.Prelude.{◌≡◌, IfOk};
+ghost use Rattle.std.specs.Prelude.{◌≡◌, IfOk, is_some};
+ghost use Rattle.std.specs.List.{list_any};
 ghost use Rattle.serde_json.specs.Data.{no_members};
 ghost use Rattle.serde_json.specs.View.{members_view, view};
-ghost use Rattle.cv_transcript.specs.Event.{act_name, event_data, put_by, put_details, put_reply, put_subject, reply_name};
-ghost use Rattle.cv_transcript.specs.Members.{digest_data, digests_data};
+ghost use Rattle.cv_transcript.specs.Event.{act_name, event_data, put_by, put_details, put_reply, put_seals, put_subject, reply_name};
+ghost use Rattle.cv_transcript.specs.Members.{digest_data, digests_data, seal_data, seals_data};
 
 use cv_base::{Digest, NoMemory};
 use cv_core_records::{Act, By, EventEntry, Reply};
@@ -63,13 +64,51 @@ fn with_details(alloc: Global, object: Object, reply: &Reply) -> Result<Object, 
     ensures { IfOk result (λ o. members_view o.map.entries ≡ put_details reply.now (members_view object.map.entries)) }
 {
     match reply {
-        Reply::Conflict { kept } => {
+        Reply::Conflict { kept, kept_seals } => {
+            let object = with_seals(alloc, object, kept_seals.as_slice())?;
             object.value(alloc, "kept", digests_value(alloc, kept.as_slice())?)
         }
         Reply::Updated { generation, rows } => object
             .value(alloc, "rows", Value::from(*rows))?
             .value(alloc, "generation", Value::from(*generation)),
         _ => Ok(object),
+    }
+}
+
+/// With the seals that a conflict keeps, if any layer has one.
+fn with_seals(alloc: Global, object: Object, seals: &[Option<Digest>]) -> Result<Object, NoMemory>
+    ensures { IfOk result (λ o. members_view o.map.entries ≡ put_seals seals.now (members_view object.map.entries)) }
+{
+    if !has_seal(seals) {
+        return Ok(object);
+    }
+    object.value(alloc, "kept_seals", seals_value(alloc, seals)?)
+}
+
+/// Whether any layer has a seal.
+fn has_seal(seals: &[Option<Digest>]) -> bool
+    ensures { result ≡ list_any is_some seals.now }
+{
+    seals.iter().any(|seal| seal.is_some())
+}
+
+/// The JSON of a list of seals. A layer without a seal has null.
+fn seals_value(alloc: Global, seals: &[Option<Digest>]) -> Result<Value, NoMemory>
+    ensures { IfOk result (λ value. view value ≡ seals_data seals.now) }
+{
+    let mut items = Vec::new(alloc);
+    for seal in seals {
+        items.push(seal_value(alloc, *seal)?)?;
+    }
+    Ok(Value::Array(items))
+}
+
+fn seal_value(alloc: Global, seal: Option<Digest>) -> Result<Value, NoMemory>
+    ensures { IfOk result (λ value. view value ≡ seal_data seal) }
+{
+    match seal {
+        None => Ok(Value::Null),
+        Some(digest) => digest_value(alloc, &digest),
     }
 }
 

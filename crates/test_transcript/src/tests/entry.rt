@@ -11,6 +11,7 @@ type EventRow = (u64, Option<u64>, &'static str, &'static str);
 const EVENTS: &[EventRow] = &[
     (1, Some(1), "register", "registered"),
     (3, Some(3), "register", "conflict"),
+    (3, Some(3), "register", "sealed_conflict"),
     (2, Some(7), "drop", "dropped"),
     (4, Some(4), "update", "updated"),
     (5, Some(11), "ack", "acked"),
@@ -24,6 +25,7 @@ const EVENTS: &[EventRow] = &[
 const LINES: &str =
     r#"{"at":1,"event":"register","image":"sha256:1111111111111111111111111111111111111111111111111111111111111111","lane":0,"line":1,"reply":"registered"}
 {"at":3,"event":"register","image":"sha256:1111111111111111111111111111111111111111111111111111111111111111","kept":["sha256:aaaaaaaaaaaaaaaaaaaaaaaaaaaaaaaaaaaaaaaaaaaaaaaaaaaaaaaaaaaaaaaa"],"lane":0,"line":3,"reply":"conflict"}
+{"at":3,"event":"register","image":"sha256:1111111111111111111111111111111111111111111111111111111111111111","kept":["sha256:aaaaaaaaaaaaaaaaaaaaaaaaaaaaaaaaaaaaaaaaaaaaaaaaaaaaaaaaaaaaaaaa","sha256:aaaaaaaaaaaaaaaaaaaaaaaaaaaaaaaaaaaaaaaaaaaaaaaaaaaaaaaaaaaaaaaa"],"kept_seals":["sha256:0000000000000000000000000000000000000000000000000000000000000000",null],"lane":0,"line":3,"reply":"conflict"}
 {"at":2,"event":"drop","image":"sha256:1111111111111111111111111111111111111111111111111111111111111111","lane":0,"line":7,"reply":"dropped"}
 {"at":4,"event":"update","feed":"deb","generation":1,"lane":0,"line":4,"reply":"updated","rows":1}
 {"at":5,"event":"ack","lane":0,"line":11,"number":1,"reply":"acked"}
@@ -45,7 +47,17 @@ const NAMES: &[&str] = &[
     "too_many_feeds",
 ];
 
-const REFUSED: &str = "{\"line\":10,\"refused\":\"bad_request\",\"what\":\"bad_size\"}\n";
+/// Requests that are refused, and their lines.
+const REFUSED: &[(RequestWhat, &str)] = &[
+    (
+        RequestWhat::BadSize,
+        "{\"line\":10,\"refused\":\"bad_request\",\"what\":\"bad_size\"}\n",
+    ),
+    (
+        RequestWhat::BadSeal(3),
+        "{\"index\":3,\"line\":10,\"refused\":\"bad_request\",\"what\":\"bad_seal\"}\n",
+    ),
+];
 
 fn is_shared<T: Send + Sync>() {}
 
@@ -69,11 +81,27 @@ fn act(alloc: Global, event: &str) -> Result<Act, NoMemory> {
     })
 }
 
+/// A conflict whose image keeps one layer without a seal.
+fn conflict(alloc: Global) -> Result<Reply, NoMemory> {
+    Ok(Reply::Conflict {
+        kept: Seq::of(vec![in alloc; Digest::of([0xaa; 32])]?),
+        kept_seals: Seq::of(vec![in alloc; None]?),
+    })
+}
+
+/// A conflict whose image keeps one layer twice, with a seal and without.
+fn sealed_conflict(alloc: Global) -> Result<Reply, NoMemory> {
+    let layer = Digest::of([0xaa; 32]);
+    Ok(Reply::Conflict {
+        kept: Seq::of(vec![in alloc; layer, layer]?),
+        kept_seals: Seq::of(vec![in alloc; Some(Digest::of([0; 32])), None]?),
+    })
+}
+
 fn reply(alloc: Global, name: &str) -> Result<Reply, NoMemory> {
     Ok(match name {
-        "conflict" => Reply::Conflict {
-            kept: Seq::of(vec![in alloc; Digest::of([0xaa; 32])]?),
-        },
+        "conflict" => conflict(alloc)?,
+        "sealed_conflict" => sealed_conflict(alloc)?,
         "updated" => Reply::Updated {
             generation: 1,
             rows: 1,
@@ -143,8 +171,10 @@ fn each_reply_has_its_name(rt: HostRuntime) -> Result<(), Fail> {
 
 #[test]
 fn a_refused_line_has_its_reason(rt: HostRuntime) -> Result<(), Fail> {
-    let error = RequestError::BadRequest(RequestWhat::BadSize);
-    let line = entry_line(rt.alloc(), &Entry::Refused { line: 10, error })?;
-    assert_eq!(rt; line.as_str(), REFUSED);
+    for (what, want) in REFUSED {
+        let error = RequestError::BadRequest(*what);
+        let line = entry_line(rt.alloc(), &Entry::Refused { line: 10, error })?;
+        assert_eq!(rt; line.as_str(), *want);
+    }
     Ok(())
 }

@@ -13,6 +13,7 @@ const READS: &[ReadRow] = &[
     (1, 2, "pending"),
     (3, 5, "good"),
     (3, 5, "bad_image"),
+    (3, 5, "bad_seal"),
     (0, 1, "not_registered"),
     (4, 9, "no_page"),
     (5, 12, "no_notification"),
@@ -25,6 +26,7 @@ const LINES: &str =
     r#"{"at":1,"image":"sha256:1111111111111111111111111111111111111111111111111111111111111111","lane":0,"layer":"sha256:aaaaaaaaaaaaaaaaaaaaaaaaaaaaaaaaaaaaaaaaaaaaaaaaaaaaaaaaaaaaaaaa","line":2,"read":"report","reply":"pending"}
 {"at":3,"findings":[],"generation":0,"image":"sha256:1111111111111111111111111111111111111111111111111111111111111111","lane":0,"line":5,"read":"report","reply":"good"}
 {"at":3,"bad":{"cause":"no_layer","layer":0},"image":"sha256:1111111111111111111111111111111111111111111111111111111111111111","lane":0,"line":5,"read":"report","reply":"bad_image"}
+{"at":3,"bad":{"cause":"bad_seal","found":"sha256:ffffffffffffffffffffffffffffffffffffffffffffffffffffffffffffffff","layer":2,"stated":"sha256:0000000000000000000000000000000000000000000000000000000000000000"},"image":"sha256:1111111111111111111111111111111111111111111111111111111111111111","lane":0,"line":5,"read":"report","reply":"bad_image"}
 {"at":0,"image":"sha256:1111111111111111111111111111111111111111111111111111111111111111","lane":0,"line":1,"read":"report","reply":"not_registered"}
 {"at":4,"lane":0,"line":9,"number":1,"page":4,"pages":3,"read":"page","reply":"no_page","size":2}
 {"at":5,"lane":0,"line":12,"number":1,"page":1,"read":"page","reply":"no_notification","size":2}
@@ -87,6 +89,14 @@ fn list(alloc: Global) -> Result<Answer, Fail> {
     Ok(Answer::List(Seq::of(heads)))
 }
 
+fn bad_seal() -> ImageFault {
+    ImageFault::BadSeal {
+        layer: 2,
+        stated: Digest::of([0; 32]),
+        found: Digest::of([0xff; 32]),
+    }
+}
+
 fn report(alloc: Global, reply: &str) -> Answer {
     let outcome = match reply {
         "pending" => ReportOutcome::Pending(Digest::of([0xaa; 32])),
@@ -95,6 +105,7 @@ fn report(alloc: Global, reply: &str) -> Answer {
             findings: Seq::of(Vec::new(alloc)),
         },
         "bad_image" => ReportOutcome::BadImage(ImageFault::NoLayer(0)),
+        "bad_seal" => ReportOutcome::BadImage(bad_seal()),
         _ => ReportOutcome::NotRegistered,
     };
     let image = Digest::of([0x11; 32]);

@@ -10,9 +10,10 @@ fn entries_are_shared() {
 }
 
 #[test]
-fn a_copied_conflict_has_the_same_layers(rt: HostRuntime) -> Result<(), Fail> {
+fn a_copied_conflict_keeps_the_same_layers_and_seals(rt: HostRuntime) -> Result<(), Fail> {
     let kept = Seq::of(vec![in rt.alloc(); Digest::of([7; 32])]?);
-    let conflict = Reply::Conflict { kept };
+    let kept_seals = Seq::of(vec![in rt.alloc(); Some(Digest::of([8; 32]))]?);
+    let conflict = Reply::Conflict { kept, kept_seals };
     assert_eq!(rt; conflict.clone()?, conflict);
     Ok(())
 }
