@@ -37,7 +37,7 @@ numbers byte = refl
 
 -- an image without layers
 abbrev image : Manifest
-image = record { hash = codes "h"; layers = [] }
+image = record { hash = codes "h"; layers = []; seals = [] }
 
 -- a record with this id alone
 abbrev bare : List ℕ → Advisory

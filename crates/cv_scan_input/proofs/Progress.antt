@@ -1,5 +1,5 @@
 -- The records so far, and the lines that are not yet read.
-use Rattle.std.specs.Prelude.{◌≡◌, ℕ, ◌+◌, ⊤, MatchBool, List, [], Option, None, Some, Result, Ok, Err, IfSome, IsSomeAnd, refl}
+use Rattle.std.specs.Prelude.{◌≡◌, ℕ, ◌+◌, ◌^◌, ⊤, MatchBool, List, [], Option, None, Some, Result, Ok, Err, IfSome, IsSomeAnd, refl}
 use Rattle.std.proofs.Common.{◌∙◌, sym, ap, subst}
 use Rattle.std.specs.Result.{IsErrAnd}
 use Rattle.std.proofs.lemmas.List.{append-nil}
@@ -9,11 +9,11 @@ use Rattle.cv_io.specs.declared.line.Line.TheVariants.{Text, End}
 use Rattle.cv_io.specs.declared.line.LineError.{LineError}
 use Rattle.cv_io.specs.declared.line.LineError.TheVariants as line
 use Rattle.cv_io.specs.Lines.{Reading, line_then}
-use Rattle.cv_io.specs.Reader.{Reads}
+use Rattle.cv_io.specs.Reader.{Reader, Reads, new_reader, reading}
 use Rattle.cv_request.specs.declared.error.RequestFault.{RequestFault}
 use Rattle.cv_scan_input.specs.Answer.{IsRequest, IsRefusedBy, stop_error}
 use Rattle.cv_scan_input.specs.code.Memory.{is_input_memory}
-use Rattle.cv_scan_input.specs.Request.{RefusedAt, Scan, ScanRequest, scan_request_of, request_after, manifest_or, record_lines}
+use Rattle.cv_scan_input.specs.Request.{RefusedAt, Scan, ScanRequest, input_of, scan_request_of, request_after, manifest_or, record_lines}
 use Rattle.cv_scan_input.specs.code.Remaining.{Begins, remaining_request, line_after, refused_at}
 use Rattle.cv_scan_input.specs.declared.error.InputError.{InputError}
 use Rattle.cv_scan_input.specs.declared.error.InputError.TheVariants as input
@@ -128,3 +128,17 @@ begins_stopped (Some whole) next line.ReadFault k = tt
 begins_stopped (Some whole) next line.LineTooLong k = ap scan_request_of k
 begins_stopped (Some whole) next line.InputTooLong k = ap scan_request_of k
 begins_stopped (Some whole) next line.NoMemory k = tt
+
+-- ---- the whole input
+
+-- a new reader reads the whole input, whose request is that of the rest after the manifest
+pub whole_request : (remaining : Option (List ℕ)) (reader : Reader) (rest : Option Reading) (manifest : Manifest) (result : Result ScanInput InputError)
+    → reader ≡ new_reader 67108864 (2 ^ 36) → Begins (reading reader remaining) rest (Ok manifest)
+    → IfSome rest (λ later. IsRequest (remaining_request manifest [] 2 later) result) → IfSome remaining (λ bytes. IsRequest (scan_request_of (input_of bytes)) result)
+whole_request remaining reader rest manifest result e h k = by_bytes remaining rest (subst (λ r. Begins (reading r remaining) rest (Ok manifest)) e h) k
+  where
+    by_bytes : (remaining : Option (List ℕ)) (rest : Option Reading) → Begins (reading (new_reader 67108864 (2 ^ 36)) remaining) rest (Ok manifest)
+        → IfSome rest (λ later. IsRequest (remaining_request manifest [] 2 later) result) → IfSome remaining (λ bytes. IsRequest (scan_request_of (input_of bytes)) result)
+    by_bytes None rest h k = tt
+    by_bytes (Some bytes) None h k = absurd h
+    by_bytes (Some bytes) (Some later) h k = subst (λ request. IsRequest request result) (sym h) k

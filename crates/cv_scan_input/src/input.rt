@@ -47,6 +47,7 @@ pub fn read_scan_input<S: Source>(alloc: Global, input: &mut S) -> Result<ScanIn
     ensures distinct { IfOk result (λ request. HasDistinctIds request.records) }
     ensures within { IfOk result (λ request. length request.records ≤ MAX_ADVISORIES) }
     ensures at_most_128_layers { IfOk result (λ request. length request.manifest.layers ≤ MAX_LAYERS) }
+    ensures as_many_seals { IfOk result (λ request. length request.manifest.seals ≡ length request.manifest.layers) }
     ensures cause { CausedBy (S.faults input.old) (S.faults input.new) (is_input_fault result) }
 {
     let mut reader = LineReader::new(alloc, MAX_LINE, MAX_INPUT)?;
@@ -79,6 +80,7 @@ fn read_first<S: Source>(
     ensures seen { reader.new.ended ≡ true → IsAtEnd (S.remaining input.new) }
     ensures empty { IsErrOf result error.NoManifest → IsAtEnd (S.remaining input.new) }
     ensures at_most_128_layers { IfOk result (λ manifest. length manifest.layers ≤ MAX_LAYERS) }
+    ensures as_many_seals { IfOk result (λ manifest. length manifest.seals ≡ length manifest.layers) }
     ensures room { OnOk result (room_of reader.new ≤ room_of reader.old) }
     ensures cause { CausedBy (S.faults input.old) (S.faults input.new) (is_input_fault result) }
 {
@@ -102,6 +104,7 @@ fn read_rest<S: Source>(
     requires inputs { reader.max_input ≡ 2 ^ 36 }
     requires room { room_of reader ≤ 2 ^ 36 }
     requires at_most_128_layers { length manifest.layers ≤ MAX_LAYERS }
+    requires as_many_seals { length manifest.seals ≡ length manifest.layers }
     ensures request { IfSome (reading reader (S.remaining input.old)) (λ rest. IsRequest (remaining_request manifest [] 2 rest) result) }
     ensures limit { IsTakenFrom reader.taken (S.remaining input.old) (S.remaining input.new) }
     ensures taken { IsErrOf result error.InputTooLong → IsTakenTo reader.taken (2 ^ 36) (S.remaining input.old) (S.remaining input.new) }
@@ -112,6 +115,7 @@ fn read_rest<S: Source>(
     ensures distinct { IfOk result (λ request. HasDistinctIds request.records) }
     ensures within { IfOk result (λ request. length request.records ≤ MAX_ADVISORIES) }
     ensures at_most_128_layers { IfOk result (λ request. length request.manifest.layers ≤ MAX_LAYERS) }
+    ensures as_many_seals { IfOk result (λ request. length request.manifest.seals ≡ length request.manifest.layers) }
     ensures cause { CausedBy (S.faults input.old) (S.faults input.new) (is_input_fault result) }
 {
     let mut lines = RecordReader::new(alloc)?;

@@ -17,6 +17,7 @@ use std::alloc::Global;
 pub(crate) fn manifest_line(alloc: Global, line: &[u8]) -> Result<Manifest, InputError>
     ensures value { Gives is_input_memory (λ manifest. manifest) result (refused_at 1 (manifest_or line.now)) }
     ensures at_most_128_layers { IfOk result (λ manifest. length manifest.layers ≤ MAX_LAYERS) }
+    ensures as_many_seals { IfOk result (λ manifest. length manifest.seals ≡ length manifest.layers) }
 {
     manifest_text(alloc, line).map_err(|error| refused_at(1, error))
 }
@@ -51,6 +52,7 @@ fn refused_at(line: u64, error: RequestError) -> InputError
 fn manifest_text(alloc: Global, text: &[u8]) -> Result<Manifest, RequestError>
     ensures value { MatchesUnlessOutOfMemory fault_of (λ manifest. manifest) result (manifest_or text.now) }
     ensures at_most_128_layers { IfOk result (λ manifest. length manifest.layers ≤ MAX_LAYERS) }
+    ensures as_many_seals { IfOk result (λ manifest. length manifest.seals ≡ length manifest.layers) }
 {
     let value = read_json(alloc, text)?;
     read_manifest(alloc, &value)
