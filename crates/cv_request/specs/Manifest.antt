@@ -26,7 +26,7 @@ abbrev pub count : Items → ℕ
 count no_items = 0
 count (item d ds) = count ds + 1
 
--- a seal, which may be absent. The value null is no seal
+-- a seal, which may be absent. The value null is present, and is refused
 abbrev pub seal_or : RequestWhat → Option Data → Result (Option (List ℕ)) RequestWhat
 seal_or bad None = Ok None
 seal_or bad (Some d) = digest_or bad (Some d) >>= λ seal. Ok (Some seal)
