@@ -2,7 +2,7 @@
 use Rattle.std.specs.Prelude.{◌≡◌, ℕ, ◌+◌, List, [], ◌∷◌, codes, length, Ok, Err, IfSome}
 use Rattle.cv_base.specs.declared.advisory.Advisory.{Advisory}
 use Rattle.cv_base.specs.declared.manifest.Manifest.{Manifest}
-use Rattle.cv_scan.specs.Layers.{IsFailed, distinct, stored_layers, whole_layers}
+use Rattle.cv_scan.specs.Layers.{IsFailed, distinct, stored_layers}
 use Rattle.cv_scan.specs.Scan.{Scanned, scan}
 use Rattle.cv_scan_output.specs.Bad.{bad_image_text}
 use Rattle.cv_scan_output.specs.Scan.{desk_fault_text, good_text}
@@ -30,12 +30,12 @@ outcome_printed hash (Failed layer) = record { text = desk_fault_text layer; end
 abbrev pub feeds_of : List Advisory → List (List ℕ × List Advisory)
 feeds_of records = (codes "scan", records) ∷ []
 
--- the outcome of an image with these records, by the trees that the desk's type has, if it has those of all layers, and by
--- what the desk counted: there was one listing for each distinct layer, or as many as up to the one at which a fault was
--- counted
+-- the outcome of an image with its stated seals and these records, by the trees that the desk's type has, if it has those of
+-- all layers, and by what the desk counted: there was one listing for each distinct layer, or as many as up to the one at which
+-- a fault was counted
 abbrev pub HasOutcome : Trees → Manifest → List Advisory → Counts → Counts → Outcome → Type 0
 HasOutcome trees manifest records before now (Complete scanned) =
-    IfSome (stored_layers trees manifest.layers) (λ stored. scan (whole_layers stored) (feeds_of records) ≡ scanned)
+    IfSome (stored_layers trees manifest.layers) (λ stored. scan stored manifest.seals (feeds_of records) ≡ scanned)
     × (now.listings ≡ before.listings + length (distinct manifest.layers))
 HasOutcome trees manifest records before now (Failed layer) =
     IsFailed (distinct manifest.layers) before.listings now.listings layer × Rose before.faults now.faults

@@ -18,7 +18,8 @@ use cv_scan_input::{InputError, ScanInput, read_scan_input};
 use cv_scan_output::{no_manifest_line, refusal_line};
 use std::alloc::Global;
 
-/// Reads the manifest of an image and records of advisories, and prints what the records find in the image.
+/// Reads the manifest of an image and records of advisories, and prints what the records find in the image, or why it is bad. An
+/// image is bad also where the tree of a layer has another seal than the manifest states.
 pub fn scan_command<S: Source, K: Sink, D: Desk>(
     alloc: Global,
     input: &mut S,
@@ -49,6 +50,7 @@ fn print_scan<K: Sink, D: Desk>(
 ) -> Status
     requires room { D.listings desk.old < 2 ^ 62 }
     requires at_most_128_layers { length request.now.manifest.layers ≤ MAX_LAYERS }
+    requires as_many_seals { length request.now.manifest.seals ≡ length request.now.manifest.layers }
     ensures printed { OutcomePrinted D.tree request.now.manifest request.now.records (counts_of D.listings D.faults desk.old) (counts_of D.listings D.faults desk.new) (K.contents output.old) (K.contents output.new) result }
     ensures write_fault { result ≡ Status.WriteFault → Rose (K.faults output.old) (K.faults output.new) }
     ensures desk_fault { result ≡ Status.DeskFault → Rose (D.faults desk.old) (D.faults desk.new) }

@@ -30,6 +30,7 @@ pub fn scan_answer<D: Desk>(
 ) -> Result<Answer, NoMemory>
     requires room { D.listings desk.old < 2 ^ 62 }
     requires at_most_128_layers { length request.now.manifest.layers ≤ MAX_LAYERS }
+    requires as_many_seals { length request.now.manifest.seals ≡ length request.now.manifest.layers }
     ensures outcome { IfOk result (λ answer. SaysOutcome D.tree request.now.manifest request.now.records (counts_of D.listings D.faults desk.old) (counts_of D.listings D.faults desk.new) (printed_of answer)) }
     ensures listed { D.listings desk.new ≤ D.listings desk.old + length (distinct request.now.manifest.layers) }
     ensures end { IfOk result (λ answer. is_end answer.ended ≡ true) }
@@ -38,7 +39,9 @@ pub fn scan_answer<D: Desk>(
     let feed = Text::of(alloc, "scan")?;
     let hash = &request.manifest.hash;
     let layers = request.manifest.layers.as_slice();
-    match scan_layers(alloc, desk, layers, &feed, request.records.as_slice()) {
+    let seals = request.manifest.seals.as_slice();
+    let records = request.records.as_slice();
+    match scan_layers(alloc, desk, layers, seals, &feed, records) {
         Ok(found) => Ok(Answer {
             text: good_line(alloc, hash, found.as_slice())?,
             ended: Status::Done,

@@ -61,6 +61,15 @@ fn a_scan_prints_why_there_are_none(rt: HostRuntime) -> Result<(), NoMemory> {
 }
 
 #[test]
+fn a_stated_seal_is_compared(rt: HostRuntime) -> Result<(), NoMemory> {
+    for (input, status, output) in &scans::SEALED {
+        let is_same = scans_to(rt.alloc(), input, &CALM, (*status, *output))?;
+        assert!(rt; is_same, "{input}");
+    }
+    Ok(())
+}
+
+#[test]
 fn versions_compare(rt: HostRuntime) -> Result<(), NoMemory> {
     for (status, output, comparisons) in &versions::ORDERS {
         for arguments in *comparisons {

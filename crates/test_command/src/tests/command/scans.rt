@@ -1,3 +1,5 @@
+use test_commands::Status;
+
 /// The line of a scan that finds this.
 macro_rules! good {
     ($findings:literal) => {
@@ -141,5 +143,78 @@ pub static REFUSED: [(&str, &str, &str); 10] = [
         "9",
         "<X-1>\n{",
         refused!(r#"{"line":3,"refused":"bad_json"}"#),
+    ),
+];
+
+/// Inputs of which some layers have a stated seal, how the scan ends, and its line. `<a-seal>` is the seal of the layer `<a>`.
+pub static SEALED: [(&str, Status, &str); 10] = [
+    // another seal than the stated one
+    (
+        r#"{"hash":"<1>","layers":[{"hash":"<a>","seal":"<0>"}]}"#,
+        Status::Refused,
+        refused!(
+            r#"{"bad":{"cause":"bad_seal","found":"<a-seal>","layer":0,"stated":"<0>"},"image":"<1>","reply":"bad_image"}"#
+        ),
+    ),
+    // the stated one
+    (
+        r#"{"hash":"<1>","layers":[{"hash":"<a>","seal":"<a-seal>"}]}
+<X-1>"#,
+        Status::Done,
+        good!("<openssl-found>"),
+    ),
+    // of one layer alone
+    (
+        r#"{"hash":"<1>","layers":[{"hash":"<d>"},{"hash":"<a>","seal":"<a-seal>"},{"hash":"<0>"}]}
+<X-1>"#,
+        Status::Done,
+        good!("<openssl-found>"),
+    ),
+    // one layer with two seals
+    (
+        r#"{"hash":"<1>","layers":[{"hash":"<a>","seal":"<a-seal>"},{"hash":"<a>","seal":"<1>"}]}"#,
+        Status::Refused,
+        refused!(
+            r#"{"bad":{"cause":"bad_seal","found":"<a-seal>","layer":1,"stated":"<1>"},"image":"<1>","reply":"bad_image"}"#
+        ),
+    ),
+    // a layer that is missing comes before another seal
+    (
+        r#"{"hash":"<1>","layers":[{"hash":"<a>","seal":"<0>"},{"hash":"<9>"}]}"#,
+        Status::Refused,
+        refused!(r#"{"bad":{"cause":"no_layer","layer":1},"image":"<1>","reply":"bad_image"}"#),
+    ),
+    // and a tree that is not good
+    (
+        r#"{"hash":"<1>","layers":[{"hash":"<a>","seal":"<0>"},{"hash":"<5>","seal":"<0>"}]}"#,
+        Status::Refused,
+        refused!(
+            r#"{"bad":{"cause":"bad_tree","entry":0,"layer":1,"what":"bad_mark"},"image":"<1>","reply":"bad_image"}"#
+        ),
+    ),
+    // another seal comes before a malformed file
+    (
+        r#"{"hash":"<1>","layers":[{"hash":"<f>"},{"hash":"<a>","seal":"<0>"}]}"#,
+        Status::Refused,
+        refused!(
+            r#"{"bad":{"cause":"bad_seal","found":"<a-seal>","layer":1,"stated":"<0>"},"image":"<1>","reply":"bad_image"}"#
+        ),
+    ),
+    // a seal that is not a digest
+    (
+        r#"{"hash":"<1>","layers":[{"hash":"<a>","seal":"x"}]}"#,
+        Status::Refused,
+        refused!(r#"{"index":0,"line":1,"refused":"bad_request","what":"bad_seal"}"#),
+    ),
+    (
+        r#"{"hash":"<1>","layers":[{"hash":"<a>"},{"hash":"<a>","seal":null},{}]}"#,
+        Status::Refused,
+        refused!(r#"{"index":1,"line":1,"refused":"bad_request","what":"bad_seal"}"#),
+    ),
+    // of a layer without a digest
+    (
+        r#"{"hash":"<1>","layers":[{"seal":"x"}]}"#,
+        Status::Refused,
+        refused!(r#"{"index":0,"line":1,"refused":"bad_request","what":"bad_layer"}"#),
     ),
 ];
