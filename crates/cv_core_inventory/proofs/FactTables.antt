@@ -148,8 +148,8 @@ agreeing : (ones others : FactTable) (feeds : Feeds) (images : Images) → ((lay
 agreeing ones others feeds [] h = refl
 agreeing ones others feeds (image ∷ images) h =
     λ i.
-    (image.0, agree ones others feeds image.1 (λ layer has. h layer (or_left (has_text image.1 layer) (is_named images layer) has)) i)
-    ∷ agreeing ones others feeds images (λ layer named. h layer (or_right (has_text image.1 layer) (is_named images layer) named)) i
+    (image.0, agree ones others feeds image.1 (λ layer has. h layer (or_left (has_text image.1.layers layer) (is_named images layer) has)) i)
+    ∷ agreeing ones others feeds images (λ layer named. h layer (or_right (has_text image.1.layers layer) (is_named images layer) named)) i
 
 -- the other images have the outcomes that they had
 pub remaining_known : (trees : List ℕ → Option (Option (List Stored))) (table : Layers) (facts : FactTable) (feeds : Feeds) (layers : List (List ℕ)) (others : Images)

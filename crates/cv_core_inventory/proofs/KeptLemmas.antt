@@ -9,7 +9,6 @@ use Rattle.cv_advdb.specs.Feeds.{FeedTable, by_id, replaced}
 use Rattle.cv_base.specs.Texts.{same}
 use Rattle.cv_base.specs.declared.advisory.Advisory.{Advisory}
 use Rattle.cv_base.specs.declared.finding.Row.{Row}
-use Rattle.cv_base.specs.declared.limits.TheConstants.{MAX_LAYERS}
 use Rattle.cv_desk.specs.Stored.{Stored}
 use Rattle.cv_facts.specs.Reduction.{IsRight, Known}
 use Rattle.cv_match.specs.Findings.{text_cmp}
@@ -19,6 +18,7 @@ use Rattle.cv_core_machine.specs.Rows.{rows_of as machine_rows}
 use Rattle.cv_core_machine.specs.Scans.{StatesEveryLayer, trees_of}
 use Rattle.cv_core_machine.specs.State.{Images, State, value_at, with_value, without_value}
 use Rattle.cv_core_machine.specs.Step.{is_full}
+use Rattle.cv_core_machine.specs.declared.image.Image.{Image}
 use Rattle.cv_core_machine.proofs.Consistent.{put_within_limit}
 use Rattle.cv_core_machine.proofs.LayerTables.{value_put, value_cut}
 use Rattle.cv_core_outcome.specs.Outcome.{FactTable, outcome_at}
@@ -30,7 +30,7 @@ use Rattle.cv_core_registry.specs.Registrations.{IsRegular as IsRegularRegistry,
 use Rattle.cv_tree.specs.Entries.{map_values, remade_entries, rows_of}
 use Rattle.cv_tree.proofs.ValueLemmas.{mapped_at, mapped_with, mapped_without}
 use Rattle.cv_core_inventory.specs.code.Changes.{feeds_replaced, image_added, image_dropped, layer_indexed}
-use Rattle.cv_core_inventory.specs.Knowledge.{AreOutcomesOf, IsOutcomeOf, KnowledgeView, Outcomes, nothing_known, report_by}
+use Rattle.cv_core_inventory.specs.Knowledge.{AreOutcomesOf, IsOutcomeOf, IsSoundImage, KnowledgeView, Outcomes, nothing_known, report_by}
 use Rattle.cv_core_inventory.proofs.FactTables.{entered_indexed, facts_entered, facts_remaining, remaining_known}
 use Rattle.cv_core_inventory.proofs.RenewedLemmas.{all_known}
 use Rattle.cv_core_inventory.specs.Holdings.{Holdings, IsRegular, alone, feed_table, holding}
@@ -40,9 +40,9 @@ use Rattle.cv_core_inventory.specs.code.Kept.{HasEntered, IsAlike, IsKept, holdi
 pub alike_now : (r after : Registrations) (table : FeedTable) (now : Holdings) → holdings_of r table ≡ now → IsAlike r after → IsAlike (registrations now) after
 alike_now r after table now was h = subst (λ (x : Holdings). IsAlike (registrations x) after) was h
 
-pub with_image_now : (r after : Registrations) (table : FeedTable) (now : Holdings) (image : List ℕ) (layers : List (List ℕ)) → holdings_of r table ≡ now
-    → after ≡ with_image r image layers → after ≡ with_image (registrations now) image layers
-with_image_now r after table now image layers was is = is ∙ ap (λ (x : Holdings). with_image (registrations x) image layers) was
+pub with_image_now : (r after : Registrations) (table : FeedTable) (now : Holdings) (hash : List ℕ) (image : Image) → holdings_of r table ≡ now
+    → after ≡ with_image r hash image → after ≡ with_image (registrations now) hash image
+with_image_now r after table now hash image was is = is ∙ ap (λ (x : Holdings). with_image (registrations x) hash image) was
 
 pub without_image_now : (r after : Registrations) (table : FeedTable) (now : Holdings) (image : List ℕ) (layers : List (List ℕ)) → holdings_of r table ≡ now
     → after ≡ without_image r image layers → after ≡ without_image (registrations now) image layers
@@ -64,7 +64,7 @@ kept_none trees r k images feeds a b = rw (a, b) record {
   right = record { indexed = λ q. refl; own = λ q known is. absurd (cc is); right = λ q known is. absurd (cc is) };
   made = refl;
   feeds_within_limit = omega arith;
-  at_most_128_layers = λ q layers is. absurd (cc is);
+  images = λ q image is. absurd (cc is);
 }
 
 -- an equal inventory
@@ -77,7 +77,7 @@ alike trees r after k kept a = record {
   right = record { indexed = λ q. kept.right.indexed q ∙ sym (a.indexed q); own = kept.right.own; right = kept.right.right };
   made = kept.made ∙ ap (λ (images : Images). map_values (outcome_at k.facts k.feeds.feeds) images) (sym a.images);
   feeds_within_limit = kept.feeds_within_limit;
-  at_most_128_layers = λ q layers is. kept.at_most_128_layers q layers (ap (λ (images : Images). value_at images q) (sym a.images) ∙ is);
+  images = λ q image is. kept.images q image (ap (λ (images : Images). value_at images q) (sym a.images) ∙ is);
 }
 
 pub kept_alike : (trees : List ℕ → Option (Option (List Stored))) (r after : Registrations) (k next : KnowledgeView) (now : Holdings) → IsKept trees r k
@@ -87,35 +87,34 @@ kept_alike trees r after k next now kept was a b =
 
 -- Register
 
-put_at_most_128 : (b : Bool) (found : Option (List (List ℕ))) (names layers : List (List ℕ)) → length names ≤ MAX_LAYERS → (found ≡ Some layers → length layers ≤ MAX_LAYERS)
-    → cond b (Some names) found ≡ Some layers → length layers ≤ MAX_LAYERS
-put_at_most_128 true found names layers few rest is = subst (λ (ls : List (List ℕ)). length ls ≤ MAX_LAYERS) (same_Some names layers is) few
-put_at_most_128 false found names layers few rest is = rest is
+put_sound : (b : Bool) (found : Option Image) (new image : Image) → IsSoundImage new → (found ≡ Some image → IsSoundImage image)
+    → cond b (Some new) found ≡ Some image → IsSoundImage image
+put_sound true found new image sound rest is = subst IsSoundImage (same_Some new image is) sound
+put_sound false found new image sound rest is = rest is
 
-added : (trees : List ℕ → Option (Option (List Stored))) (r : Registrations) (k : KnowledgeView) (image : List ℕ) (names : List (List ℕ)) → IsKept trees r k
-    → length names ≤ MAX_LAYERS → IsKept trees (with_image r image names) (image_added k image names)
-added trees r k image names kept few = record {
-  right = record { indexed = λ q. kept.right.indexed q ∙ sym (entered_indexed r.layers names q); own = kept.right.own; right = kept.right.right };
+added : (trees : List ℕ → Option (Option (List Stored))) (r : Registrations) (k : KnowledgeView) (hash : List ℕ) (new : Image) → IsKept trees r k
+    → IsSoundImage new → IsKept trees (with_image r hash new) (image_added k hash new)
+added trees r k hash new kept sound = record {
+  right = record { indexed = λ q. kept.right.indexed q ∙ sym (entered_indexed r.layers new.layers q); own = kept.right.own; right = kept.right.right };
   made =
-      ap (λ (o : Outcomes). with_value o image (outcome_at k.facts k.feeds.feeds names)) kept.made
-      ∙ sym (mapped_with text_cmp (outcome_at k.facts k.feeds.feeds) r.images image names);
+      ap (λ (o : Outcomes). with_value o hash (outcome_at k.facts k.feeds.feeds new)) kept.made
+      ∙ sym (mapped_with text_cmp (outcome_at k.facts k.feeds.feeds) r.images hash new);
   feeds_within_limit = kept.feeds_within_limit;
-  at_most_128_layers = λ q layers is.
-      put_at_most_128 (same image q) (value_at r.images q) names layers few (kept.at_most_128_layers q layers) (sym (value_put r.images image names q) ∙ is);
+  images = λ q image is. put_sound (same hash q) (value_at r.images q) new image sound (kept.images q image) (sym (value_put r.images hash new q) ∙ is);
 }
 
-pub kept_added : (trees : List ℕ → Option (Option (List Stored))) (r after : Registrations) (k next : KnowledgeView) (now : Holdings) (image : List ℕ) (layers names : List (List ℕ))
-    → IsKept trees r k → holdings_of r k.feeds ≡ now → after ≡ with_image (registrations now) image layers → length layers ≤ MAX_LAYERS → names ≡ layers
-    → next ≡ image_added k image names → IsKept trees after next
-kept_added trees r after k next now image layers names kept was is few a b =
-    kept_copy trees (with_image r image layers) after (image_added k image layers) next (added trees r k image layers kept few)
-    (is ∙ ap (λ (h : Holdings). with_image (registrations h) image layers) (sym was)) (b ∙ ap (image_added k image) a)
+pub kept_added : (trees : List ℕ → Option (Option (List Stored))) (r after : Registrations) (k next : KnowledgeView) (now : Holdings) (hash : List ℕ) (new image : Image)
+    → IsKept trees r k → holdings_of r k.feeds ≡ now → after ≡ with_image (registrations now) hash new → IsSoundImage new → image ≡ new
+    → next ≡ image_added k hash image → IsKept trees after next
+kept_added trees r after k next now hash new image kept was is sound a b =
+    kept_copy trees (with_image r hash new) after (image_added k hash new) next (added trees r k hash new kept sound)
+    (is ∙ ap (λ (h : Holdings). with_image (registrations h) hash new) (sym was)) (b ∙ ap (image_added k hash) a)
 
 -- DropImage
 
-found_before : (b : Bool) (found : Option (List (List ℕ))) (layers : List (List ℕ)) → cond b None found ≡ Some layers → found ≡ Some layers
-found_before true found layers is = absurd (cc is)
-found_before false found layers is = is
+found_before : (b : Bool) (found : Option Image) (image : Image) → cond b None found ≡ Some image → found ≡ Some image
+found_before true found image is = absurd (cc is)
+found_before false found image is = is
 
 dropped : (trees : List ℕ → Option (Option (List Stored))) (r : Registrations) (k : KnowledgeView) (image : List ℕ) (names : List (List ℕ)) → IsKept trees r k → IsRegularRegistry r
     → IsStrictlySortedBy text_cmp (keys_of k.facts)
@@ -128,8 +127,7 @@ dropped trees r k image names kept regular ascends =
           ap (λ (o : Outcomes). without_value o image) kept.made ∙ sym (mapped_without text_cmp (outcome_at k.facts k.feeds.feeds) r.images image)
           ∙ remaining_known trees r.layers k.facts k.feeds.feeds names others kept.right regular.layers ascends;
       feeds_within_limit = kept.feeds_within_limit;
-      at_most_128_layers = λ q layers is.
-          kept.at_most_128_layers q layers (found_before (same image q) (value_at r.images q) layers (sym (value_cut r.images image q regular.images) ∙ is));
+      images = λ q found is. kept.images q found (found_before (same image q) (value_at r.images q) found (sym (value_cut r.images image q regular.images) ∙ is));
     }
 
 pub kept_dropped : (trees : List ℕ → Option (Option (List Stored))) (r after : Registrations) (k next : KnowledgeView) (now : Holdings) (image : List ℕ) (names : List (List ℕ))
@@ -150,7 +148,7 @@ entered trees r after k known kept regular h right =
       right = facts_entered trees r.layers k.facts known.digest known kept.right refl right;
       made = all_known k.facts known.digest known k.feeds.feeds r.images k.outcomes regular.images (kept.right.indexed known.digest ∙ h.new) kept.made;
       feeds_within_limit = kept.feeds_within_limit;
-      at_most_128_layers = kept.at_most_128_layers;
+      images = kept.images;
     })
 
 pub kept_entered : (trees : List ℕ → Option (Option (List Stored))) (r after : Registrations) (k next : KnowledgeView) (now : Holdings) (known : Known) → IsKept trees r k
@@ -168,7 +166,7 @@ updated trees r k feeds kept few = record {
   right = kept.right;
   made = ap (λ (o : Outcomes). remade_entries (λ _. rematched feeds.feeds) o) kept.made ∙ all_rematched k.facts k.feeds.feeds feeds.feeds r.images;
   feeds_within_limit = few;
-  at_most_128_layers = kept.at_most_128_layers;
+  images = kept.images;
 }
 
 pub kept_updated : (trees : List ℕ → Option (Option (List Stored))) (r s : Registrations) (k next : KnowledgeView) (feeds : FeedTable) → IsKept trees r k → s ≡ r
@@ -223,10 +221,10 @@ outcomes_kept tree r k shared now kept was is = subst (λ (h : Holdings). AreOut
   made = is ∙ kept.made;
 })
 
-report_same : (tree : List ℕ → Option (Option (List Stored))) (state : State) (facts : FactTable) (found : Option (List (List ℕ))) → StatesEveryLayer tree → AreFactsOf tree state.layers facts
+report_same : (tree : List ℕ → Option (Option (List Stored))) (state : State) (facts : FactTable) (found : Option Image) → StatesEveryLayer tree → AreFactsOf tree state.layers facts
     → report_by state.generation (option_map (outcome_at facts state.feeds) found) ≡ report_at found (trees_of tree) state
 report_same tree state facts None all are = refl
-report_same tree state facts (Some layers) all are = report_is tree state facts layers all are
+report_same tree state facts (Some image) all are = report_is tree state facts image all are
 
 -- the report by the outcome that is kept of an image is that of the machine
 pub report_kept : (tree : List ℕ → Option (Option (List Stored))) (r : Registrations) (k : KnowledgeView) (now : Holdings) (state : State) (image : List ℕ) (found : Option Outcome)

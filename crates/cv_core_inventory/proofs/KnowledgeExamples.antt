@@ -1,9 +1,11 @@
 -- The definitions on worked examples.
 use Rattle.std.specs.Prelude.{◌≡◌, ℕ, List, [], ◌∷◌, Option, None, refl}
+use Rattle.std.proofs.Common.{arith}
 use Rattle.cv_desk.specs.Stored.{Stored}
 use Rattle.cv_facts.specs.Reduction.{Known}
 use Rattle.cv_facts.specs.declared.reduction.Shape.TheVariants.{NoLayer}
 use Rattle.cv_core_machine.specs.State.{Images}
+use Rattle.cv_core_machine.specs.declared.image.Image.{Image}
 use Rattle.cv_core_machine.specs.declared.limits.Limits.{Limits}
 use Rattle.cv_core_machine.specs.declared.status.Status.TheVariants as status
 use Rattle.cv_core_machine.proofs.Examples.{a, b, c}
@@ -12,18 +14,28 @@ use Rattle.cv_core_outcome.specs.declared.outcome.Outcome.TheVariants.{Pending}
 use Rattle.cv_core_records.specs.declared.read.ReportOutcome.TheVariants as report
 use Rattle.cv_core_inventory.specs.code.Changes.{all_renewed, image_dropped, layer_indexed, remaining_facts}
 use Rattle.cv_core_inventory.specs.Holdings.{nothing}
-use Rattle.cv_core_inventory.specs.Knowledge.{AreOutcomesOf, KnowledgeView, nothing_known, report_by}
+use Rattle.cv_core_inventory.specs.Knowledge.{AreOutcomesOf, IsSoundImage, KnowledgeView, nothing_known, report_by}
 
 -- the facts of a digest that names no layer
 abbrev known : List ℕ → Known
 known digest = record { digest = digest; shape = NoLayer }
 
 -- one image, which waits for two layers
+abbrev image : Image
+image = record { layers = a ∷ b ∷ []; seals = None ∷ None ∷ [] }
+
 abbrev images : Images
-images = (c, a ∷ b ∷ []) ∷ []
+images = (c, image) ∷ []
+
+-- it has a seal or none for each layer, and one that lacks a seal is not sound
+sound : IsSoundImage image
+sound = record { at_most_128_layers = omega arith; as_many_seals = refl }
+
+unsound : ¬ IsSoundImage (record { layers = a ∷ b ∷ []; seals = None ∷ [] })
+unsound h = cc h.as_many_seals
 
 -- its outcome before it has facts of a layer, and after: only an image that waits for the layer has another outcome
-waits : outcome_at [] [] (a ∷ b ∷ []) ≡ Pending a
+waits : outcome_at [] [] image ≡ Pending a
 waits = refl
 
 renewed_one : all_renewed (outcome_at ((a, known a) ∷ []) []) images a ((c, Pending a) ∷ []) (c ∷ []) ≡ (c, Pending b) ∷ []

@@ -1,6 +1,5 @@
 -- What the events of the registry leave, by its replies.
 use Rattle.std.specs.Prelude.{◌≡◌, ℕ, Bool, true, false, cond, nat_lt, List, length, Option, Some, None, refl}
-use Rattle.std.specs.Cmp.Lexicographic.{pointwise}
 use Rattle.std.specs.List.Sorted.{IsStrictlySortedBy}
 use Rattle.std.specs.Map.{keys_of}
 use Rattle.std.proofs.Common.{ap, subst, sym, ◌∙◌}
@@ -13,7 +12,8 @@ use Rattle.cv_core_records.specs.declared.reply.Reply.{Reply}
 use Rattle.cv_core_records.specs.declared.reply.Reply.TheVariants as reply
 use Rattle.cv_core_machine.specs.Layers.{is_claimed_by, is_indexed_as, is_named}
 use Rattle.cv_core_machine.specs.State.{State, opening, value_at, with_value, without_value}
-use Rattle.cv_core_machine.specs.Step.{claim, claim_at, drop_at, drop_image, entered, finish, register, register_at}
+use Rattle.cv_core_machine.specs.Step.{claim, claim_at, drop_at, drop_image, entered, finish, image_of, register, register_at, same_image}
+use Rattle.cv_core_machine.specs.declared.image.Image.{Image}
 use Rattle.cv_core_machine.specs.declared.status.Status.{Status}
 use Rattle.cv_core_machine.specs.declared.status.Status.TheVariants as status
 use Rattle.cv_core_machine.proofs.LayerTables.{value_put, value_cut}
@@ -44,34 +44,34 @@ leaves event before after answer h = h (opening (record { images = 0; feeds = 0 
 
 -- Register
 
-not_registered : (b : Bool) (kept : List (List ℕ)) → is_registered (cond b reply.Already (reply.Conflict kept)) ≡ false
+not_registered : (b : Bool) (kept : Image) → is_registered (cond b reply.Already (reply.Conflict kept.layers kept.seals)) ≡ false
 not_registered true kept = refl
 not_registered false kept = refl
 
-adds : (found : Option (List (List ℕ))) (s t : State) (m : Manifest) (answer : Reply) → register_at found s m ≡ (t, answer) → is_registered answer ≡ true
-    → record s { images = with_value s.images m.hash m.layers; layers = entered s.layers m.layers } ≡ t
+adds : (found : Option Image) (s t : State) (m : Manifest) (answer : Reply) → register_at found s m ≡ (t, answer) → is_registered answer ≡ true
+    → record s { images = with_value s.images m.hash (image_of m); layers = entered s.layers m.layers } ≡ t
 adds (Some kept) s t m answer e done =
-    absurd (cc (ap (λ (p : State × Reply). is_registered p.1) e, done, not_registered (pointwise same kept m.layers) kept))
+    absurd (cc (ap (λ (p : State × Reply). is_registered p.1) e, done, not_registered (same_image kept (image_of m)) kept))
 adds None s t m answer e done = by_room (nat_lt (length s.images) s.limits.images) e where
   by_room : (b : Bool)
       → ◌≡◌ {A = State × Reply}
-      (cond b (record s { images = with_value s.images m.hash m.layers; layers = entered s.layers m.layers }, reply.Registered) (s, reply.TooManyImages)) (t, answer)
-      → record s { images = with_value s.images m.hash m.layers; layers = entered s.layers m.layers } ≡ t
+      (cond b (record s { images = with_value s.images m.hash (image_of m); layers = entered s.layers m.layers }, reply.Registered) (s, reply.TooManyImages)) (t, answer)
+      → record s { images = with_value s.images m.hash (image_of m); layers = entered s.layers m.layers } ≡ t
   by_room true e = ap (λ (p : State × Reply). p.0) e
   by_room false e = absurd (cc (ap (λ (p : State × Reply). is_registered p.1) e, done))
 
-stays : (found : Option (List (List ℕ))) (s t : State) (m : Manifest) (answer : Reply) → register_at found s m ≡ (t, answer) → is_registered answer ≡ false → s ≡ t
+stays : (found : Option Image) (s t : State) (m : Manifest) (answer : Reply) → register_at found s m ≡ (t, answer) → is_registered answer ≡ false → s ≡ t
 stays (Some kept) s t m answer e other = ap (λ (p : State × Reply). p.0) e
 stays None s t m answer e other = by_room (nat_lt (length s.images) s.limits.images) e where
   by_room : (b : Bool)
       → ◌≡◌ {A = State × Reply}
-      (cond b (record s { images = with_value s.images m.hash m.layers; layers = entered s.layers m.layers }, reply.Registered) (s, reply.TooManyImages)) (t, answer)
+      (cond b (record s { images = with_value s.images m.hash (image_of m); layers = entered s.layers m.layers }, reply.Registered) (s, reply.TooManyImages)) (t, answer)
       → s ≡ t
   by_room true e = absurd (cc (ap (λ (p : State × Reply). is_registered p.1) e, other))
   by_room false e = ap (λ (p : State × Reply). p.0) e
 
 pub register_adds : (r after : Registrations) (m : Manifest) (answer : Reply) → LeadsRegistry (λ state. register state m) r (after, answer) → is_registered answer ≡ true
-    → after ≡ with_image r m.hash m.layers
+    → after ≡ with_image r m.hash (image_of m)
 register_adds r after m answer h done =
     sym (ap registered (adds (value_at r.images m.hash) (alone r) (alone after) m answer (leaves (λ state. register state m) r after answer h) done))
 
@@ -86,15 +86,15 @@ register_stays r after m answer h other =
 
 -- DropImage
 
-drops : (r after : Registrations) (image : List ℕ) (answer : Reply) (found : Option (List (List ℕ))) → LeadsRegistry (λ state. drop_image state image) r (after, answer)
+drops : (r after : Registrations) (image : List ℕ) (answer : Reply) (found : Option Image) → LeadsRegistry (λ state. drop_image state image) r (after, answer)
     → value_at r.images image ≡ found → registered (drop_at found (alone r) image).0 ≡ after
 drops r after image answer found h is =
-    ap (λ (f : Option (List (List ℕ))). registered (drop_at f (alone r) image).0) (sym is)
+    ap (λ (f : Option Image). registered (drop_at f (alone r) image).0) (sym is)
     ∙ ap (λ (p : State × Reply). registered p.0) (leaves (λ state. drop_image state image) r after answer h)
 
-pub drop_leaves : (r after : Registrations) (image : List ℕ) (answer : Reply) (layers : List (List ℕ)) → LeadsRegistry (λ state. drop_image state image) r (after, answer)
-    → value_at r.images image ≡ Some layers → after ≡ without_image r image layers
-drop_leaves r after image answer layers h is = sym (drops r after image answer (Some layers) h is)
+pub drop_leaves : (r after : Registrations) (image : List ℕ) (answer : Reply) (kept : Image) → LeadsRegistry (λ state. drop_image state image) r (after, answer)
+    → value_at r.images image ≡ Some kept → after ≡ without_image r image kept.layers
+drop_leaves r after image answer kept h is = sym (drops r after image answer (Some kept) h is)
 
 pub drop_stays : (r after : Registrations) (image : List ℕ) (answer : Reply) → LeadsRegistry (λ state. drop_image state image) r (after, answer)
     → value_at r.images image ≡ None → IsAlike r after

@@ -14,6 +14,7 @@ use Rattle.cv_base.proofs.Same.{same_is}
 use Rattle.cv_facts.specs.Reduction.{Known}
 use Rattle.cv_match.specs.Findings.{text_cmp}
 use Rattle.cv_core_machine.specs.State.{Feeds, Images, value_at, with_value}
+use Rattle.cv_core_machine.specs.declared.image.Image.{Image}
 use Rattle.cv_core_machine.proofs.Entries.{sorted_put}
 use Rattle.cv_core_machine.proofs.LayerTables.{value_put}
 use Rattle.cv_core_outcome.specs.Facts.{waits_for}
@@ -30,34 +31,34 @@ use Rattle.cv_core_inventory.specs.Knowledge.{Outcomes}
 -- ---- image by image
 
 -- the outcome of an image that is not the one made anew
-other_image : (made : List (List ℕ) → Outcome) (outcomes : Outcomes) (image : List ℕ) (found : Option (List (List ℕ))) (q : List ℕ) → same image q ≡ false
-    → value_at (with_outcome made outcomes image found) q ≡ value_at outcomes q
-other_image made outcomes image None q key = refl
-other_image made outcomes image (Some layers) q key =
-    value_put outcomes image (made layers) q ∙ ap (λ b. cond b (Some (made layers)) (value_at outcomes q)) key
+other_image : (made : Image → Outcome) (outcomes : Outcomes) (hash : List ℕ) (found : Option Image) (q : List ℕ) → same hash q ≡ false
+    → value_at (with_outcome made outcomes hash found) q ≡ value_at outcomes q
+other_image made outcomes hash None q key = refl
+other_image made outcomes hash (Some image) q key =
+    value_put outcomes hash (made image) q ∙ ap (λ b. cond b (Some (made image)) (value_at outcomes q)) key
 
 -- and of the one made anew
-this_image : (made : List (List ℕ) → Outcome) (outcomes : Outcomes) (image : List ℕ) (found : Option (List (List ℕ))) (q : List ℕ) (layers : List (List ℕ)) → same image q ≡ true
-    → found ≡ Some layers → value_at (with_outcome made outcomes image found) q ≡ Some (made layers)
-this_image made outcomes image None q layers key is = absurd (cc is)
-this_image made outcomes image (Some kept) q layers key is =
-    value_put outcomes image (made kept) q ∙ ap (λ b. cond b (Some (made kept)) (value_at outcomes q)) key ∙ ap (λ ls. Some (made ls)) (same_Some kept layers is)
+this_image : (made : Image → Outcome) (outcomes : Outcomes) (hash : List ℕ) (found : Option Image) (q : List ℕ) (image : Image) → same hash q ≡ true
+    → found ≡ Some image → value_at (with_outcome made outcomes hash found) q ≡ Some (made image)
+this_image made outcomes hash None q image key is = absurd (cc is)
+this_image made outcomes hash (Some kept) q image key is =
+    value_put outcomes hash (made kept) q ∙ ap (λ b. cond b (Some (made kept)) (value_at outcomes q)) key ∙ ap (λ (i : Image). Some (made i)) (same_Some kept image is)
 
-one_at : (made : List (List ℕ) → Outcome) (images : Images) (layer : List ℕ) (outcomes : Outcomes) (image q : List ℕ) (layers : List (List ℕ)) → value_at images q ≡ Some layers
-    → value_at (renewed made images layer outcomes image) q
-    ≡ cond (same image q && is_waiting layer (value_at outcomes q)) (Some (made layers)) (value_at outcomes q)
-one_at made images layer outcomes image q layers found = by_tests (is_waiting layer (value_at outcomes image)) (same image q) refl refl where
-  at_key : same image q ≡ true → is_waiting layer (value_at outcomes image) ≡ is_waiting layer (value_at outcomes q)
-  at_key key = ap (λ k. is_waiting layer (value_at outcomes k)) (same_is image q key)
+one_at : (made : Image → Outcome) (images : Images) (layer : List ℕ) (outcomes : Outcomes) (hash q : List ℕ) (image : Image) → value_at images q ≡ Some image
+    → value_at (renewed made images layer outcomes hash) q
+    ≡ cond (same hash q && is_waiting layer (value_at outcomes q)) (Some (made image)) (value_at outcomes q)
+one_at made images layer outcomes hash q image found = by_tests (is_waiting layer (value_at outcomes hash)) (same hash q) refl refl where
+  at_key : same hash q ≡ true → is_waiting layer (value_at outcomes hash) ≡ is_waiting layer (value_at outcomes q)
+  at_key key = ap (λ k. is_waiting layer (value_at outcomes k)) (same_is hash q key)
 
-  by_tests : (w t : Bool) → is_waiting layer (value_at outcomes image) ≡ w → same image q ≡ t
-      → value_at (cond w (with_outcome made outcomes image (value_at images image)) outcomes) q
-      ≡ cond (t && is_waiting layer (value_at outcomes q)) (Some (made layers)) (value_at outcomes q)
+  by_tests : (w t : Bool) → is_waiting layer (value_at outcomes hash) ≡ w → same hash q ≡ t
+      → value_at (cond w (with_outcome made outcomes hash (value_at images hash)) outcomes) q
+      ≡ cond (t && is_waiting layer (value_at outcomes q)) (Some (made image)) (value_at outcomes q)
   by_tests true true waits key =
-      this_image made outcomes image (value_at images image) q layers key (ap (value_at images) (same_is image q key) ∙ found)
-      ∙ sym (ap (λ b. cond b (Some (made layers)) (value_at outcomes q)) (sym (at_key key) ∙ waits))
-  by_tests true false waits key = other_image made outcomes image (value_at images image) q key
-  by_tests false true waits key = sym (ap (λ b. cond b (Some (made layers)) (value_at outcomes q)) (sym (at_key key) ∙ waits))
+      this_image made outcomes hash (value_at images hash) q image key (ap (value_at images) (same_is hash q key) ∙ found)
+      ∙ sym (ap (λ b. cond b (Some (made image)) (value_at outcomes q)) (sym (at_key key) ∙ waits))
+  by_tests true false waits key = other_image made outcomes hash (value_at images hash) q key
+  by_tests false true waits key = sym (ap (λ b. cond b (Some (made image)) (value_at outcomes q)) (sym (at_key key) ∙ waits))
   by_tests false false waits key = refl
 
 both : (layer : List ℕ) (a b w : Bool) (new : Outcome) (old : Option Outcome) → is_waiting layer old ≡ w
@@ -71,62 +72,62 @@ both layer true false false new old waits = refl
 both layer false true w new old waits = ap (λ c. cond c (Some new) old) waits
 both layer false false w new old waits = refl
 
-all_at : (made : List (List ℕ) → Outcome) (images : Images) (layer : List ℕ) (outcomes : Outcomes) (users : List (List ℕ)) (q : List ℕ) (layers : List (List ℕ))
-    → value_at images q ≡ Some layers
+all_at : (made : Image → Outcome) (images : Images) (layer : List ℕ) (outcomes : Outcomes) (users : List (List ℕ)) (q : List ℕ) (image : Image)
+    → value_at images q ≡ Some image
     → value_at (all_renewed made images layer outcomes users) q
-    ≡ cond (has_text users q && is_waiting layer (value_at outcomes q)) (Some (made layers)) (value_at outcomes q)
-all_at made images layer outcomes [] q layers found = refl
-all_at made images layer outcomes (image ∷ users) q layers found =
-    all_at made images layer (renewed made images layer outcomes image) users q layers found
-    ∙ ap (λ (o : Option Outcome). cond (has_text users q && is_waiting layer o) (Some (made layers)) o) (one_at made images layer outcomes image q layers found)
-    ∙ both layer (same image q) (has_text users q) (is_waiting layer (value_at outcomes q)) (made layers) (value_at outcomes q) refl
+    ≡ cond (has_text users q && is_waiting layer (value_at outcomes q)) (Some (made image)) (value_at outcomes q)
+all_at made images layer outcomes [] q image found = refl
+all_at made images layer outcomes (hash ∷ users) q image found =
+    all_at made images layer (renewed made images layer outcomes hash) users q image found
+    ∙ ap (λ (o : Option Outcome). cond (has_text users q && is_waiting layer o) (Some (made image)) o) (one_at made images layer outcomes hash q image found)
+    ∙ both layer (same hash q) (has_text users q) (is_waiting layer (value_at outcomes q)) (made image) (value_at outcomes q) refl
 
 -- an image that has no outcome gets none
-one_none : (made : List (List ℕ) → Outcome) (images : Images) (layer : List ℕ) (outcomes : Outcomes) (image q : List ℕ) → value_at outcomes q ≡ None
-    → value_at (renewed made images layer outcomes image) q ≡ None
-one_none made images layer outcomes image q none = by_tests (is_waiting layer (value_at outcomes image)) (same image q) refl refl where
-  by_tests : (w t : Bool) → is_waiting layer (value_at outcomes image) ≡ w → same image q ≡ t
-      → value_at (cond w (with_outcome made outcomes image (value_at images image)) outcomes) q ≡ None
+one_none : (made : Image → Outcome) (images : Images) (layer : List ℕ) (outcomes : Outcomes) (hash q : List ℕ) → value_at outcomes q ≡ None
+    → value_at (renewed made images layer outcomes hash) q ≡ None
+one_none made images layer outcomes hash q none = by_tests (is_waiting layer (value_at outcomes hash)) (same hash q) refl refl where
+  by_tests : (w t : Bool) → is_waiting layer (value_at outcomes hash) ≡ w → same hash q ≡ t
+      → value_at (cond w (with_outcome made outcomes hash (value_at images hash)) outcomes) q ≡ None
   by_tests true true waits key =
-      absurd (cc (sym waits ∙ ap (λ k. is_waiting layer (value_at outcomes k)) (same_is image q key) ∙ ap (is_waiting layer) none))
-  by_tests true false waits key = other_image made outcomes image (value_at images image) q key ∙ none
+      absurd (cc (sym waits ∙ ap (λ k. is_waiting layer (value_at outcomes k)) (same_is hash q key) ∙ ap (is_waiting layer) none))
+  by_tests true false waits key = other_image made outcomes hash (value_at images hash) q key ∙ none
   by_tests false t waits key = none
 
-all_none : (made : List (List ℕ) → Outcome) (images : Images) (layer : List ℕ) (outcomes : Outcomes) (users : List (List ℕ)) (q : List ℕ) → value_at outcomes q ≡ None
+all_none : (made : Image → Outcome) (images : Images) (layer : List ℕ) (outcomes : Outcomes) (users : List (List ℕ)) (q : List ℕ) → value_at outcomes q ≡ None
     → value_at (all_renewed made images layer outcomes users) q ≡ None
 all_none made images layer outcomes [] q none = none
-all_none made images layer outcomes (image ∷ users) q none =
-    all_none made images layer (renewed made images layer outcomes image) users q (one_none made images layer outcomes image q none)
+all_none made images layer outcomes (hash ∷ users) q none =
+    all_none made images layer (renewed made images layer outcomes hash) users q (one_none made images layer outcomes hash q none)
 
 -- and the order stays
-one_sorted : (made : List (List ℕ) → Outcome) (outcomes : Outcomes) (image : List ℕ) (found : Option (List (List ℕ))) (b : Bool)
-    → IsStrictlySortedBy text_cmp (keys_of outcomes) → IsStrictlySortedBy text_cmp (keys_of (cond b (with_outcome made outcomes image found) outcomes))
-one_sorted made outcomes image None true sorted = sorted
-one_sorted made outcomes image (Some layers) true sorted = sorted_put nat_list_cmp_total outcomes image (made layers) sorted
-one_sorted made outcomes image found false sorted = sorted
+one_sorted : (made : Image → Outcome) (outcomes : Outcomes) (hash : List ℕ) (found : Option Image) (b : Bool)
+    → IsStrictlySortedBy text_cmp (keys_of outcomes) → IsStrictlySortedBy text_cmp (keys_of (cond b (with_outcome made outcomes hash found) outcomes))
+one_sorted made outcomes hash None true sorted = sorted
+one_sorted made outcomes hash (Some image) true sorted = sorted_put nat_list_cmp_total outcomes hash (made image) sorted
+one_sorted made outcomes hash found false sorted = sorted
 
-all_sorted : (made : List (List ℕ) → Outcome) (images : Images) (layer : List ℕ) (outcomes : Outcomes) (users : List (List ℕ))
+all_sorted : (made : Image → Outcome) (images : Images) (layer : List ℕ) (outcomes : Outcomes) (users : List (List ℕ))
     → IsStrictlySortedBy text_cmp (keys_of outcomes) → IsStrictlySortedBy text_cmp (keys_of (all_renewed made images layer outcomes users))
 all_sorted made images layer outcomes [] sorted = sorted
-all_sorted made images layer outcomes (image ∷ users) sorted =
-    all_sorted made images layer (renewed made images layer outcomes image) users
-    (one_sorted made outcomes image (value_at images image) (is_waiting layer (value_at outcomes image)) sorted)
+all_sorted made images layer outcomes (hash ∷ users) sorted =
+    all_sorted made images layer (renewed made images layer outcomes hash) users
+    (one_sorted made outcomes hash (value_at images hash) (is_waiting layer (value_at outcomes hash)) sorted)
 
 -- ---- the images that name the layer
 
--- an image with these layers, which name the layer, is one of them
-is_user : (images : Images) (layer q : List ℕ) (layers : List (List ℕ)) → value_at images q ≡ Some layers → has_text layers layer ≡ true → has_text (users_of images layer) q ≡ true
-is_user [] layer q layers found has = absurd (cc found)
-is_user (e ∷ es) layer q layers found has =
-    by_tests (is_eq (text_cmp q e.0)) (has_text e.1 layer) refl refl found (λ (later : value_at es q ≡ Some layers). is_user es layer q layers later has) where
+-- an image whose layers name the layer is one of them
+is_user : (images : Images) (layer q : List ℕ) (image : Image) → value_at images q ≡ Some image → has_text image.layers layer ≡ true → has_text (users_of images layer) q ≡ true
+is_user [] layer q image found has = absurd (cc found)
+is_user (e ∷ es) layer q image found has =
+    by_tests (is_eq (text_cmp q e.0)) (has_text e.1.layers layer) refl refl found (λ (later : value_at es q ≡ Some image). is_user es layer q image later has) where
       others : Images
-      others = filter (λ (image : List ℕ × List (List ℕ)). has_text image.1 layer) es
+      others = filter (λ (other : List ℕ × Image). has_text other.1.layers layer) es
 
-      by_tests : (t p : Bool) → is_eq (text_cmp q e.0) ≡ t → has_text e.1 layer ≡ p → cond t (Some e.1) (value_at es q) ≡ Some layers
-          → (value_at es q ≡ Some layers → has_text (users_of es layer) q ≡ true)
-          → has_text (map (λ (image : List ℕ × List (List ℕ)). image.0) (cond p (e ∷ others) others)) q ≡ true
+      by_tests : (t p : Bool) → is_eq (text_cmp q e.0) ≡ t → has_text e.1.layers layer ≡ p → cond t (Some e.1) (value_at es q) ≡ Some image
+          → (value_at es q ≡ Some image → has_text (users_of es layer) q ≡ true)
+          → has_text (map (λ (other : List ℕ × Image). other.0) (cond p (e ∷ others) others)) q ≡ true
       by_tests true true key named is rest = or_left (same e.0 q) (has_text (users_of es layer) q) (nat_list_eq_equiv.symm e.0 q ∙ texts_ties q e.0 ∙ key)
-      by_tests true false key named is rest = absurd (cc (sym named ∙ ap (λ ls. has_text ls layer) (same_Some e.1 layers is) ∙ has))
+      by_tests true false key named is rest = absurd (cc (sym named ∙ ap (λ (i : Image). has_text i.layers layer) (same_Some e.1 image is) ∙ has))
       by_tests false true key named is rest = or_right (same e.0 q) (has_text (users_of es layer) q) (rest is)
       by_tests false false key named is rest = rest is
 
@@ -136,28 +137,28 @@ either true x y h = refl
 either false x y h = sym h
 
 -- the outcome of an image after the layer has its first facts
-known_anew : (facts : FactTable) (layer : List ℕ) (known : Known) (feeds : Feeds) (images : Images) (q : List ℕ) (layers : List (List ℕ)) → has_facts facts layer ≡ false
-    → value_at images q ≡ Some layers
-    → cond (has_text (users_of images layer) q && waits_for layer (outcome_at facts feeds layers)) (Some (outcome_at (with_value facts layer known) feeds layers))
-    (Some (outcome_at facts feeds layers))
-    ≡ Some (outcome_at (with_value facts layer known) feeds layers)
-known_anew facts layer known feeds images q layers new found = by_named (has_text layers layer) refl where
+known_anew : (facts : FactTable) (layer : List ℕ) (known : Known) (feeds : Feeds) (images : Images) (q : List ℕ) (image : Image) → has_facts facts layer ≡ false
+    → value_at images q ≡ Some image
+    → cond (has_text (users_of images layer) q && waits_for layer (outcome_at facts feeds image)) (Some (outcome_at (with_value facts layer known) feeds image))
+    (Some (outcome_at facts feeds image))
+    ≡ Some (outcome_at (with_value facts layer known) feeds image)
+known_anew facts layer known feeds images q image new found = by_named (has_text image.layers layer) refl where
   user : Bool
   user = has_text (users_of images layer) q
 
   before : Outcome
-  before = outcome_at facts feeds layers
+  before = outcome_at facts feeds image
 
   after : Outcome
-  after = outcome_at (with_value facts layer known) feeds layers
+  after = outcome_at (with_value facts layer known) feeds image
 
   by_waits : (w : Bool) → waits_for layer before ≡ w → user ≡ true → cond (user && waits_for layer before) (Some after) (Some before) ≡ Some after
   by_waits true waits is = ap (λ b. cond (b && waits_for layer before) (Some after) (Some before)) is ∙ ap (λ b. cond b (Some after) (Some before)) waits
-  by_waits false waits is = either (user && waits_for layer before) (Some after) (Some before) (ap Some (fresh facts layer known feeds layers new waits))
+  by_waits false waits is = either (user && waits_for layer before) (Some after) (Some before) (ap Some (fresh facts layer known feeds image new waits))
 
-  by_named : (b : Bool) → has_text layers layer ≡ b → cond (user && waits_for layer before) (Some after) (Some before) ≡ Some after
-  by_named true named = by_waits (waits_for layer before) refl (is_user images layer q layers found named)
-  by_named false named = either (user && waits_for layer before) (Some after) (Some before) (ap Some (unnamed facts layer known feeds layers named))
+  by_named : (b : Bool) → has_text image.layers layer ≡ b → cond (user && waits_for layer before) (Some after) (Some before) ≡ Some after
+  by_named true named = by_waits (waits_for layer before) refl (is_user images layer q image found named)
+  by_named false named = either (user && waits_for layer before) (Some after) (Some before) (ap Some (unnamed facts layer known feeds image named))
 
 -- the outcomes made anew are those with the new facts
 pub all_known : (facts : FactTable) (layer : List ℕ) (known : Known) (feeds : Feeds) (images : Images) (outcomes : Outcomes) → IsStrictlySortedBy text_cmp (keys_of images)
@@ -168,7 +169,7 @@ all_known facts layer known feeds images outcomes sorted new shown =
     same_entries nat_list_cmp_total exact_bytes after (map_values made images)
     (all_sorted made images layer outcomes (users_of images layer) (subst (IsStrictlySortedBy text_cmp) (sym same_before) sorted))
     (subst (IsStrictlySortedBy text_cmp) (sym (mapped_keys made images)) sorted) (λ q. by_found q (value_at images q) refl) where
-      made : List (List ℕ) → Outcome
+      made : Image → Outcome
       made = outcome_at (with_value facts layer known) feeds
 
       after : Outcomes
@@ -180,12 +181,12 @@ all_known facts layer known feeds images outcomes sorted new shown =
       had : (q : List ℕ) → value_at outcomes q ≡ option_map (outcome_at facts feeds) (value_at images q)
       had q = ap (λ (o : Outcomes). value_at o q) shown ∙ mapped_at text_cmp (outcome_at facts feeds) images q
 
-      by_found : (q : List ℕ) (found : Option (List (List ℕ))) → value_at images q ≡ found → value_at after q ≡ value_at (map_values made images) q
+      by_found : (q : List ℕ) (found : Option Image) → value_at images q ≡ found → value_at after q ≡ value_at (map_values made images) q
       by_found q None is =
           all_none made images layer outcomes (users_of images layer) q (had q ∙ ap (option_map (outcome_at facts feeds)) is)
           ∙ sym (mapped_at text_cmp made images q ∙ ap (option_map made) is)
-      by_found q (Some layers) is =
-          all_at made images layer outcomes (users_of images layer) q layers is
-          ∙ ap (λ (o : Option Outcome). cond (has_text (users_of images layer) q && is_waiting layer o) (Some (made layers)) o)
+      by_found q (Some image) is =
+          all_at made images layer outcomes (users_of images layer) q image is
+          ∙ ap (λ (o : Option Outcome). cond (has_text (users_of images layer) q && is_waiting layer o) (Some (made image)) o)
           (had q ∙ ap (option_map (outcome_at facts feeds)) is)
-          ∙ known_anew facts layer known feeds images q layers new is ∙ sym (mapped_at text_cmp made images q ∙ ap (option_map made) is)
+          ∙ known_anew facts layer known feeds images q image new is ∙ sym (mapped_at text_cmp made images q ∙ ap (option_map made) is)

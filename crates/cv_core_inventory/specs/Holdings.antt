@@ -6,7 +6,7 @@ use Rattle.cv_core_machine.specs.Parts.{IsRegularIn, LeadsIn, alone_in}
 use Rattle.cv_core_machine.specs.State.{Feeds, Images, Layers, State}
 use Rattle.cv_core_machine.specs.declared.limits.Limits.{Limits}
 
--- the images with their layers, the layers with their status, the feeds with their records, and how many there may be
+-- the images with their layers and seals, the layers with their status, the feeds with their records, and how many there may be
 pub record Holdings : Type 0 where
   pub images : Images
   pub layers : Layers

@@ -5,6 +5,7 @@ use Rattle.cv_advdb.specs.Feeds.{FeedTable}
 use Rattle.cv_base.specs.declared.limits.TheConstants.{MAX_LAYERS}
 use Rattle.cv_desk.specs.Stored.{Stored}
 use Rattle.cv_core_machine.specs.State.{Images, value_at}
+use Rattle.cv_core_machine.specs.declared.image.Image.{Image}
 use Rattle.cv_core_outcome.specs.Outcome.{FactTable, outcome_at}
 use Rattle.cv_core_outcome.specs.Truth.{AreFactsOf, report_with}
 use Rattle.cv_core_outcome.specs.declared.outcome.Outcome.{Outcome}
@@ -17,8 +18,8 @@ use Rattle.cv_core_inventory.specs.Holdings.{Holdings}
 abbrev pub Outcomes : Type 0
 Outcomes = List (List ℕ × Outcome)
 
--- the outcome of each registered image is that of the facts of its layers and of the feeds. There are facts of exactly the layers
--- that are Indexed, and they are right for the trees of a desk's type
+-- the outcome of each registered image is that of the facts of its layers, of their stated seals and of the feeds. There are facts
+-- of exactly the layers that are Indexed, and they are right for the trees of a desk's type
 pub record AreOutcomesOf (trees : List ℕ → Option (Option (List Stored))) (h : Holdings) (outcomes : Outcomes) : Type 0 where
   pub facts : FactTable
   pub right : AreFactsOf trees h.layers facts
@@ -40,9 +41,14 @@ pub record KnowledgeView : Type 0 where
 abbrev pub nothing_known : ℕ → KnowledgeView
 nothing_known limit = record { facts = []; outcomes = []; feeds = record { feeds = []; limit = limit } }
 
--- no image has more layers than it may have
-abbrev pub HaveAtMost128Layers : Images → Type 0
-HaveAtMost128Layers images = (image : List ℕ) (layers : List (List ℕ)) → value_at images image ≡ Some layers → length layers ≤ MAX_LAYERS
+-- an image has no more layers than it may have, and for each of them a stated seal or none
+pub record IsSoundImage (image : Image) : Type 0 where
+  pub at_most_128_layers : length image.layers ≤ MAX_LAYERS
+  pub as_many_seals : length image.seals ≡ length image.layers
+
+-- so has each registered image
+abbrev pub AreSoundImages : Images → Type 0
+AreSoundImages images = (hash : List ℕ) (image : Image) → value_at images hash ≡ Some image → IsSoundImage image
 
 -- the report by the outcome of an image, or that it is not registered
 abbrev pub report_by : ℕ → Option Outcome → ReportOutcome

@@ -1,6 +1,6 @@
 ghost use Rattle.std.specs.Prelude.{◌≡◌, ◌≤◌, length, IfOk};
 ghost use Rattle.cv_base.specs.declared.limits.TheConstants.{MAX_LAYERS};
-ghost use Rattle.cv_core_machine.specs.Step.{drop_image, register};
+ghost use Rattle.cv_core_machine.specs.Step.{drop_image, image_of, register};
 ghost use Rattle.cv_core_inventory.specs.Holdings.{Leads, feed_table};
 ghost use Rattle.cv_core_inventory.specs.code.Kept.{holdings_of, registrations, with_image, without_image};
 
@@ -14,9 +14,10 @@ use std::alloc::Global;
 use std::sync::ledger::Ledger;
 
 impl<D: Desk + Drop> Inventory<D> {
-    /// Registers an image: `Already` if it is registered with these layers, `Conflict` with its layers if with others,
-    /// `TooManyImages` if there are as many images as may be. After `Registered` its layers that were not known wait for a worker.
-    /// The time is that of its layers and of matching its packages, whatever else is registered.
+    /// Registers an image: `Already` if it is registered with these layers and these seals, `Conflict` with its layers and their
+    /// seals if with other layers or other seals, `TooManyImages` if there are as many images as may be. After `Registered` its
+    /// layers that were not known wait for a worker. The time is that of its layers and of matching its packages, whatever else is
+    /// registered.
     pub fn register<L: Ledger>(
         &self,
         alloc: Global,
@@ -24,6 +25,7 @@ impl<D: Desk + Drop> Inventory<D> {
         steps: &mut Steps<L>,
     ) -> Replied<Inventory<D>>
         requires at_most_128_layers { length manifest.now.layers ≤ MAX_LAYERS }
+        requires as_many_seals { length manifest.now.seals ≡ length manifest.now.layers }
         ensures { IfOk result (Leads (λ state. register state manifest.now) self.now) }
     {
         let (registry, reply) = self.registry.register(alloc, manifest)?;
@@ -39,9 +41,12 @@ impl<D: Desk + Drop> Inventory<D> {
         ensures { IfOk result (Leads (λ state. drop_image state image.now) self.now) }
     {
         let (registry, reply) = self.registry.drop_image(alloc, image)?;
-        match self.registry.layers_of(image) {
+        match self.registry.image_of(image) {
             None => Ok((self.with_registry(registry)?, reply)),
-            Some(layers) => Ok((self.dropped(alloc, registry, image, layers)?, reply)),
+            Some(found) => {
+                let layers = found.layers.as_slice();
+                Ok((self.dropped(alloc, registry, image, layers)?, reply))
+            }
         }
     }
 
@@ -54,13 +59,15 @@ impl<D: Desk + Drop> Inventory<D> {
         steps: &mut Steps<L>,
     ) -> Result<Inventory<D>, NoMemory>
         requires at_most_128_layers { length manifest.now.layers ≤ MAX_LAYERS }
-        requires registered { registry ≡ with_image (registrations self.now) manifest.now.hash manifest.now.layers }
+        requires as_many_seals { length manifest.now.seals ≡ length manifest.now.layers }
+        requires registered { registry ≡ with_image (registrations self.now) manifest.now.hash (image_of manifest.now) }
         ensures { IfOk result (λ after. after ≡ holdings_of registry (feed_table self.now)) }
     {
         let layers = manifest.layers.as_slice();
+        let seals = manifest.seals.as_slice();
         let knowledge = self
             .knowledge
-            .with_image(alloc, &manifest.hash, layers, steps)?;
+            .with_image(alloc, &manifest.hash, layers, seals, steps)?;
         Ok(Inventory::of(registry, knowledge))
     }
 

@@ -11,7 +11,7 @@ use std::alloc::Global;
 use std::marker::Model;
 
 /// Images, layers and feeds. Contracts see what it holds as the machine has it. Beside that it knows the facts of the layers that
-/// are indexed, and the outcome of each image, which is that of its layers' facts and the feeds as they are.
+/// are indexed, and the outcome of each image, which is that of its layers' facts, their stated seals and the feeds as they are.
 pub struct Inventory<D: Desk> {
     pub(crate) registry: Registry,
     pub(crate) knowledge: Knowledge<D>,

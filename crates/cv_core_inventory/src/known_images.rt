@@ -14,19 +14,21 @@ use std::alloc::Global;
 use std::sync::ledger::Ledger;
 
 impl<D: Desk + Drop> Knowledge<D> {
-    /// The knowledge with the outcome of a new image of these layers, the base first. The time is that of its layers and of
-    /// matching its packages, whatever else is known.
+    /// The knowledge with the outcome of a new image of these layers, the base first, and their stated seals. The time is that of
+    /// its layers and of matching its packages, whatever else is known.
     pub(crate) fn with_image<L: Ledger>(
         &self,
         alloc: Global,
         image: &Digest,
         layers: &[Digest],
+        seals: &[Option<Digest>],
         steps: &mut Steps<L>,
     ) -> Result<Knowledge<D>, NoMemory>
         requires at_most_128_layers { length layers.now ≤ MAX_LAYERS }
-        ensures { IfOk result (λ after. after ≡ image_added self.now image.now layers.now) }
+        requires as_many_seals { length seals.now ≡ length layers.now }
+        ensures { IfOk result (λ after. after ≡ image_added self.now image.now (record { layers = layers.now; seals = seals.now })) }
     {
-        let outcome = outcome_of(alloc, &self.facts, self.feeds.value(), layers, steps)?;
+        let outcome = outcome_of(alloc, &self.facts, self.feeds.value(), layers, seals, steps)?;
         let facts = self.facts.share()?;
         let feeds = self.feeds.share()?;
         let outcomes = self.outcomes.set(alloc, *image, outcome)?;

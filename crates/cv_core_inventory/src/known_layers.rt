@@ -1,6 +1,6 @@
 ghost use Rattle.std.specs.Prelude.{◌≡◌, IfOk};
 ghost use Rattle.cv_core_inventory.specs.code.Changes.{layer_indexed};
-ghost use Rattle.cv_core_inventory.specs.Knowledge.{HaveAtMost128Layers};
+ghost use Rattle.cv_core_inventory.specs.Knowledge.{AreSoundImages};
 
 use crate::knowledge::Knowledge;
 use cv_base::{NoMemory, Steps};
@@ -21,7 +21,7 @@ impl<D: Desk + Drop> Knowledge<D> {
         registry: &Registry,
         steps: &mut Steps<L>,
     ) -> Result<Knowledge<D>, NoMemory>
-        requires at_most_128_layers { HaveAtMost128Layers registry.now.images }
+        requires sound { AreSoundImages registry.now.images }
         ensures { IfOk result (λ after. after ≡ layer_indexed self.now indexed registry.now.images) }
     {
         let layer = indexed.digest();

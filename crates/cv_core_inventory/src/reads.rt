@@ -18,8 +18,8 @@ use cv_desk::Desk;
 use std::alloc::Global;
 
 impl<D: Desk + Drop> Inventory<D> {
-    /// The outcome of an image, or None if it is not registered, which is that of the facts of its layers and of the feeds. It takes
-    /// no memory.
+    /// The outcome of an image, or None if it is not registered, which is that of the facts of its layers, of their stated seals and
+    /// of the feeds. It takes no memory.
     pub fn outcome(&self, image: &Digest) -> Option<&Outcome>
         ensures known { IsOutcomeOf D.tree self.now image.now (option_map (λ outcome. outcome.now) result) }
         ensures report { StatesEveryLayer D.tree → (state : State) → report_by state.generation (option_map (λ outcome. outcome.now) result) ≡ report_of (trees_of D.tree) (holding state self.now) image.now }
@@ -27,7 +27,8 @@ impl<D: Desk + Drop> Inventory<D> {
         self.knowledge.outcome(image)
     }
 
-    /// The outcomes of all images by hash, shared. Each is that of the facts of its image's layers and of the feeds.
+    /// The outcomes of all images by hash, shared. Each is that of the facts of its image's layers, of their stated seals and of the
+    /// feeds.
     pub fn outcomes(&self) -> Result<Outcomes, NoMemory>
         ensures known { IfOk result (λ outcomes. AreOutcomesOf D.tree self.now outcomes) }
         ensures reports { StatesEveryLayer D.tree → IfOk result (λ outcomes. (state : State) → map_values (report_with state.generation) outcomes ≡ (board_of (trees_of D.tree) (holding state self.now)).reports) }

@@ -3,7 +3,7 @@ ghost use Rattle.cv_core_machine.specs.State.{value_at};
 ghost use Rattle.cv_core_outcome.specs.Facts.{waits_for};
 ghost use Rattle.cv_core_outcome.specs.Outcome.{outcome_at};
 ghost use Rattle.cv_core_inventory.specs.code.Changes.{all_renewed, is_waiting, renewed, with_outcome};
-ghost use Rattle.cv_core_inventory.specs.Knowledge.{HaveAtMost128Layers};
+ghost use Rattle.cv_core_inventory.specs.Knowledge.{AreSoundImages};
 
 use crate::knowledge::{Facts, Knowledge, Outcomes};
 use cv_base::{Digest, NoMemory, Steps};
@@ -25,7 +25,7 @@ impl<D: Desk + Drop> Knowledge<D> {
         layer: &Digest,
         steps: &mut Steps<L>,
     ) -> Result<Outcomes, NoMemory>
-        requires at_most_128_layers { HaveAtMost128Layers registry.now.images }
+        requires sound { AreSoundImages registry.now.images }
         ensures { IfOk result (λ after. after ≡ all_renewed (outcome_at facts.now self.now.feeds.feeds) registry.now.images layer.now self.now.outcomes images.now) }
     {
         let mut outcomes = self.outcomes.share()?;
@@ -47,7 +47,7 @@ impl<D: Desk + Drop> Knowledge<D> {
         layer: &Digest,
         steps: &mut Steps<L>,
     ) -> Result<Outcomes, NoMemory>
-        requires at_most_128_layers { HaveAtMost128Layers registry.now.images }
+        requires sound { AreSoundImages registry.now.images }
         ensures { IfOk result (λ after. after ≡ renewed (outcome_at facts.now self.now.feeds.feeds) registry.now.images layer.now outcomes.now image.now) }
     {
         if !is_waiting(outcomes, image, layer) {
@@ -66,16 +66,16 @@ impl<D: Desk + Drop> Knowledge<D> {
         image: &Digest,
         steps: &mut Steps<L>,
     ) -> Result<Outcomes, NoMemory>
-        requires at_most_128_layers { HaveAtMost128Layers registry.now.images }
+        requires sound { AreSoundImages registry.now.images }
         ensures { IfOk result (λ after. after ≡ with_outcome (outcome_at facts.now self.now.feeds.feeds) outcomes.now image.now (value_at registry.now.images image.now)) }
     {
-        match registry.layers_of(image) {
-            None => outcomes.share(),
-            Some(layers) => {
-                let outcome = outcome_of(alloc, facts, self.feeds.value(), layers, steps)?;
-                outcomes.set(alloc, *image, outcome)
-            }
-        }
+        let Some(found) = registry.image_of(image) else {
+            return outcomes.share();
+        };
+        let layers = found.layers.as_slice();
+        let seals = found.seals.as_slice();
+        let outcome = outcome_of(alloc, facts, self.feeds.value(), layers, seals, steps)?;
+        outcomes.set(alloc, *image, outcome)
     }
 }
 

@@ -4,6 +4,7 @@ use Rattle.std.specs.Option.{is_some}
 use Rattle.cv_advdb.specs.Feeds.{FeedTable}
 use Rattle.cv_facts.specs.Reduction.{Known}
 use Rattle.cv_core_machine.specs.State.{Images, Layers, value_at, with_value, without_value}
+use Rattle.cv_core_machine.specs.declared.image.Image.{Image}
 use Rattle.cv_core_outcome.specs.Facts.{waits_for}
 use Rattle.cv_core_outcome.specs.Outcome.{FactTable, outcome_at}
 use Rattle.cv_core_outcome.specs.Update.{rematched}
@@ -26,24 +27,24 @@ abbrev pub is_waiting : List ℕ → Option Outcome → Bool
 is_waiting layer None = false
 is_waiting layer (Some outcome) = waits_for layer outcome
 
--- the outcomes with that of an image of these layers, if it is registered
-abbrev pub with_outcome : (List (List ℕ) → Outcome) → Outcomes → List ℕ → Option (List (List ℕ)) → Outcomes
-with_outcome made outcomes image None = outcomes
-with_outcome made outcomes image (Some layers) = with_value outcomes image (made layers)
+-- the outcomes with that of the image of this hash, if it is registered
+abbrev pub with_outcome : (Image → Outcome) → Outcomes → List ℕ → Option Image → Outcomes
+with_outcome made outcomes hash None = outcomes
+with_outcome made outcomes hash (Some image) = with_value outcomes hash (made image)
 
 -- the outcomes with that of an image made anew, if it waits for a layer
-abbrev pub renewed : (List (List ℕ) → Outcome) → Images → List ℕ → Outcomes → List ℕ → Outcomes
+abbrev pub renewed : (Image → Outcome) → Images → List ℕ → Outcomes → List ℕ → Outcomes
 renewed made images layer outcomes image =
     if is_waiting layer (value_at outcomes image) then with_outcome made outcomes image (value_at images image) else outcomes
 
 -- the same for several images
-abbrev pub all_renewed : (List (List ℕ) → Outcome) → Images → List ℕ → Outcomes → List (List ℕ) → Outcomes
+abbrev pub all_renewed : (Image → Outcome) → Images → List ℕ → Outcomes → List (List ℕ) → Outcomes
 all_renewed made images layer outcomes [] = outcomes
 all_renewed made images layer outcomes (image ∷ users) = all_renewed made images layer (renewed made images layer outcomes image) users
 
--- a new image of these layers has its outcome
-abbrev pub image_added : KnowledgeView → List ℕ → List (List ℕ) → KnowledgeView
-image_added k image layers = record k { outcomes = with_value k.outcomes image (outcome_at k.facts k.feeds.feeds layers) }
+-- a new image has its outcome under this hash
+abbrev pub image_added : KnowledgeView → List ℕ → Image → KnowledgeView
+image_added k hash image = record k { outcomes = with_value k.outcomes hash (outcome_at k.facts k.feeds.feeds image) }
 
 -- an image of these layers has no outcome any more, and those of its layers that are not in the table have no facts
 abbrev pub image_dropped : KnowledgeView → List ℕ → List (List ℕ) → Layers → KnowledgeView

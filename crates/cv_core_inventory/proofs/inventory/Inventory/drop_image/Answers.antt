@@ -1,4 +1,5 @@
-use Rattle.std.proofs.Common.{sym}
+use Rattle.std.proofs.Common.{ap, sym, ◌∙◌}
+use Rattle.cv_core_inventory.specs.code.Kept.{registrations, without_image}
 use Rattle.cv_core_inventory.proofs.KeptLemmas.{alike_now, without_image_now}
 use Rattle.cv_core_inventory.proofs.LeadLemmas.{drop_leaves, drop_stays}
 use Rattle.cv_core_inventory.proofs.inventory.Inventory.drop_image.Goals as goal
@@ -12,5 +13,6 @@ with_registry-requires g c =
 pub dropped-requires : goal.dropped-requires
 dropped-requires g c =
     let inside = c.self.inside in let after = c.in_ok-registry.registry in
-    without_image_now inside.registry after inside.knowledge.feeds c.args.self.now c.args.image.now c.in-Some.layers.now c.self.view_is
-    (drop_leaves inside.registry after c.args.image.now c.in_ok-registry.reply c.in-Some.layers.now c.in_ok-registry.ensures (sym c.in-Some.ensures))
+    without_image_now inside.registry after inside.knowledge.feeds c.args.self.now c.args.image.now c.in-Some.found.now.layers c.self.view_is
+    (drop_leaves inside.registry after c.args.image.now c.in_ok-registry.reply c.in-Some.found.now c.in_ok-registry.ensures (sym c.in-Some.ensures))
+    ∙ ap (without_image (registrations c.args.self.now) c.args.image.now) (sym c.as_slice-layers.ensures)

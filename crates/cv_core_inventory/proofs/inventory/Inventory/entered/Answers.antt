@@ -2,7 +2,7 @@ use Rattle.cv_core_inventory.proofs.KeptLemmas.{kept_entered}
 use Rattle.cv_core_inventory.proofs.inventory.Inventory.entered.Goals as goal
 
 pub with_facts-requires : goal.with_facts-requires
-with_facts-requires g c = record { at_most_128_layers = c.self.invariant.at_most_128_layers }
+with_facts-requires g c = record { sound = c.self.invariant.images }
 
 pub of-requires : goal.of-requires
 of-requires g c =
