@@ -78,7 +78,7 @@ did_then worker first second a b c l f m g n h one two =
 no_work : (layer : List ℕ) (reply : Reply) → is_grant (name.Claim layer) reply ≡ false → work_after (name.Claim layer) reply ≡ None
 no_work layer reply.Registered is = refl
 no_work layer reply.Already is = refl
-no_work layer (reply.Conflict kept) is = refl
+no_work layer (reply.Conflict kept seals) is = refl
 no_work layer reply.TooManyImages is = refl
 no_work layer reply.Dropped is = refl
 no_work layer reply.NotRegistered is = refl
@@ -97,7 +97,7 @@ no_work layer reply.NoNotification is = refl
 grant_work : (layer : List ℕ) (reply : Reply) → is_grant (name.Claim layer) reply ≡ true → work_after (name.Claim layer) reply ≡ Some layer
 grant_work layer reply.Registered is = absurd cc
 grant_work layer reply.Already is = absurd cc
-grant_work layer (reply.Conflict kept) is = absurd cc
+grant_work layer (reply.Conflict kept seals) is = absurd cc
 grant_work layer reply.TooManyImages is = absurd cc
 grant_work layer reply.Dropped is = absurd cc
 grant_work layer reply.NotRegistered is = absurd cc

@@ -73,7 +73,7 @@ abbrev after : List MachineEvent → State
 after acts = state_after (λ digest. None) beginning.state acts
 
 abbrev manifest : Manifest
-manifest = record { hash = image; layers = layer ∷ [] }
+manifest = record { hash = image; layers = layer ∷ []; seals = None ∷ [] }
 
 -- a layer that is registered is not Indexed, nor is one that is claimed
 waits : (AreAllIndexed (after (act.Register manifest ∷ [])) → ⊥) × (AreAllIndexed (after (act.Register manifest ∷ act.Claim layer 0 ∷ [])) → ⊥)

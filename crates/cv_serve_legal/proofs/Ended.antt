@@ -21,7 +21,7 @@ use Rattle.cv_match.specs.Findings.{text_cmp}
 use Rattle.cv_transcript.specs.declared.entry.Entry.{Entry}
 use Rattle.cv_core_machine.specs.Layers.{queued}
 use Rattle.cv_core_machine.specs.Scans.{Trees}
-use Rattle.cv_core_machine.specs.State.{Images, State, value_at}
+use Rattle.cv_core_machine.specs.State.{Image, Images, State, value_at}
 use Rattle.cv_core_machine.specs.declared.limits.TheConstants.{MAX_FEEDS, MAX_IMAGES}
 use Rattle.cv_core_machine.specs.declared.status.Status.{Status}
 use Rattle.cv_core_machine.specs.declared.status.Status.TheVariants as status
@@ -38,18 +38,18 @@ use Rattle.cv_serve_legal.proofs.Steps.{image_names, named_found}
 -- ---- the images of a state
 
 -- what holds of each image that is found holds of all
-all_found : (Q : List ℕ → List (List ℕ) → Type 0) (images : Images) → IsStrictlySortedBy text_cmp (keys_of images)
-    → ((image : List ℕ) (layers : List (List ℕ)) → value_at images image ≡ Some layers → Q image layers)
-    → AllByRecursion (λ (image : List ℕ × List (List ℕ)). Q image.0 image.1) images
+all_found : (Q : List ℕ → Image → Type 0) (images : Images) → IsStrictlySortedBy text_cmp (keys_of images)
+    → ((image : List ℕ) (registered : Image) → value_at images image ≡ Some registered → Q image registered)
+    → AllByRecursion (λ (image : List ℕ × Image). Q image.0 image.1) images
 unfolding IsStrictlySortedBy
 all_found Q [] sorted each = tt
-all_found Q (first ∷ images) sorted each = (each first.0 first.1 at_first, all_found Q images sorted.1 (λ image layers found. each image layers (later image layers found))) where
+all_found Q (first ∷ images) sorted each = (each first.0 first.1 at_first, all_found Q images sorted.1 (λ image registered found. each image registered (later image registered found))) where
   at_first : value_at (first ∷ images) first.0 ≡ Some first.1
   at_first = ap (λ b. cond b (Some first.1) (value_at images first.0)) (sym (texts_ties first.0 first.0) ∙ same_self first.0)
 
-  later : (image : List ℕ) (layers : List (List ℕ)) → value_at images image ≡ Some layers → value_at (first ∷ images) image ≡ Some layers
-  later image layers found = by_test (is_eq (text_cmp image first.0)) refl where
-    by_test : (b : Bool) → is_eq (text_cmp image first.0) ≡ b → cond b (Some first.1) (value_at images image) ≡ Some layers
+  later : (image : List ℕ) (registered : Image) → value_at images image ≡ Some registered → value_at (first ∷ images) image ≡ Some registered
+  later image registered found = by_test (is_eq (text_cmp image first.0)) refl where
+    by_test : (b : Bool) → is_eq (text_cmp image first.0) ≡ b → cond b (Some first.1) (value_at images image) ≡ Some registered
     by_test true is =
         let none : value_at images image ≡ None =
         lookup-none (is_at (text_cmp image)) images (none_past_head (eq_by_cmp_equiv nat_list_cmp_total) image first images (IsDistinct-from_sorted text_cmp (keys_of (first ∷ images)) sorted) is) in
@@ -74,13 +74,13 @@ rounds_between trees workers before (round ∷ rounds) entries after h known =
     rounds_between trees workers h.0 rounds h.2 after h.5 (between_after trees workers before round h.1 h.0 h.4 known)
 
 -- each layer of a registered image is Indexed if none is Queued
-none_waits : (state : State) → IsBetween state → queued state.layers ≡ [] → (image : List ℕ) (layers : List (List ℕ)) (layer : List ℕ)
-    → value_at state.images image ≡ Some layers → has_text layers layer ≡ true → value_at state.layers layer ≡ Some status.Indexed
-none_waits state known none image layers layer found has = by_status (value_at state.layers layer) refl where
+none_waits : (state : State) → IsBetween state → queued state.layers ≡ [] → (image : List ℕ) (registered : Image) (layer : List ℕ)
+    → value_at state.images image ≡ Some registered → has_text registered.layers layer ≡ true → value_at state.layers layer ≡ Some status.Indexed
+none_waits state known none image registered layer found has = by_status (value_at state.layers layer) refl where
   by_status : (found : Option Status) → value_at state.layers layer ≡ found → found ≡ Some status.Indexed
   by_status None is =
       let some : is_some (value_at state.layers layer) ≡ true =
-      named_found state layer known.consistent (image_names state.images image layers layer found has) in
+      named_found state layer known.consistent (image_names state.images image registered layer found has) in
       absurd (cc (some, is))
   by_status (Some status.Queued) is =
       let some : 0 < times layer (queued state.layers) = queued_times state.layers layer is in
@@ -91,13 +91,13 @@ none_waits state known none image layers layer found has = by_status (value_at s
 
 ends_indexed : (waiting : List (List ℕ)) (trees : Trees) (workers : ℕ) (before : Moment) (entries : List Entry) (after : Moment)
     → queued before.state.layers ≡ waiting → AreLast waiting trees workers before entries after → IsBetween before.state → HasNoFault entries
-    → (image : List ℕ) (layers : List (List ℕ)) (layer : List ℕ) → value_at after.state.images image ≡ Some layers → has_text layers layer ≡ true
+    → (image : List ℕ) (registered : Image) (layer : List ℕ) → value_at after.state.images image ≡ Some registered → has_text registered.layers layer ≡ true
     → value_at after.state.layers layer ≡ Some status.Indexed
-ends_indexed [] trees workers before entries after none h known kept image layers layer found has =
+ends_indexed [] trees workers before entries after none h known kept image registered layer found has =
     ap (λ m. value_at m.state.layers layer) h.1
-    ∙ none_waits before.state known none image layers layer (ap (λ m. value_at m.state.images image) (sym h.1) ∙ found) has
-ends_indexed (first ∷ waiting) trees workers before entries after some h known kept image layers layer found has =
-    recent_after trees workers before [] entries after h known kept image layers layer (last_registers image trees workers before entries after h) found has
+    ∙ none_waits before.state known none image registered layer (ap (λ m. value_at m.state.images image) (sym h.1) ∙ found) has
+ends_indexed (first ∷ waiting) trees workers before entries after some h known kept image registered layer found has =
+    recent_after trees workers before [] entries after h known kept image registered layer (last_registers image trees workers before entries after h) found has
 
 last_between : (waiting : List (List ℕ)) (trees : Trees) (workers : ℕ) (before : Moment) (entries : List Entry) (after : Moment)
     → AreLast waiting trees workers before entries after → IsBetween before.state → IsBetween after.state
@@ -113,9 +113,9 @@ begins = record {
 pub all_indexed : (trees : Trees) (workers : ℕ) (rounds : List Round) (entries : List Entry) (after : Moment)
     → AreLegal trees workers beginning rounds entries after → HasNoFault entries → AreAllIndexed after.state
 all_indexed trees workers rounds entries after h kept =
-    all_found (λ image layers. AllByRecursion (λ layer. value_at after.state.layers layer ≡ Some status.Indexed) layers) after.state.images at_end.consistent.images
-    (λ image layers found. all_layers (λ layer. value_at after.state.layers layer ≡ Some status.Indexed) layers
-    (λ layer has. ends_indexed (queued h.between.state.layers) trees workers h.between h.last after refl h.further between last_kept image layers layer found has)) where
+    all_found (λ image registered. AllByRecursion (λ layer. value_at after.state.layers layer ≡ Some status.Indexed) registered.layers) after.state.images at_end.consistent.images
+    (λ image registered found. all_layers (λ layer. value_at after.state.layers layer ≡ Some status.Indexed) registered.layers
+    (λ layer has. ends_indexed (queued h.between.state.layers) trees workers h.between h.last after refl h.further between last_kept image registered layer found has)) where
       between : IsBetween h.between.state
       between = rounds_between trees workers beginning rounds h.first h.between h.input begins
 
@@ -138,7 +138,7 @@ pub pending_from : (trees : Trees) (workers : ℕ) (rounds : List Round) (entrie
     → (division : AreDivided trees workers beginning rounds entries after) → HasNoFault entries → ArePendingRecent [] division.parts
 pending_from trees workers rounds entries after division kept =
     all_pending trees workers beginning (rounds ++ division.further) [] division.parts after division.legal begins
-    (λ image layers layer other found has. absurd (cc found)) (subst (λ es. HasNoFault es) division.joined kept)
+    (λ image registered layer other found has. absurd (cc found)) (subst (λ es. HasNoFault es) division.joined kept)
 
 -- entries, round by round
 record Parts (trees : Trees) (workers : ℕ) (before : Moment) (rounds : List Round) (entries : List Entry) (after : Moment) : Type 0 where

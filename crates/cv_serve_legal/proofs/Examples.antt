@@ -144,7 +144,7 @@ abbrev report_line : List ℕ
 report_line = codes "{\"do\":\"report\",\"image\":\"sha256:0000000000000000000000000000000000000000000000000000000000000000\"}"
 
 abbrev manifest : Manifest
-manifest = record { hash = image; layers = layer ∷ [] }
+manifest = record { hash = image; layers = layer ∷ []; seals = None ∷ [] }
 
 abbrev first_round : Round
 first_round = line 1 register_line ∷ line 2 report_line ∷ []

@@ -17,7 +17,7 @@ use Rattle.cv_core_machine.specs.Answer as reads
 use Rattle.cv_core_machine.specs.Laws.{IsGenerationAfter}
 use Rattle.cv_core_machine.specs.Layers.{first_pending}
 use Rattle.cv_core_machine.specs.Scans.{Trees, image_scan}
-use Rattle.cv_core_machine.specs.State.{State, value_at}
+use Rattle.cv_core_machine.specs.State.{Image, State, value_at}
 use Rattle.cv_core_machine.specs.Step.{step}
 use Rattle.cv_core_machine.specs.declared.event.MachineEvent.{MachineEvent}
 use Rattle.cv_serve_legal.specs.Laws.{NeverFall, answer_generation, entry_generation, generations, reply_generation}
@@ -58,9 +58,9 @@ report_names trees state image = by_found (value_at state.images image) where
   by_pending None (Ok findings) = inr refl
   by_pending None (Err bad) = inl refl
 
-  by_found : (found : Option (List (List ℕ))) → Names state.generation (answer.Report image (report_at found trees state))
+  by_found : (found : Option Image) → Names state.generation (answer.Report image (report_at found trees state))
   by_found None = inl refl
-  by_found (Some layers) = by_pending (first_pending state.layers layers) (image_scan trees state.feeds layers)
+  by_found (Some registered) = by_pending (first_pending state.layers registered.layers) (image_scan trees state.feeds registered)
 
 answer_names : (trees : Trees) (state : State) (read : Read) → Names state.generation (answer_to trees state read)
 answer_names trees state (reads.Report image) = report_names trees state image

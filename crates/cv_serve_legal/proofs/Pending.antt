@@ -23,7 +23,7 @@ use Rattle.cv_core_machine.specs.Answer.{Read, answer_to, pending_report, report
 use Rattle.cv_core_machine.specs.Answer as reads
 use Rattle.cv_core_machine.specs.Layers.{first_pending, is_indexed_as}
 use Rattle.cv_core_machine.specs.Scans.{Trees, image_scan}
-use Rattle.cv_core_machine.specs.State.{State, value_at}
+use Rattle.cv_core_machine.specs.State.{Image, State, value_at}
 use Rattle.cv_core_machine.specs.declared.status.Status.{Status}
 use Rattle.cv_core_machine.specs.declared.status.Status.TheVariants as status
 use Rattle.cv_serve_legal.specs.Parts.{claims_of, times}
@@ -95,9 +95,9 @@ reading trees requested before after (entry.Read other ∷ rest) back read h =
 
 -- an image is registered, and this layer of it is not Indexed
 record IsPending (state : State) (image layer : List ℕ) : Type 0 where
-  layers : List (List ℕ)
-  registered : value_at state.images image ≡ Some layers
-  has : has_text layers layer ≡ true
+  registered : Image
+  stands : value_at state.images image ≡ Some registered
+  has : has_text registered.layers layer ≡ true
   pending : is_indexed_as (value_at state.layers layer) ≡ false
 
 find_has : (test : List ℕ → Bool) (xs : List (List ℕ)) (x : List ℕ) → find test xs ≡ Some x → (test x ≡ true) × (has_text xs x ≡ true)
@@ -116,18 +116,18 @@ find_has test (first ∷ xs) x is = by_test (test first) refl (find_has test xs 
 
 pending_at : (trees : Trees) (state : State) (image layer : List ℕ) → report_of trees state image ≡ report.Pending layer → IsPending state image layer
 pending_at trees state image layer says = by_found (value_at state.images image) refl says where
-  by_pending : (layers : List (List ℕ)) → value_at state.images image ≡ Some layers → (found : Option (List ℕ)) (scanned : Scanned)
-      → first_pending state.layers layers ≡ found → pending_report found state.generation scanned ≡ report.Pending layer → IsPending state image layer
-  by_pending layers registered (Some first) scanned is says =
+  by_pending : (registered : Image) → value_at state.images image ≡ Some registered → (found : Option (List ℕ)) (scanned : Scanned)
+      → first_pending state.layers registered.layers ≡ found → pending_report found state.generation scanned ≡ report.Pending layer → IsPending state image layer
+  by_pending registered stands (Some first) scanned is says =
       let one : first ≡ layer = cc says in
-      let both = find_has (λ k. not (is_indexed_as (value_at state.layers k))) layers layer (is ∙ ap (λ k. Some k) one) in
-      record { layers = layers; registered = registered; has = both.1; pending = not-true (is_indexed_as (value_at state.layers layer)) both.0 }
-  by_pending layers registered None (Ok findings) is says = absurd (cc says)
-  by_pending layers registered None (Err bad) is says = absurd (cc says)
+      let both = find_has (λ k. not (is_indexed_as (value_at state.layers k))) registered.layers layer (is ∙ ap (λ k. Some k) one) in
+      record { registered = registered; stands = stands; has = both.1; pending = not-true (is_indexed_as (value_at state.layers layer)) both.0 }
+  by_pending registered stands None (Ok findings) is says = absurd (cc says)
+  by_pending registered stands None (Err bad) is says = absurd (cc says)
 
-  by_found : (found : Option (List (List ℕ))) → value_at state.images image ≡ found → report_at found trees state ≡ report.Pending layer → IsPending state image layer
+  by_found : (found : Option Image) → value_at state.images image ≡ found → report_at found trees state ≡ report.Pending layer → IsPending state image layer
   by_found None is says = absurd (cc says)
-  by_found (Some layers) is says = by_pending layers is (first_pending state.layers layers) (image_scan trees state.feeds layers) refl says
+  by_found (Some registered) is says = by_pending registered is (first_pending state.layers registered.layers) (image_scan trees state.feeds registered) refl says
 
 some_pending : (trees : Trees) (state : State) (read : Option Read) (image layer : List ℕ)
     → option_map (answer_to trees state) read ≡ Some (answer.Report image (report.Pending layer)) → IsPending state image layer
@@ -192,9 +192,9 @@ pending_recent trees workers before lines earlier entries after h known recent k
           let both = or_parts (list_any (registers image) earlier) (list_any (registers image) front) (sym (list_any-append (registers image) earlier front) ∙ none) in
           let not_in : list_any (registers image) at.rest ≡ false =
           sym (ap (λ es. list_any (registers image) es) at.whole ∙ none_registered image h.taken at.rest) ∙ both.1 in
-          let stood : Stood before.state then.now.state image pending.layers layer (times layer (claims_of (events_of at.rest))) =
-          has_stood trees (requests h.taken) before then.now at.rest image pending.layers layer then.until known.consistent none_given not_in pending.registered pending.has in
-          let far : rank (value_at before.state.layers layer) ≡ 3 = ap rank (recent image pending.layers layer both.0 stood.stood pending.has) in
+          let stood : Stood before.state then.now.state image pending.registered layer (times layer (claims_of (events_of at.rest))) =
+          has_stood trees (requests h.taken) before then.now at.rest image pending.registered layer then.until known.consistent none_given not_in pending.stands pending.has in
+          let far : rank (value_at before.state.layers layer) ≡ 3 = ap rank (recent image pending.registered layer both.0 stood.stood pending.has) in
           absurd (behind (value_at then.now.state.layers layer) pending.pending (let more = stood.rises in omega (arith, far, more)))
 
 -- ---- of all rounds

@@ -36,8 +36,8 @@ use Rattle.cv_serve_legal.proofs.Work.{NoneClaimed, none_claimed}
 -- each image that these entries do not register has its layers Indexed
 abbrev pub IsRecent : List Entry → State → Type 0
 IsRecent entries state =
-    (image : List ℕ) (layers : List (List ℕ)) (layer : List ℕ) → list_any (registers image) entries ≡ false → value_at state.images image ≡ Some layers
-    → has_text layers layer ≡ true → value_at state.layers layer ≡ Some status.Indexed
+    (image : List ℕ) (registered : Image) (layer : List ℕ) → list_any (registers image) entries ≡ false → value_at state.images image ≡ Some registered
+    → has_text registered.layers layer ≡ true → value_at state.layers layer ≡ Some status.Indexed
 
 -- a state between rounds
 pub record IsBetween (state : State) : Type 0 where
@@ -116,18 +116,18 @@ between_after trees workers before lines entries after h known = record {
 
 pub recent_after : (trees : Trees) (workers : ℕ) (before : Moment) (lines : Round) (entries : List Entry) (after : Moment)
     → IsLegalRound trees workers before lines entries after → IsBetween before.state → HasNoFault entries → IsRecent entries after.state
-recent_after trees workers before lines entries after h known kept image layers layer other stands has =
+recent_after trees workers before lines entries after h known kept image registered layer other stands has =
     settled (value_at after.state.layers layer) ((between_after trees workers before lines entries after h known).unclaimed layer)
     (by_found (value_at before.state.layers layer) refl) where
-      stood : Stood before.state after.state image layers layer (times layer (claims_of (events_of h.others)))
-      stood = has_stood trees (requests h.taken) before after h.others image layers layer h.replays known.consistent
+      stood : Stood before.state after.state image registered layer (times layer (claims_of (events_of h.others)))
+      stood = has_stood trees (requests h.taken) before after h.others image registered layer h.replays known.consistent
           (others_kept h.taken h.others entries h.parts kept)
           (sym (ap (λ es. list_any (registers image) es) h.parts ∙ none_registered image h.taken h.others) ∙ other) stands has
 
       by_found : (found : Option Status) → value_at before.state.layers layer ≡ found → 2 ≤ rank (value_at after.state.layers layer)
       by_found None is =
           let some : is_some (value_at before.state.layers layer) ≡ true =
-          named_found before.state layer known.consistent (image_names before.state.images image layers layer stood.stood has) in
+          named_found before.state layer known.consistent (image_names before.state.images image registered layer stood.stood has) in
           absurd (cc (some, is))
       by_found (Some status.Queued) is = stood.claimed (subst (λ n. 0 < n) (sym (h.claims layer)) (queued_times before.state.layers layer is))
       by_found (Some (status.Claimed worker)) is = absurd (known.unclaimed layer worker is)

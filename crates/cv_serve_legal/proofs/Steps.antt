@@ -18,8 +18,8 @@ use Rattle.cv_core_machine.specs.Laws.{IsConsistent, is_claimed}
 use Rattle.cv_core_machine.specs.Layers.{is_claimed_by, is_named}
 use Rattle.cv_core_machine.specs.Rows.{rows_of}
 use Rattle.cv_core_machine.specs.Scans.{Trees}
-use Rattle.cv_core_machine.specs.State.{Feeds, Images, State, notification_at, value_at, with_value, without_value}
-use Rattle.cv_core_machine.specs.Step.{ack_at, claim_at, drop_at, entered, finish, is_full, register_at, remaining, step, update, updated}
+use Rattle.cv_core_machine.specs.State.{Feeds, Image, Images, State, notification_at, value_at, with_value, without_value}
+use Rattle.cv_core_machine.specs.Step.{ack_at, claim_at, drop_at, entered, finish, image_of, is_full, register_at, remaining, step, update, updated}
 use Rattle.cv_core_machine.specs.declared.event.MachineEvent.{MachineEvent}
 use Rattle.cv_core_machine.specs.declared.event.MachineEvent.TheVariants as act
 use Rattle.cv_core_machine.specs.declared.status.Status.{Status}
@@ -32,10 +32,10 @@ use Rattle.cv_serve_legal.specs.Complete.{gives_back, registers_by}
 -- ---- tables
 
 -- a registered image names its layers
-pub image_names : (images : Images) (image : List ℕ) (layers : List (List ℕ)) (layer : List ℕ) → value_at images image ≡ Some layers
-    → has_text layers layer ≡ true → is_named images layer ≡ true
-image_names images image layers layer found has =
-    any_cut (λ ls. has_text ls layer) (is_at (text_cmp image)) images layers found
+pub image_names : (images : Images) (image : List ℕ) (registered : Image) (layer : List ℕ) → value_at images image ≡ Some registered
+    → has_text registered.layers layer ≡ true → is_named images layer ≡ true
+image_names images image registered layer found has =
+    any_cut (λ (other : Image). has_text other.layers layer) (is_at (text_cmp image)) images registered found
     ∙ ap (λ b. b || is_named (without_value images image) layer) has
 
 -- ---- the image was registered before
@@ -72,50 +72,50 @@ pub ack_leaves : (found : Option (List Row)) (s : State) (number : ℕ) → ((ac
 ack_leaves None s number = (refl, refl)
 ack_leaves (Some rows) s number = (refl, refl)
 
-register_stood : (found : Option (List (List ℕ))) (s : State) (m : Manifest) (image : List ℕ) (layers : List (List ℕ))
-    → registers_by image (name.Register m.hash) (register_at found s m).1 ≡ false → value_at (register_at found s m).0.images image ≡ Some layers
-    → value_at s.images image ≡ Some layers
-register_stood (Some kept) s m image layers other stands = stands
-register_stood None s m image layers other stands = by_room (nat_lt (length s.images) s.limits.images) other stands where
+register_stood : (found : Option Image) (s : State) (m : Manifest) (image : List ℕ) (registered : Image)
+    → registers_by image (name.Register m.hash) (register_at found s m).1 ≡ false → value_at (register_at found s m).0.images image ≡ Some registered
+    → value_at s.images image ≡ Some registered
+register_stood (Some kept) s m image registered other stands = stands
+register_stood None s m image registered other stands = by_room (nat_lt (length s.images) s.limits.images) other stands where
   now : State
-  now = record s { images = with_value s.images m.hash m.layers; layers = entered s.layers m.layers }
+  now = record s { images = with_value s.images m.hash (image_of m); layers = entered s.layers m.layers }
 
   by_room : (b : Bool) → registers_by image (name.Register m.hash) (either b (now, reply.Registered) (s, reply.TooManyImages)).1 ≡ false
-      → value_at (either b (now, reply.Registered) (s, reply.TooManyImages)).0.images image ≡ Some layers → value_at s.images image ≡ Some layers
+      → value_at (either b (now, reply.Registered) (s, reply.TooManyImages)).0.images image ≡ Some registered → value_at s.images image ≡ Some registered
   by_room true other stands =
-      sym (value_put s.images m.hash m.layers image ∙ ap (λ b. cond b (Some m.layers) (value_at s.images image)) other) ∙ stands
+      sym (value_put s.images m.hash (image_of m) image ∙ ap (λ b. cond b (Some (image_of m)) (value_at s.images image)) other) ∙ stands
   by_room false other stands = stands
 
-drop_stood : (found : Option (List (List ℕ))) (s : State) (dropped image : List ℕ) (layers : List (List ℕ)) → IsConsistent s
-    → value_at (drop_at found s dropped).0.images image ≡ Some layers → value_at s.images image ≡ Some layers
-drop_stood None s dropped image layers h stands = stands
-drop_stood (Some kept) s dropped image layers h stands = by_test (same dropped image) refl where
+drop_stood : (found : Option Image) (s : State) (dropped image : List ℕ) (registered : Image) → IsConsistent s
+    → value_at (drop_at found s dropped).0.images image ≡ Some registered → value_at s.images image ≡ Some registered
+drop_stood None s dropped image registered h stands = stands
+drop_stood (Some kept) s dropped image registered h stands = by_test (same dropped image) refl where
   cut : value_at (without_value s.images dropped) image ≡ cond (same dropped image) None (value_at s.images image)
   cut = value_cut s.images dropped image h.images
 
-  by_test : (b : Bool) → same dropped image ≡ b → value_at s.images image ≡ Some layers
+  by_test : (b : Bool) → same dropped image ≡ b → value_at s.images image ≡ Some registered
   by_test true key =
       let gone : value_at (without_value s.images dropped) image ≡ None = cut ∙ ap (λ b. cond b None (value_at s.images image)) key in
       absurd (cc (gone, stands))
   by_test false key = sym (cut ∙ ap (λ b. cond b None (value_at s.images image)) key) ∙ stands
 
--- an image that is registered after an event that does not register it was registered before, with the same layers
-pub image_stood : (trees : Trees) (s : State) (a : MachineEvent) (image : List ℕ) (layers : List (List ℕ)) → IsConsistent s
-    → registers_by image (act_name a) (step trees s a).1 ≡ false → value_at (step trees s a).0.images image ≡ Some layers
-    → value_at s.images image ≡ Some layers
-image_stood trees s (act.Register manifest) image layers h other stands = register_stood (value_at s.images manifest.hash) s manifest image layers other stands
-image_stood trees s (act.DropImage dropped) image layers h other stands = drop_stood (value_at s.images dropped) s dropped image layers h stands
-image_stood trees s (act.Claim layer worker) image layers h other stands =
+-- an image that is registered after an event that does not register it was registered before, as it is now
+pub image_stood : (trees : Trees) (s : State) (a : MachineEvent) (image : List ℕ) (registered : Image) → IsConsistent s
+    → registers_by image (act_name a) (step trees s a).1 ≡ false → value_at (step trees s a).0.images image ≡ Some registered
+    → value_at s.images image ≡ Some registered
+image_stood trees s (act.Register manifest) image registered h other stands = register_stood (value_at s.images manifest.hash) s manifest image registered other stands
+image_stood trees s (act.DropImage dropped) image registered h other stands = drop_stood (value_at s.images dropped) s dropped image registered h stands
+image_stood trees s (act.Claim layer worker) image registered h other stands =
     ap (λ images. value_at images image) (sym (claim_images (value_at s.layers layer) s layer worker)) ∙ stands
-image_stood trees s (act.Indexed layer worker) image layers h other stands =
+image_stood trees s (act.Indexed layer worker) image registered h other stands =
     ap (λ images. value_at images image) (sym (finish_images s layer worker status.Indexed reply.Entered)) ∙ stands
-image_stood trees s (act.Fault layer worker) image layers h other stands =
+image_stood trees s (act.Fault layer worker) image registered h other stands =
     ap (λ images. value_at images image) (sym (finish_images s layer worker status.Queued reply.Requeued)) ∙ stands
-image_stood trees s (act.Memory layer worker) image layers h other stands =
+image_stood trees s (act.Memory layer worker) image registered h other stands =
     ap (λ images. value_at images image) (sym (finish_images s layer worker status.Queued reply.Requeued)) ∙ stands
-image_stood trees s (act.Update feed records) image layers h other stands =
+image_stood trees s (act.Update feed records) image registered h other stands =
     ap (λ images. value_at images image) (sym (update_leaves trees s feed records).0) ∙ stands
-image_stood trees s (act.Ack number) image layers h other stands =
+image_stood trees s (act.Ack number) image registered h other stands =
     ap (λ images. value_at images image) (sym (ack_leaves (notification_at s.notifications number) s number).0) ∙ stands
 
 -- ---- its layers only come further
@@ -146,11 +146,11 @@ or_rises : (found other : Option Status) → Rises found (option_or found other)
 or_rises None other = omega arith
 or_rises (Some status) other = rises_same (Some status) (Some status) refl
 
-register_rises : (found : Option (List (List ℕ))) (s : State) (m : Manifest) (q : List ℕ) → Rises (value_at s.layers q) (value_at (register_at found s m).0.layers q)
+register_rises : (found : Option Image) (s : State) (m : Manifest) (q : List ℕ) → Rises (value_at s.layers q) (value_at (register_at found s m).0.layers q)
 register_rises (Some kept) s m q = rises_same (value_at s.layers q) (value_at s.layers q) refl
 register_rises None s m q = by_room (nat_lt (length s.images) s.limits.images) where
   now : State
-  now = record s { images = with_value s.images m.hash m.layers; layers = entered s.layers m.layers }
+  now = record s { images = with_value s.images m.hash (image_of m); layers = entered s.layers m.layers }
 
   by_room : (b : Bool) → Rises (value_at s.layers q) (value_at (either b (now, reply.Registered) (s, reply.TooManyImages)).0.layers q)
   by_room true = subst (λ f. Rises (value_at s.layers q) f) (sym (entered_found s.layers m.layers q)) (or_rises (value_at s.layers q) _)
@@ -161,14 +161,14 @@ stay_rises here None = omega arith
 stay_rises true (Some status) = rises_same (Some status) (Some status) refl
 stay_rises false (Some status) = rises_same (Some status) (Some status) refl
 
-drop_rises : (found : Option (List (List ℕ))) (s : State) (dropped q : List ℕ) → IsConsistent s → is_named (drop_at found s dropped).0.images q ≡ true
+drop_rises : (found : Option Image) (s : State) (dropped q : List ℕ) → IsConsistent s → is_named (drop_at found s dropped).0.images q ≡ true
     → Rises (value_at s.layers q) (value_at (drop_at found s dropped).0.layers q)
 drop_rises None s dropped q h named = rises_same (value_at s.layers q) (value_at s.layers q) refl
-drop_rises (Some layers) s dropped q h named =
+drop_rises (Some registered) s dropped q h named =
     let others = without_value s.images dropped in
-    let kept : value_at (remaining s.layers layers others) q ≡ staying (has_text layers q) true (value_at s.layers q) =
-    remaining_found s.layers layers others q h.layers ∙ ap (λ b. staying (has_text layers q) b (value_at s.layers q)) named in
-    subst (λ f. Rises (value_at s.layers q) f) (sym kept) (stay_rises (has_text layers q) (value_at s.layers q))
+    let kept : value_at (remaining s.layers registered.layers others) q ≡ staying (has_text registered.layers q) true (value_at s.layers q) =
+    remaining_found s.layers registered.layers others q h.layers ∙ ap (λ b. staying (has_text registered.layers q) b (value_at s.layers q)) named in
+    subst (λ f. Rises (value_at s.layers q) f) (sym kept) (stay_rises (has_text registered.layers q) (value_at s.layers q))
 
 claim_rises : (found : Option Status) (s : State) (layer : List ℕ) (worker : ℕ) (q : List ℕ) → value_at s.layers layer ≡ found
     → Rises (value_at s.layers q) (value_at (claim_at found s layer worker).0.layers q)

@@ -24,8 +24,8 @@ use Rattle.cv_core_machine.specs.History.{act_name}
 use Rattle.cv_core_machine.specs.Laws.{IsConsistent}
 use Rattle.cv_core_machine.specs.Layers.{is_claimed_as, is_claimed_by, is_named}
 use Rattle.cv_core_machine.specs.Scans.{Trees}
-use Rattle.cv_core_machine.specs.State.{Layers, State, notification_at, value_at, with_value, without_value}
-use Rattle.cv_core_machine.specs.Step.{claim_at, drop_at, entered, finish, register_at, step}
+use Rattle.cv_core_machine.specs.State.{Image, Layers, State, notification_at, value_at, with_value, without_value}
+use Rattle.cv_core_machine.specs.Step.{claim_at, drop_at, entered, finish, image_of, register_at, step}
 use Rattle.cv_core_machine.specs.declared.event.MachineEvent.{MachineEvent}
 use Rattle.cv_core_machine.specs.declared.event.MachineEvent.TheVariants as act
 use Rattle.cv_core_machine.specs.declared.status.Status.{Status}
@@ -90,24 +90,24 @@ stay_claimed here there (Some one) worker is = by_test (stays here there one) is
   by_test true is = is
   by_test false is = absurd (cc is)
 
-register_claimed : (found : Option (List (List ℕ))) (s : State) (m : Manifest) (q : List ℕ) (worker : ℕ)
+register_claimed : (found : Option Image) (s : State) (m : Manifest) (q : List ℕ) (worker : ℕ)
     → value_at (register_at found s m).0.layers q ≡ Some (status.Claimed worker) → value_at s.layers q ≡ Some (status.Claimed worker)
 register_claimed (Some kept) s m q worker is = is
 register_claimed None s m q worker is = by_room (nat_lt (length s.images) s.limits.images) is where
   now : State
-  now = record s { images = with_value s.images m.hash m.layers; layers = entered s.layers m.layers }
+  now = record s { images = with_value s.images m.hash (image_of m); layers = entered s.layers m.layers }
 
   by_room : (b : Bool) → value_at (either b (now, reply.Registered) (s, reply.TooManyImages)).0.layers q ≡ Some (status.Claimed worker)
       → value_at s.layers q ≡ Some (status.Claimed worker)
   by_room true is = or_claimed (value_at s.layers q) (has_text m.layers q) worker (sym (entered_found s.layers m.layers q) ∙ is)
   by_room false is = is
 
-drop_claimed : (found : Option (List (List ℕ))) (s : State) (dropped q : List ℕ) (worker : ℕ) → IsConsistent s
+drop_claimed : (found : Option Image) (s : State) (dropped q : List ℕ) (worker : ℕ) → IsConsistent s
     → value_at (drop_at found s dropped).0.layers q ≡ Some (status.Claimed worker) → value_at s.layers q ≡ Some (status.Claimed worker)
 drop_claimed None s dropped q worker h is = is
-drop_claimed (Some layers) s dropped q worker h is =
+drop_claimed (Some registered) s dropped q worker h is =
     let others = without_value s.images dropped in
-    stay_claimed (has_text layers q) (is_named others q) (value_at s.layers q) worker (sym (remaining_found s.layers layers others q h.layers) ∙ is)
+    stay_claimed (has_text registered.layers q) (is_named others q) (value_at s.layers q) worker (sym (remaining_found s.layers registered.layers others q h.layers) ∙ is)
 
 -- a lane's event claims no layer
 lane_claimed : (trees : Trees) (s : State) (a : MachineEvent) (q : List ℕ) (worker : ℕ) → IsConsistent s → is_of_lane a ≡ true

@@ -13,7 +13,7 @@ use Rattle.cv_core_records.specs.declared.reply.Reply.TheVariants as reply
 use Rattle.cv_transcript.specs.declared.entry.Entry.{Entry}
 use Rattle.cv_transcript.specs.declared.entry.Entry.TheVariants as entry
 use Rattle.cv_core_machine.specs.Scans.{Trees}
-use Rattle.cv_core_machine.specs.State.{State, value_at}
+use Rattle.cv_core_machine.specs.State.{Image, State, value_at}
 use Rattle.cv_core_machine.specs.declared.status.Status.TheVariants as status
 use Rattle.cv_serve_legal.specs.Replay.{Moment}
 use Rattle.cv_serve_legal.specs.Round.{IsLegalRound}
@@ -42,7 +42,7 @@ HasNoFault entries = list_any is_fault entries ≡ false
 -- each layer of each registered image is Indexed
 abbrev pub AreAllIndexed : State → Type 0
 AreAllIndexed state =
-    AllByRecursion (λ (image : List ℕ × List (List ℕ)). AllByRecursion (λ layer. value_at state.layers layer ≡ Some status.Indexed) image.1) state.images
+    AllByRecursion (λ (image : List ℕ × Image). AllByRecursion (λ layer. value_at state.layers layer ≡ Some status.Indexed) image.1.layers) state.images
 
 -- ---- pending reports
 

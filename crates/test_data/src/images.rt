@@ -25,7 +25,8 @@ enum Of {
 
 /// The manifest of an image. The images of a group of eight share five of their ten layers.
 pub fn manifest(alloc: Global, image: u32) -> Result<Manifest, NoMemory>
-    ensures { IfOk result (λ manifest. length manifest.layers ≡ 10) }
+    ensures layers { IfOk result (λ manifest. length manifest.layers ≡ 10) }
+    ensures seals { IfOk result (λ manifest. length manifest.seals ≡ 10) }
 {
     manifest_over(alloc, image, image, image)
 }
@@ -37,16 +38,27 @@ pub fn manifest_over(
     lower: u32,
     upper: u32,
 ) -> Result<Manifest, NoMemory>
-    ensures { IfOk result (λ manifest. length manifest.layers ≡ 10) }
+    ensures layers { IfOk result (λ manifest. length manifest.layers ≡ 10) }
+    ensures seals { IfOk result (λ manifest. length manifest.seals ≡ 10) }
 {
     let mut layers = Vec::new(alloc);
     for index in 0..LAYERS - 1 {
         layers.push(layer(lower, index))?;
     }
     layers.push(last_layer(upper))?;
+    unsealed(alloc, hash(image), layers)
+}
+
+/// The manifest of an image of these layers, which states no seal.
+pub fn unsealed(alloc: Global, hash: Digest, layers: Vec<Digest>) -> Result<Manifest, NoMemory>
+    ensures layers { IfOk result (λ manifest. manifest.layers ≡ layers.items) }
+    ensures seals { IfOk result (λ manifest. length manifest.seals ≡ length layers.items) }
+{
+    let seals = vec![in alloc; None; layers.len()]?;
     Ok(Manifest {
-        hash: hash(image),
+        hash,
         layers: Seq::of(layers),
+        seals: Seq::of(seals),
     })
 }
 

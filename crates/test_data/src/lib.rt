@@ -26,7 +26,7 @@ pub use desk::{SampleDesk, SampleEntry, SampleLayer};
 pub use facts::{facts_of, facts_of_rows};
 pub use feed::FeedRecords;
 pub use flaw::{Flaw, advisory};
-pub use images::{hash, last_layer, manifest, manifest_over};
+pub use images::{hash, last_layer, manifest, manifest_over, unsealed};
 pub use installed::{Installed, debian_package, package};
 pub use layers::image_facts;
 pub use lines::{finding_lines, finding_text, numbered, package_lines};

@@ -80,15 +80,26 @@ fn indexed(alloc: Global, layer: Digest, worker: u32) -> Result<Event<SampleDesk
     Ok(Event::Indexed(facts_of_rows(alloc, layer, &ROWS)?, worker))
 }
 
-/// An image with one of two lists of layers.
+/// An image with one of two lists of layers. Sometimes it states a seal, which no layer has.
 fn manifest(alloc: Global, draw: u64) -> Result<Manifest, NoMemory>
-    ensures { IfOk result (λ manifest. length manifest.layers ≡ 3) }
+    ensures layers { IfOk result (λ manifest. length manifest.layers ≡ 3) }
+    ensures seals { IfOk result (λ manifest. length manifest.seals ≡ 3) }
 {
     let layers = vec![in alloc; layer(draw % IMAGES), layer(7), layer(draw / IMAGES % 2)]?;
+    let seals = vec![in alloc; None, None, seal(draw / IMAGES / 2)]?;
     Ok(Manifest {
         hash: hash(draw),
         layers: Seq::of(layers),
+        seals: Seq::of(seals),
     })
+}
+
+/// A seal that no layer has, at one of four draws.
+fn seal(draw: u64) -> Option<Digest> {
+    match draw % 4 {
+        0 => Some(Digest::of([0; 32])),
+        _ => None,
+    }
 }
 
 /// One of three feeds, of which two may stand, has one of two records.

@@ -19,10 +19,11 @@ pub const LIMITS: Limits = Limits {
 };
 
 /// What stands in a text with a report or a row of a sort, and the name of the sort.
-const SIGNS: [(&str, &str); 6] = [
+const SIGNS: [(&str, &str); 7] = [
     (" good at ", "an image is good"),
     (" waits for ", "an image waits"),
     (" bad: ", "an image is bad"),
+    (" another seal at ", "an image has another seal"),
     (" added, ", "the last rows have additions"),
     (" removed, ", "the last rows have removals"),
     (" changed, ", "the last rows have changes"),

@@ -76,12 +76,14 @@ fn step_of<'a>(verb: &str, rest: &'a str) -> Option<Step<'a>> {
     }
 }
 
-/// An image, and its layers.
+/// An image, and its layers, which may be `sealed` with the signs of their seals.
 fn register_of(words: &str) -> Step<'_> {
-    let (image, layers) = words.split_once(' ').unwrap_or((words, ""));
+    let (image, rest) = words.split_once(' ').unwrap_or((words, ""));
+    let (layers, seals) = rest.split_once(" sealed ").unwrap_or((rest, ""));
     Step::Register {
         image: letter_in(image),
         layers: layers.as_bytes(),
+        seals: seals.as_bytes(),
     }
 }
 

@@ -29,7 +29,8 @@ pub fn compare(
     let mut desk = desk.renewed();
     let by_root = scan_image(alloc, &mut desk, image, &feed, advisories);
     let mut desk = desk.renewed();
-    let by_layers = scan_layers(alloc, &mut desk, image, &feed, advisories);
+    let seals = vec![in alloc; None; image.len()]?;
+    let by_layers = scan_layers(alloc, &mut desk, image, &seals, &feed, advisories);
     outcome(&by_root, &by_layers)
 }
 

@@ -1,5 +1,4 @@
-ghost use Rattle.std.specs.Prelude.{◌≡◌, ◌≤◌, length, IfOk};
-ghost use Rattle.cv_base.specs.declared.limits.TheConstants.{MAX_LAYERS};
+ghost use Rattle.std.specs.Prelude.{◌≡◌, length, IfOk};
 ghost use Rattle.test_hub_events.specs.Core.{opened};
 
 use cv_base::{Digest, Manifest, NoMemory, Seq};
@@ -69,11 +68,13 @@ fn learn_and_view<L: Identity, W: Wait>(
 
 /// An image of one layer.
 fn manifest(alloc: Global) -> Result<Manifest, NoMemory>
-    ensures { IfOk result (λ manifest. (1 ≤ length manifest.layers) × (length manifest.layers ≤ MAX_LAYERS)) }
+    ensures layers { IfOk result (λ manifest. length manifest.layers ≡ 1) }
+    ensures seals { IfOk result (λ manifest. length manifest.seals ≡ 1) }
 {
     Ok(Manifest {
         hash: hash(1),
         layers: Seq::of(vec![in alloc; layer()]?),
+        seals: Seq::of(vec![in alloc; None]?),
     })
 }
 

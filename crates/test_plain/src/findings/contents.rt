@@ -23,6 +23,8 @@ pub enum Fault {
     NoLayer(u32),
     /// In the tree of the layer of this index, the second entry has no parent.
     BadTree(u32),
+    /// The layer of this index and letter has another seal than the stated one.
+    BadSeal(u32, u8),
     /// Line 3 of the status file is bad.
     BadStatus,
 }
@@ -37,21 +39,41 @@ pub struct Contents {
     is_bad: bool,
 }
 
-/// The fault of an image of these layers, the base first: the first layer that is not good, or else a bad status file that no later
-/// layer hides or replaces.
-pub fn fault_of(layers: &[u8]) -> Option<Fault> {
-    let mut index: u32 = 0;
-    for layer in layers {
-        match *layer {
-            b'm' => return Some(Fault::NoLayer(index)),
-            b'b' => return Some(Fault::BadTree(index)),
-            _ => index = index.saturating_add(1),
-        }
+/// The fault of an image of these layers, the base first, with the signs of their seals: the first layer that is not there, or else
+/// the first that is not good, or else the first with another seal, or else a bad status file that no later layer hides or replaces.
+pub fn fault_of(layers: &[u8], seals: &[u8]) -> Option<Fault> {
+    if let Some(index) = index_of(layers, b'm') {
+        return Some(Fault::NoLayer(index));
+    }
+    if let Some(index) = index_of(layers, b'b') {
+        return Some(Fault::BadTree(index));
+    }
+    if let Some(index) = index_of(seals, b'!') {
+        return Some(Fault::BadSeal(index, letter_at(layers, index)));
     }
     if contents_of(layers).is_bad {
         return Some(Fault::BadStatus);
     }
     None
+}
+
+/// The index of the first of these letters or signs that is this one.
+fn index_of(letters: &[u8], wanted: u8) -> Option<u32> {
+    let mut index: u32 = 0;
+    for letter in letters {
+        if *letter == wanted {
+            return Some(index);
+        }
+        index = index.saturating_add(1);
+    }
+    None
+}
+
+fn letter_at(letters: &[u8], index: u32) -> u8 {
+    match letters.get(index as usize) {
+        Some(letter) => *letter,
+        None => b'?',
+    }
 }
 
 /// What an image of these layers has, the base first.

@@ -90,6 +90,27 @@ impl Lines {
         self.number(why, index);
     }
 
+    /// A layer of an image has another seal than the stated one: that of the layer of a letter.
+    pub fn bad_seal(&mut self, image: u8, index: u64, found: u8) {
+        self.bad(image, " bad: another seal at ", index);
+        self.letter(", that of ", found);
+    }
+
+    /// Layers, each by its letter, and the signs of their seals, if one is stated.
+    pub fn layers(&mut self, word: &str, layers: &[u8], seals: &[u8]) {
+        self.letters(word, layers);
+        if seals.iter().any(|sign| *sign != b'.') {
+            self.letters(" sealed", seals);
+        }
+    }
+
+    fn letters(&mut self, word: &str, letters: &[u8]) {
+        self.word(word);
+        for letter in letters {
+            self.letter(" ", *letter);
+        }
+    }
+
     /// A finding.
     pub fn finding(&mut self, found: Found<'_>) {
         self.word(", ");

@@ -6,30 +6,33 @@ use crate::machine::plain::Machine;
 use crate::machine::step::{Step, Work};
 use cv_core_machine::Status;
 
-/// An image that is registered, with the layers that it has mostly and others that it has sometimes: a letter each, the base first.
+/// An image that is registered, with the layers that it has mostly, the signs of the seals that it states for them sometimes, and the
+/// layers that it has sometimes: a letter each, the base first.
 struct Sample {
     letter: u8,
     usual: &'static [u8],
+    seals: &'static [u8],
     other: &'static [u8],
 }
 
 macro_rules! sample {
-    ($letter:literal, $usual:literal, $other:literal) => {
+    ($letter:literal, $usual:literal, $seals:literal, $other:literal) => {
         Sample {
             letter: $letter,
             usual: $usual,
+            seals: $seals,
             other: $other,
         }
     };
 }
 
 static SAMPLES: [Sample; 6] = [
-    sample!(b'F', b"d", b"du"),
-    sample!(b'B', b"dn", b"n"),
-    sample!(b'E', b"dnu", b"ddn"),
-    sample!(b'A', b"dnwu", b"sw"),
-    sample!(b'D', b"ds", b"dsu"),
-    sample!(b'C', b"dnb", b"nm"),
+    sample!(b'F', b"d", b"!", b"du"),
+    sample!(b'B', b"dn", b"==", b"n"),
+    sample!(b'E', b"dnu", b".=!", b"ddn"),
+    sample!(b'A', b"dnwu", b"=..=", b"sw"),
+    sample!(b'D', b"ds", b"==", b"dsu"),
+    sample!(b'C', b"dnb", b"!=.", b"nm"),
 ];
 
 const WORKERS: u64 = 3;
@@ -77,13 +80,15 @@ impl Draws {
 
     fn register(&mut self) -> Step<'static> {
         let sample = &SAMPLES[self.below(6) as usize];
-        let layers = match self.below(4) {
-            0 => sample.other,
-            _ => sample.usual,
+        let (layers, seals): (&[u8], &[u8]) = match self.below(4) {
+            0 => (sample.other, b""),
+            1 => (sample.usual, sample.seals),
+            _ => (sample.usual, b""),
         };
         Step::Register {
             image: sample.letter,
             layers,
+            seals,
         }
     }
 

@@ -7,11 +7,18 @@ use cv_base::{NoMemory, Reason};
 use cv_core_machine::{Limits, Status};
 use std::alloc::Global;
 
-/// An image, and its layers if it is registered.
+/// The layers of a registered image, and the signs of their seals, if one is stated.
+#[derive(Clone, Copy, PartialEq)]
+struct Registered {
+    layers: &'static [u8],
+    seals: &'static [u8],
+}
+
+/// An image, and what is registered of it.
 #[derive(Clone, Copy)]
 struct Image {
     letter: u8,
-    layers: Option<&'static [u8]>,
+    registered: Option<Registered>,
 }
 
 /// A layer, and its status if it is in the table.
@@ -64,7 +71,7 @@ impl Machine {
         for letter in IMAGES {
             self.images.push(Image {
                 letter,
-                layers: None,
+                registered: None,
             })?;
         }
         for letter in LAYERS {
@@ -92,7 +99,11 @@ impl Machine {
     ) -> Result<(), NoMemory> {
         out.word(" -> ");
         match step {
-            Step::Register { image, layers } => self.register(image, layers, out),
+            Step::Register {
+                image,
+                layers,
+                seals,
+            } => self.register(image, Registered { layers, seals }, out),
             Step::DropImage(image) => out.word(self.drop_image(image)),
             Step::Claim(work) => out.word(self.claim(work)),
             Step::Indexed(work) => out.word(self.finish(work, Status::Indexed, "entered")),
@@ -107,18 +118,18 @@ impl Machine {
         Ok(())
     }
 
-    fn register(&mut self, letter: u8, layers: &'static [u8], out: &mut Lines) {
-        if let Some(kept) = self.layers_of(letter) {
-            if kept == layers {
+    fn register(&mut self, letter: u8, new: Registered, out: &mut Lines) {
+        if let Some(kept) = self.registered_as(letter) {
+            if kept == new {
                 return out.word("already");
             }
-            return show_conflict(out, kept);
+            return out.layers("conflict, kept", kept.layers, kept.seals);
         }
         if self.registered() >= self.limits.images {
             return out.word("too_many_images");
         }
-        self.set_layers(letter, Some(layers));
-        for layer in layers {
+        self.set_registered(letter, Some(new));
+        for layer in new.layers {
             if self.status(*layer).is_none() {
                 self.set_status(*layer, Some(Status::Queued));
             }
@@ -127,11 +138,11 @@ impl Machine {
     }
 
     fn drop_image(&mut self, letter: u8) -> &'static str {
-        let Some(layers) = self.layers_of(letter) else {
+        let Some(dropped) = self.registered_as(letter) else {
             return "not_registered";
         };
-        self.set_layers(letter, None);
-        for layer in layers {
+        self.set_registered(letter, None);
+        for layer in dropped.layers {
             if !self.is_named(*layer) && !self.is_claimed(*layer) {
                 self.set_status(*layer, None);
             }
@@ -204,9 +215,9 @@ impl Machine {
     /// The rows of all images whose layers are indexed and which are good.
     fn add_rows(&mut self, alloc: Global, before: &[Feed]) -> Result<(), NoMemory> {
         for letter in IMAGES {
-            if let Some(layers) = self.layers_of(letter)
+            if let Some(Registered { layers, seals }) = self.registered_as(letter)
                 && self.pending(layers).is_none()
-                && fault_of(layers).is_none()
+                && fault_of(layers, seals).is_none()
             {
                 self.add_image(alloc, letter, layers, before)?;
             }
@@ -266,8 +277,8 @@ impl Machine {
         self.show_queued(out);
         self.show_heads(out);
         for image in &self.images {
-            if let Some(layers) = image.layers {
-                self.show_report(alloc, image.letter, layers, out);
+            if let Some(registered) = image.registered {
+                self.show_report(alloc, image.letter, registered, out);
             }
         }
     }
@@ -294,11 +305,12 @@ impl Machine {
         }
     }
 
-    fn show_report(&self, alloc: Global, image: u8, layers: &[u8], out: &mut Lines) {
+    fn show_report(&self, alloc: Global, image: u8, registered: Registered, out: &mut Lines) {
+        let Registered { layers, seals } = registered;
         if let Some(layer) = self.pending(layers) {
             return out.pending(image, layer);
         }
-        if let Some(fault) = fault_of(layers) {
+        if let Some(fault) = fault_of(layers, seals) {
             return show_fault(out, image, fault);
         }
         out.good(image, self.generation);
@@ -330,20 +342,20 @@ impl Machine {
         }
     }
 
-    /// The layers of an image, if it is registered.
-    fn layers_of(&self, letter: u8) -> Option<&'static [u8]> {
+    /// What is registered of an image.
+    fn registered_as(&self, letter: u8) -> Option<Registered> {
         for image in &self.images {
             if image.letter == letter {
-                return image.layers;
+                return image.registered;
             }
         }
         None
     }
 
-    fn set_layers(&mut self, letter: u8, layers: Option<&'static [u8]>) {
+    fn set_registered(&mut self, letter: u8, registered: Option<Registered>) {
         for image in self.images.iter_mut() {
             if image.letter == letter {
-                image.layers = layers;
+                image.registered = registered;
             }
         }
     }
@@ -352,7 +364,7 @@ impl Machine {
     fn registered(&self) -> u32 {
         let mut count: u32 = 0;
         for image in &self.images {
-            if image.layers.is_some() {
+            if image.registered.is_some() {
                 count = count.saturating_add(1);
             }
         }
@@ -372,8 +384,8 @@ impl Machine {
     /// Whether a registered image has the layer.
     fn is_named(&self, layer: u8) -> bool {
         for image in &self.images {
-            if let Some(layers) = image.layers
-                && layers.contains(&layer)
+            if let Some(registered) = image.registered
+                && registered.layers.contains(&layer)
             {
                 return true;
             }
@@ -412,18 +424,11 @@ fn show_findings(out: &mut Lines, changes: &[Change]) {
     }
 }
 
-/// The layers that an image keeps.
-fn show_conflict(out: &mut Lines, layers: &[u8]) {
-    out.word("conflict, kept");
-    for layer in layers {
-        out.letter(" ", *layer);
-    }
-}
-
 fn show_fault(out: &mut Lines, image: u8, fault: Fault) {
     match fault {
         Fault::NoLayer(layer) => out.bad(image, " bad: no layer at ", u64::from(layer)),
         Fault::BadTree(layer) => out.bad(image, " bad: no good tree at ", u64::from(layer)),
+        Fault::BadSeal(layer, found) => out.bad_seal(image, u64::from(layer), found),
         Fault::BadStatus => out.bad(image, " bad: status file at line ", 3),
     }
 }

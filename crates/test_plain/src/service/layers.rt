@@ -52,6 +52,78 @@ static BAD_STATUS: [TableEntry; 4] = dpkg_rows![entry!(
 /// A file whose folder is no entry.
 static BAD_TREE: [TableEntry; 2] = [entry!("etc"), entry!("var/lib/dpkg", b"")];
 
+/// The seals of the layers above, by their letters, as Python's hashlib computed them.
+static SEALS: [(u8, &str); 6] = [
+    (
+        b'd',
+        "sha256:eb1a1d47d555a50faa637b3a88c298a8c89d8a4c158967b0d3f0166e048bf8c3",
+    ),
+    (
+        b'u',
+        "sha256:fca8dc2c30d1a5054a411a65e7fa788b63bbcaeb7748e4251e87d6717a5c8a21",
+    ),
+    (
+        b'n',
+        "sha256:9280b690c8182e59ce483e546ebfe02a8fff0d88f81b943a053d7f32683e71d1",
+    ),
+    (
+        b'w',
+        "sha256:23a9e00a82d3479ba45fe40cfedac80b13d16c0ea109b444791a100fd130750b",
+    ),
+    (
+        b's',
+        "sha256:a307ce640fc2e6a1c4f0096b55050ab775ebacc2999eef0ab737d58e1409624d",
+    ),
+    (
+        b'b',
+        "sha256:3860031287f4ed17a90a4de60e0de02b93fde9a9f7bef648708853e77e2aa639",
+    ),
+];
+
+/// The seal of zeros, which no layer has.
+pub fn zeros() -> Digest {
+    Digest::of([0; 32])
+}
+
+/// The seal by its sign, if one is stated for the layer of this letter.
+pub fn seal_by(sign: u8, letter: u8) -> Option<Digest> {
+    match sign {
+        b'=' => own_seal(letter),
+        b'!' => Some(zeros()),
+        _ => None,
+    }
+}
+
+/// The sign of a seal that is stated for the layer of this letter, or of none.
+pub fn sign_of(seal: Option<Digest>, letter: u8) -> u8 {
+    match seal {
+        None => b'.',
+        Some(seal) if seal == zeros() => b'!',
+        Some(_) if seal == own_seal(letter) => b'=',
+        Some(_) => b'?',
+    }
+}
+
+/// The seal of the layer of a letter, if there is one.
+fn own_seal(letter: u8) -> Option<Digest> {
+    for (known, seal) in &SEALS {
+        if *known == letter {
+            return Digest::read(seal.as_bytes()).ok();
+        }
+    }
+    None
+}
+
+/// The letter of the layer that has a seal.
+pub fn letter_by(seal: Digest) -> u8 {
+    for (letter, known) in &SEALS {
+        if Digest::read(known.as_bytes()) == Ok(seal) {
+            return *letter;
+        }
+    }
+    b'?'
+}
+
 /// The digest of 32 bytes that are all this letter.
 pub fn digest(letter: u8) -> Digest {
     Digest::of([letter; 32])

@@ -1,6 +1,6 @@
 use crate::findings::{Found, Lines};
 use crate::machine::IMAGES;
-use crate::service::layers::{digest, letter_of};
+use crate::service::layers::{digest, letter_by, letter_of, sign_of, zeros};
 use crate::service::step::Service;
 use cv_base::{Digest, Finding, NoMemory, Row};
 use cv_core::{NoticeHead, Notices, PageError, Reply, ReportRefusal};
@@ -11,9 +11,22 @@ use std::alloc::Global;
 /// The reply to an event.
 pub fn show_reply(out: &mut Lines, reply: &Reply) {
     match reply {
-        Reply::Conflict { kept } => show_layers(out, "conflict, kept", kept.as_slice()),
+        Reply::Conflict { kept, kept_seals } => {
+            show_kept(out, kept.as_slice(), kept_seals.as_slice())
+        }
         Reply::Updated { generation, rows } => out.updated(*generation, *rows),
         _ => out.word(reply_name(reply)),
+    }
+}
+
+/// The layers that an image keeps, and the signs of their seals, if one is stated.
+fn show_kept(out: &mut Lines, kept: &[Digest], seals: &[Option<Digest>]) {
+    show_layers(out, "conflict, kept", kept);
+    if seals.iter().any(Option::is_some) {
+        out.word(" sealed");
+        for (layer, seal) in kept.iter().zip(seals) {
+            out.letter(" ", sign_of(*seal, letter_of(*layer)));
+        }
     }
 }
 
@@ -94,9 +107,22 @@ fn show_bad(out: &mut Lines, image: u8, fault: &ImageFault) {
             out.bad(image, " bad: no good tree at ", u64::from(*layer))
         }
         ImageFault::BadTree(_, _) => out.word(" | bad in another way"),
+        ImageFault::BadSeal {
+            layer,
+            stated,
+            found,
+        } => show_bad_seal(out, image, *layer, *stated, *found),
         ImageFault::BadFile { path, line, .. } => show_bad_file(out, image, path.text(), *line),
         ImageFault::TooLarge { .. } => out.word(" | bad in another way"),
     }
+}
+
+/// No seal is stated that no layer has but the one of zeros.
+fn show_bad_seal(out: &mut Lines, image: u8, layer: u32, stated: Digest, found: Digest) {
+    if stated != zeros() {
+        return out.word(" | bad in another way");
+    }
+    out.bad_seal(image, u64::from(layer), letter_by(found))
 }
 
 fn show_bad_file(out: &mut Lines, image: u8, path: &str, line: u64) {

@@ -4,7 +4,7 @@ ghost use Rattle.cv_core_machine.specs.declared.limits.TheConstants.{MAX_FEEDS, 
 
 use crate::findings::advisories;
 use crate::machine::{Step, Work};
-use crate::service::layers::{digest, layers_of};
+use crate::service::layers::{digest, layers_of, seal_by};
 use cv_base::{Digest, MAX_LAYERS, Manifest, NoMemory, Seq, Steps, Text};
 use cv_core::{Core, Event, Limits, Reply};
 use std::alloc::Global;
@@ -56,7 +56,8 @@ fn is_sound(event: &Event<SampleDesk>) -> bool
     match event {
         Event::Register(manifest) => {
             let layers = manifest.layers.as_slice();
-            !layers.is_empty() && layers.len() <= MAX_LAYERS
+            let seals = manifest.seals.as_slice();
+            !layers.is_empty() && layers.len() <= MAX_LAYERS && seals.len() == layers.len()
         }
         _ => true,
     }
@@ -64,7 +65,11 @@ fn is_sound(event: &Event<SampleDesk>) -> bool
 
 fn event_of(alloc: Global, step: Step<'_>) -> Result<Event<SampleDesk>, NoMemory> {
     Ok(match step {
-        Step::Register { image, layers } => Event::Register(manifest(alloc, image, layers)?),
+        Step::Register {
+            image,
+            layers,
+            seals,
+        } => Event::Register(manifest(alloc, image, layers, seals)?),
         Step::DropImage(image) => Event::DropImage(digest(image)),
         Step::Claim(work) => Event::Claim(digest(work.layer), work.worker),
         Step::Indexed(work) => indexed(alloc, work)?,
@@ -87,15 +92,36 @@ fn update(alloc: Global, feed: &str, code: u32) -> Result<Event<SampleDesk>, NoM
     Ok(Event::Update(name, Seq::of(records)))
 }
 
-fn manifest(alloc: Global, image: u8, letters: &[u8]) -> Result<Manifest, NoMemory> {
+/// The manifest of an image of the layers of these letters, with the seals of these signs.
+fn manifest(alloc: Global, image: u8, letters: &[u8], signs: &[u8]) -> Result<Manifest, NoMemory> {
+    let signs = without_blanks(alloc, signs)?;
     let mut layers = Vec::new(alloc);
-    for letter in letters {
-        if *letter != b' ' {
-            layers.push(digest(*letter))?;
-        }
+    let mut seals = Vec::new(alloc);
+    for (index, letter) in without_blanks(alloc, letters)?.iter().enumerate() {
+        layers.push(digest(*letter))?;
+        seals.push(seal_at(&signs, index, *letter))?;
     }
     Ok(Manifest {
         hash: digest(image),
         layers: Seq::of(layers),
+        seals: Seq::of(seals),
     })
+}
+
+fn without_blanks(alloc: Global, letters: &[u8]) -> Result<Vec<u8>, NoMemory> {
+    let mut others = Vec::new(alloc);
+    for letter in letters {
+        if *letter != b' ' {
+            others.push(*letter)?;
+        }
+    }
+    Ok(others)
+}
+
+/// The seal by the sign at an index. A layer without a sign has no stated seal.
+fn seal_at(signs: &[u8], index: usize, letter: u8) -> Option<Digest> {
+    match signs.get(index) {
+        Some(sign) => seal_by(*sign, letter),
+        None => None,
+    }
 }

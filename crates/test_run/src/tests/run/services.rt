@@ -1,5 +1,5 @@
 /// Sessions of the service: the arguments, the input, and the transcript.
-pub static CASES: [(&[&str], &str, &str); 9] = [
+pub static CASES: [(&[&str], &str, &str); 12] = [
     // an input without a line
     (&["serve"], "", ""),
     // an input without a line
@@ -88,6 +88,52 @@ pub static CASES: [(&[&str], &str, &str); 9] = [
 {"at":3,"event":"register","image":"<1>","kept":["<a>"],"lane":0,"line":3,"reply":"conflict"}
 {"at":4,"event":"claim","layer":"<a>","reply":"claimed","worker":0}
 {"at":5,"event":"indexed","layer":"<a>","reply":"entered","worker":0}
+"#,
+    ),
+    // a seal that its layer does not have: without it the image is another one, and its report names both seals
+    (
+        &["serve", "--workers", "1"],
+        r#"{"do":"register","manifest":{"hash":"<1>","layers":[{"hash":"<a>","seal":"<0>"}]}}
+{"do":"register","manifest":{"hash":"<1>","layers":[{"hash":"<a>"}]}}
+{"do":"register","manifest":{"hash":"<1>","layers":[{"hash":"<a>","seal":"<0>"}]}}
+
+
+{"do":"report","image":"<1>"}"#,
+        r#"{"at":1,"event":"register","image":"<1>","lane":0,"line":1,"reply":"registered"}
+{"at":2,"event":"register","image":"<1>","kept":["<a>"],"kept_seals":["<0>"],"lane":0,"line":2,"reply":"conflict"}
+{"at":3,"event":"register","image":"<1>","lane":0,"line":3,"reply":"already"}
+{"at":4,"event":"claim","layer":"<a>","reply":"claimed","worker":0}
+{"at":5,"event":"indexed","layer":"<a>","reply":"entered","worker":0}
+{"at":5,"bad":{"cause":"bad_seal","found":"<a-seal>","layer":0,"stated":"<0>"},"image":"<1>","lane":0,"line":6,"read":"report","reply":"bad_image"}
+"#,
+    ),
+    // the seal of one of two layers, which it has
+    (
+        &["serve", "--workers", "1"],
+        r#"{"do":"register","manifest":{"hash":"<1>","layers":[{"hash":"<a>","seal":"<a-seal>"},{"hash":"<d>"}]}}
+{"do":"register","manifest":{"hash":"<1>","layers":[{"hash":"<a>"},{"hash":"<d>"}]}}
+
+
+{"do":"update","feed":"deb","advisories":[{"id":"X-1",<openssl>}]}
+
+{"do":"report","image":"<1>"}"#,
+        r#"{"at":1,"event":"register","image":"<1>","lane":0,"line":1,"reply":"registered"}
+{"at":2,"event":"register","image":"<1>","kept":["<a>","<d>"],"kept_seals":["<a-seal>",null],"lane":0,"line":2,"reply":"conflict"}
+{"at":3,"event":"claim","layer":"<a>","reply":"claimed","worker":0}
+{"at":4,"event":"indexed","layer":"<a>","reply":"entered","worker":0}
+{"at":5,"event":"claim","layer":"<d>","reply":"claimed","worker":0}
+{"at":6,"event":"indexed","layer":"<d>","reply":"entered","worker":0}
+{"at":7,"event":"update","feed":"deb","generation":1,"lane":0,"line":5,"reply":"updated","rows":1}
+{"at":7,"findings":[<openssl-in-deb>],"generation":1,"image":"<1>","lane":0,"line":7,"read":"report","reply":"good"}
+"#,
+    ),
+    // a layer's digest is looked at before its seal; a seal that is there is a digest
+    (
+        &["serve"],
+        r#"{"do":"register","manifest":{"hash":"<1>","layers":[{"hash":"<a>"},{"hash":"<b>","seal":null}]}}
+{"do":"register","manifest":{"hash":"<1>","layers":[{"hash":"x","seal":"x"}]}}"#,
+        r#"{"index":1,"line":1,"refused":"bad_request","what":"bad_seal"}
+{"index":0,"line":2,"refused":"bad_request","what":"bad_layer"}
 "#,
     ),
     // the refused lines of a round stand first
