@@ -21,7 +21,8 @@ use Rattle.cv_match.specs.Findings.{text_cmp}
 use Rattle.cv_transcript.specs.declared.entry.Entry.{Entry}
 use Rattle.cv_core_machine.specs.Layers.{queued}
 use Rattle.cv_core_machine.specs.Scans.{Trees}
-use Rattle.cv_core_machine.specs.State.{Image, Images, State, value_at}
+use Rattle.cv_core_machine.specs.State.{Images, State, value_at}
+use Rattle.cv_core_machine.specs.declared.image.Image.{Image}
 use Rattle.cv_core_machine.specs.declared.limits.TheConstants.{MAX_FEEDS, MAX_IMAGES}
 use Rattle.cv_core_machine.specs.declared.status.Status.{Status}
 use Rattle.cv_core_machine.specs.declared.status.Status.TheVariants as status

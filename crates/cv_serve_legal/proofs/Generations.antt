@@ -17,9 +17,10 @@ use Rattle.cv_core_machine.specs.Answer as reads
 use Rattle.cv_core_machine.specs.Laws.{IsGenerationAfter}
 use Rattle.cv_core_machine.specs.Layers.{first_pending}
 use Rattle.cv_core_machine.specs.Scans.{Trees, image_scan}
-use Rattle.cv_core_machine.specs.State.{Image, State, value_at}
+use Rattle.cv_core_machine.specs.State.{State, value_at}
 use Rattle.cv_core_machine.specs.Step.{step}
 use Rattle.cv_core_machine.specs.declared.event.MachineEvent.{MachineEvent}
+use Rattle.cv_core_machine.specs.declared.image.Image.{Image}
 use Rattle.cv_serve_legal.specs.Laws.{NeverFall, answer_generation, entry_generation, generations, reply_generation}
 use Rattle.cv_serve_legal.specs.Legal.{AreLast, AreLegal, AreLegalRounds}
 use Rattle.cv_serve_legal.specs.Replay.{IsRead, Moment, Replays, moment_after, read_of}

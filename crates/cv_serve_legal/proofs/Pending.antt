@@ -23,7 +23,8 @@ use Rattle.cv_core_machine.specs.Answer.{Read, answer_to, pending_report, report
 use Rattle.cv_core_machine.specs.Answer as reads
 use Rattle.cv_core_machine.specs.Layers.{first_pending, is_indexed_as}
 use Rattle.cv_core_machine.specs.Scans.{Trees, image_scan}
-use Rattle.cv_core_machine.specs.State.{Image, State, value_at}
+use Rattle.cv_core_machine.specs.State.{State, value_at}
+use Rattle.cv_core_machine.specs.declared.image.Image.{Image}
 use Rattle.cv_core_machine.specs.declared.status.Status.{Status}
 use Rattle.cv_core_machine.specs.declared.status.Status.TheVariants as status
 use Rattle.cv_serve_legal.specs.Parts.{claims_of, times}

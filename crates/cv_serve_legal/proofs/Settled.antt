@@ -20,6 +20,7 @@ use Rattle.cv_core_machine.specs.Laws.{IsConsistent}
 use Rattle.cv_core_machine.specs.Layers.{is_queued_as, queued}
 use Rattle.cv_core_machine.specs.Scans.{Trees}
 use Rattle.cv_core_machine.specs.State.{Layers, State, value_at}
+use Rattle.cv_core_machine.specs.declared.image.Image.{Image}
 use Rattle.cv_core_machine.specs.declared.status.Status.{Status}
 use Rattle.cv_core_machine.specs.declared.status.Status.TheVariants as status
 use Rattle.cv_serve_legal.specs.Parts.{claims_of, times}

@@ -12,10 +12,11 @@ use Rattle.cv_core_machine.specs.History.{act_name}
 use Rattle.cv_core_machine.specs.Laws.{IsConsistent}
 use Rattle.cv_core_machine.specs.Layers.{is_named}
 use Rattle.cv_core_machine.specs.Scans.{Trees}
-use Rattle.cv_core_machine.specs.State.{Image, State, value_at}
+use Rattle.cv_core_machine.specs.State.{State, value_at}
 use Rattle.cv_core_machine.specs.Step.{claim_at, step}
 use Rattle.cv_core_machine.specs.declared.event.MachineEvent.{MachineEvent}
 use Rattle.cv_core_machine.specs.declared.event.MachineEvent.TheVariants as act
+use Rattle.cv_core_machine.specs.declared.image.Image.{Image}
 use Rattle.cv_core_machine.proofs.Consistent.{step_consistent}
 use Rattle.cv_serve_legal.specs.Parts.{claim_in, claims_of, times}
 use Rattle.cv_serve_legal.specs.Replay.{Moment, Replays, moment_after}

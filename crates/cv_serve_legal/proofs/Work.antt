@@ -24,10 +24,11 @@ use Rattle.cv_core_machine.specs.History.{act_name}
 use Rattle.cv_core_machine.specs.Laws.{IsConsistent}
 use Rattle.cv_core_machine.specs.Layers.{is_claimed_as, is_claimed_by, is_named}
 use Rattle.cv_core_machine.specs.Scans.{Trees}
-use Rattle.cv_core_machine.specs.State.{Image, Layers, State, notification_at, value_at, with_value, without_value}
+use Rattle.cv_core_machine.specs.State.{Layers, State, notification_at, value_at, with_value, without_value}
 use Rattle.cv_core_machine.specs.Step.{claim_at, drop_at, entered, finish, image_of, register_at, step}
 use Rattle.cv_core_machine.specs.declared.event.MachineEvent.{MachineEvent}
 use Rattle.cv_core_machine.specs.declared.event.MachineEvent.TheVariants as act
+use Rattle.cv_core_machine.specs.declared.image.Image.{Image}
 use Rattle.cv_core_machine.specs.declared.status.Status.{Status}
 use Rattle.cv_core_machine.specs.declared.status.Status.TheVariants as status
 use Rattle.cv_core_machine.proofs.Consistent.{either, step_consistent}
