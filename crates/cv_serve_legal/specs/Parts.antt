@@ -8,7 +8,6 @@ use Rattle.cv_core_records.specs.declared.event.By.TheVariants as by
 use Rattle.cv_core_records.specs.declared.event.EventEntry.{EventEntry}
 use Rattle.cv_core_records.specs.declared.reply.Reply.{Reply}
 use Rattle.cv_core_records.specs.declared.reply.Reply.TheVariants as reply
-use Rattle.cv_transcript.specs.Order.{events_of}
 use Rattle.cv_transcript.specs.declared.entry.Entry.{Entry}
 use Rattle.cv_transcript.specs.declared.entry.Entry.TheVariants as entry
 
