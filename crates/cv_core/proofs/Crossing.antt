@@ -19,6 +19,7 @@ use Rattle.cv_facts.proofs.facts.LayerFacts.TheSendSync as facts
 use Rattle.cv_core_outcome.proofs.outcome.Outcome.TheSendSync as outcome
 use Rattle.cv_notice.proofs.notices.Notices.TheSendSync as notices
 use Rattle.cv_core_records.proofs.reply.Reply.TheSendSync as reply
+use Rattle.cv_core_machine.proofs.image.Image.TheSendSync as image
 use Rattle.cv_core_registry.proofs.layer_status.LayerStatus.TheSendSync as layer_status
 use Rattle.cv_core_registry.specs.contracts.registry.Registry as registry
 use Rattle.cv_core_inventory.specs.contracts.knowledge.Knowledge as knowledge
@@ -56,12 +57,12 @@ ruleset small = (
   digest.the_sync,
 )
 
--- the images and their layers
+-- the images with their layers and seals
 registry_send : IsSend registry.the_row
-registry_send = search (layer_status.the_send, layer_status.the_sync, small, sendable, declared_send) depth 30 fits 5000
+registry_send = search (image.the_send, image.the_sync, layer_status.the_send, layer_status.the_sync, small, sendable, declared_send) depth 30 fits 5000
 
 registry_sync : IsSync registry.the_row
-registry_sync = search (layer_status.the_send, layer_status.the_sync, small, sendable, declared_sync) depth 30 fits 5000
+registry_sync = search (image.the_send, image.the_sync, layer_status.the_send, layer_status.the_sync, small, sendable, declared_sync) depth 30 fits 5000
 
 -- the core, and what it gives
 ruleset parts = (feeds_send, feeds_sync, outcome.the_send, outcome.the_sync, notices.the_send, notices.the_sync, facts.the_send, facts.the_sync, small)

@@ -10,6 +10,7 @@ use Rattle.cv_core_machine.specs.Board.{BoardView, board_of}
 use Rattle.cv_core_machine.specs.Layers.{first_pending}
 use Rattle.cv_core_machine.specs.Scans.{Trees}
 use Rattle.cv_core_machine.specs.State.{Feeds, Layers, Notifications, State, value_at}
+use Rattle.cv_core_machine.specs.declared.image.Image.{Image}
 use Rattle.cv_core_outcome.specs.Facts.{pending_layer}
 use Rattle.cv_core_outcome.specs.Outcome.{FactTable, outcome_at}
 use Rattle.cv_core_outcome.specs.Truth.{AreFactsOf, report_with}
@@ -53,10 +54,10 @@ waiting_by generation (Some (Pending layer)) = refl
 waiting_by generation (Some (Bad fault)) = refl
 waiting_by generation (Some (Good found matches)) = refl
 
-waiting_same : (tree : List ℕ → Option (Option (List Stored))) (table : Layers) (facts : FactTable) (feeds : Feeds) (found : Option (List (List ℕ))) → AreFactsOf tree table facts
-    → option_map pending_layer (option_map (outcome_at facts feeds) found) ≡ option_map (first_pending table) found
+waiting_same : (tree : List ℕ → Option (Option (List Stored))) (table : Layers) (facts : FactTable) (feeds : Feeds) (found : Option Image) → AreFactsOf tree table facts
+    → option_map pending_layer (option_map (outcome_at facts feeds) found) ≡ option_map (λ (kept : Image). first_pending table kept.layers) found
 waiting_same tree table facts feeds None are = refl
-waiting_same tree table facts feeds (Some layers) are = ap Some (waiting_is tree table facts feeds layers are)
+waiting_same tree table facts feeds (Some image) are = ap Some (waiting_is tree table facts feeds image are)
 
 -- the layer that a report names as pending
 pub waiting_core : (tree : List ℕ → Option (Option (List Stored))) (core : CoreView) (h : Holdings) (generation : ℕ) (image : List ℕ) (found : Option Outcome) (shows : ReportOutcome)

@@ -41,9 +41,10 @@ act_of (event.Memory layer worker) = act.Memory layer worker
 act_of (event.Update feed records) = act.Update feed records
 act_of (event.Ack number) = act.Ack number
 
--- an image to be registered has 1 to 128 layers; other events have no condition
+-- an image to be registered has 1 to 128 layers, and for each a stated seal or none; other events have no condition
 abbrev pub IsSound : MachineEvent → Type 0
-IsSound (act.Register manifest) = (1 ≤ length manifest.layers) × (length manifest.layers ≤ MAX_LAYERS)
+IsSound (act.Register manifest) =
+    (1 ≤ length manifest.layers) × (length manifest.layers ≤ MAX_LAYERS) × (length manifest.seals ≡ length manifest.layers)
 IsSound _ = Unit {0}
 
 -- an event is an update of a feed, the only one with scans in what it does

@@ -14,7 +14,7 @@ use std::sync::ledger::Ledger;
 
 /// An event of the machine. Workers are numbered from 0.
 pub enum Event<D: Desk> {
-    /// Registers an image of 1 to 128 layers.
+    /// Registers an image of 1 to 128 layers, with a seal or none for each.
     Register(Manifest),
     /// Drops the image of this hash.
     DropImage(Digest),

@@ -19,6 +19,7 @@ impl<D: Desk + Drop> Core<D> {
     ) -> Replied<Core<D>>
         requires room { self.now.count < 2 ^ 63 }
         requires at_most_128_layers { length manifest.now.layers ≤ MAX_LAYERS }
+        requires as_many_seals { length manifest.now.seals ≡ length manifest.now.layers }
         ensures { IfOk result (λ after. after ≡ counted self.now (register self.now.state manifest.now)) }
     {
         let (inventory, reply) = self.inventory.register(alloc, manifest, steps)?;
