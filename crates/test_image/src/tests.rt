@@ -1,3 +1,4 @@
+mod changing;
 mod check;
 mod desk;
 mod facts;
@@ -6,3 +7,4 @@ mod generated;
 mod packages;
 mod root;
 mod seal;
+mod sealed;

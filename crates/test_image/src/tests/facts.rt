@@ -1,59 +1,14 @@
-use cv_base::{Digest, ListEntry, NoMemory, RelPath, Seq};
-use cv_desk::{Desk, DeskFault, FileRead, ReadResult};
+use crate::tests::changing::{Changing, GONE, TOO_LARGE};
+use cv_base::{Digest, NoMemory};
+use cv_desk::Desk;
 use cv_facts::{IndexError, LayerFacts, Reduction, Shape, index_layer};
 use std::alloc::Global;
 use std::test::Fail;
-use test_data::{SampleDesk, SampleLayer};
-
-/// The text of a file that is too large.
-const TOO_LARGE: &str = "too large";
-
-/// The text of a file that is gone when it is read.
-const GONE: &str = "gone";
-
-/// A desk over sample layers, some of whose files are too large or gone.
-#[derive(Drop)]
-struct Changing {
-    inner: SampleDesk,
-}
-
-impl Desk for Changing {
-    ghost use Rattle.std.specs.Prelude.{None};
-
-    ghost tree = { λ _. None };
-
-    ghost faults = { λ _. 0 };
-
-    ghost listings = { λ s. ⟦<SampleDesk as Desk>⟧.listings s.inner };
-
-    ghost reads = { λ s. ⟦<SampleDesk as Desk>⟧.reads s.inner };
-
-    ghost distinct = { λ _. tt };
-
-    ghost paths = { λ _. tt };
-
-    fn list(&mut self, alloc: Global, layer: &Digest) -> Result<Option<Seq<ListEntry>>, DeskFault> {
-        self.inner.list(alloc, layer)
-    }
-
-    fn read(&mut self, alloc: Global, layer: &Digest, path: &RelPath, limit: u32) -> ReadResult {
-        let read = self.inner.read(alloc, layer, path, limit)?;
-        match &read {
-            FileRead::Bytes(bytes) if bytes.as_slice() == TOO_LARGE.as_bytes() => Ok(
-                FileRead::TooLarge,
-            ),
-            FileRead::Bytes(bytes) if bytes.as_slice() == GONE.as_bytes() => Ok(FileRead::NotFile),
-            _ => Ok(read),
-        }
-    }
-}
+use test_data::SampleDesk;
 
 /// What is known of the layer of a digest, where there is one layer with these entries, of the digest 1.
 fn shape(alloc: Global, digest: u8, rows: &[(&'static str, &str)]) -> Result<String, Fail> {
-    let layer = SampleLayer::of_rows(alloc, Digest::of([1; 32]), rows)?;
-    let mut desk = Changing {
-        inner: SampleDesk::of(vec![in alloc; layer]?),
-    };
+    let mut desk = Changing::of(alloc, Digest::of([1; 32]), rows)?;
     let facts = index_layer(alloc, &mut desk, Digest::of([digest; 32]))?;
     Ok(shape_text(alloc, facts.shape())?)
 }
