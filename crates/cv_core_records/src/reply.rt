@@ -39,7 +39,10 @@ pub enum Reply {
     /// The layer is not the worker's.
     NotClaimed,
     /// The feed has the new records. The update raises so many rows; if it raises none, there is no notification.
-    Updated { generation: u64, rows: u64 },
+    Updated {
+        generation: u64,
+        rows: u64,
+    },
     /// There are as many feeds as there may be.
     TooManyFeeds,
     /// The notification is gone.
