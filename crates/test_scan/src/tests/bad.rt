@@ -36,6 +36,14 @@ fn each_fault_of_an_image_has_its_value(rt: HostRuntime) -> Result<(), Fail> {
             "{\"cause\":\"bad_tree\",\"layer\":2,\"what\":\"too_many\"}",
         ),
         (
+            ImageFault::BadSeal {
+                layer: 3,
+                stated: Digest::of([0x11; 32]),
+                found: Digest::of([0xab; 32]),
+            },
+            "{\"cause\":\"bad_seal\",\"found\":\"sha256:abababababababababababababababababababababababababababababababab\",\"layer\":3,\"stated\":\"sha256:1111111111111111111111111111111111111111111111111111111111111111\"}",
+        ),
+        (
             bad_file,
             "{\"cause\":\"bad_file\",\"line\":3,\"path\":\"var/lib/dpkg/status\",\"what\":\"no_colon\"}",
         ),

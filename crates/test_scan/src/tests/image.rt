@@ -1,5 +1,6 @@
 use cv_base::{Digest, Finding, NoMemory, RangeKind, Seq, Text};
 use cv_desk_wrappers::Faulty;
+use cv_overlay::ImageFault;
 use cv_scan_image::{ImageError, scan_layers};
 use std::alloc::Global;
 use std::test::Fail;
@@ -20,6 +21,10 @@ const BASE: [(&str, &str); 6] = [
 
 /// The whiteout of all that lies below one of its folders.
 const WITHOUT: [(&str, &str); 1] = [(".wh.var", "")];
+
+/// Its seal, as Python's hashlib gives it.
+const WITHOUT_SEAL: &[u8] =
+    b"sha256:29a3d6d97e8316d2284b15a4558e34f3303ae391dbdfce90d729457afbc80d23";
 
 /// A mark that names nothing.
 const MARKED: [(&str, &str); 1] = [(".wh.", "")];
@@ -47,16 +52,23 @@ fn layer(letter: u8) -> Digest {
     Digest::of([letter; 32])
 }
 
-/// Scans an image of three layers on a desk whose call of this number fails: its findings, a line each, or why it has none. Calls are
-/// numbered from 1, and a scan makes one for each layer that is listed and one for each package file that is read.
-fn scanned(alloc: Global, image: [u8; 3], failing: u64) -> Result<String, NoMemory> {
+/// Scans an image of three layers, of which the middle one has this seal, on a desk whose call of this number fails: its findings, a
+/// line each, or why it has none. Calls are numbered from 1, and a scan makes one for each layer that is listed and one for each file
+/// that is read.
+fn scanned(
+    alloc: Global,
+    image: [u8; 3],
+    seal: Option<Digest>,
+    failing: u64,
+) -> Result<String, NoMemory> {
     let desk = SampleDesk::of(layers(alloc)?);
     let mut desk = Faulty::new(desk, Seq::of(vec![in alloc; failing]?));
     let feed = Text::of(alloc, "scan")?;
     let records = vec![in alloc; advisory(alloc, &OPENSSL)?]?;
     let [base, middle, upper] = image;
     let layers = [layer(base), layer(middle), layer(upper)];
-    let found = scan_layers(alloc, &mut desk, &layers, &feed, &records);
+    let seals = [None, seal, None];
+    let found = scan_layers(alloc, &mut desk, &layers, &seals, &feed, &records);
     answer_text(alloc, &found)
 }
 
@@ -68,6 +80,12 @@ fn answer_text(
     match answer {
         Ok(findings) => finding_lines(alloc, findings.as_slice()),
         Err(ImageError::Desk(layer)) => desk_failed(alloc, layer),
+        Err(ImageError::Bad(ImageFault::BadSeal { layer, found, .. })) => {
+            Ok(format!(in alloc;
+                "layer {layer} has the seal {}",
+                found.text(alloc)?.as_str()
+            )?)
+        }
         Err(error) => Ok(format!(in alloc; "{error}")?),
     }
 }
@@ -79,21 +97,31 @@ fn desk_failed(alloc: Global, layer: &Digest) -> Result<String, NoMemory> {
 
 #[test]
 fn images_are_scanned(rt: HostRuntime) -> Result<(), Fail> {
-    for (image, failing, want) in [
+    let seal = Some(Digest::read(WITHOUT_SEAL)?);
+    let other = Some(layer(0));
+    for (image, seal, failing, want) in [
         (
             *b"bwb",
+            seal,
             5,
             "Deb var/lib/dpkg/status libssl3 3.0.9-1+b1 of openssl 3.0.9-1 amd64 Debian:12: scan X-1, fixed in 3.0.11-1\n",
         ),
-        (*b"bwb", 4, "the desk failed at w"),
-        (*b"mb?", 0, "the image is bad: layer 2 is not there"),
+        (*b"bwb", None, 4, "the desk failed at w"),
+        (*b"mb?", other, 0, "the image is bad: layer 2 is not there"),
+        (
+            *b"bwb",
+            other,
+            0,
+            "layer 1 has the seal sha256:29a3d6d97e8316d2284b15a4558e34f3303ae391dbdfce90d729457afbc80d23",
+        ),
         (
             *b"bwm",
+            other,
             0,
             "the image is bad: the tree of layer 2 is not good: entry 0 is a bad mark",
         ),
     ] {
-        assert_eq!(rt; scanned(rt.alloc(), image, failing)?.as_str(), want);
+        assert_eq!(rt; scanned(rt.alloc(), image, seal, failing)?.as_str(), want);
     }
     Ok(())
 }

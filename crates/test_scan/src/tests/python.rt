@@ -81,7 +81,7 @@ fn text(alloc: Global, found: &ImagePackages) -> Result<String, NoMemory> {
 fn python_packages_of_an_image_are_found(rt: HostRuntime) -> Result<(), Fail> {
     let alloc = rt.alloc();
     let facts = facts(alloc)?;
-    let found = coalesce(alloc, &facts, &[0, 2])?;
+    let found = coalesce(alloc, &facts, &[0, 2], &[None, None])?;
     assert_eq!(rt; text(alloc, &found)?.as_str(), FOUND);
     Ok(())
 }
@@ -90,9 +90,9 @@ fn python_packages_of_an_image_are_found(rt: HostRuntime) -> Result<(), Fail> {
 fn upper_layers_hide_and_replace_python_packages(rt: HostRuntime) -> Result<(), Fail> {
     let alloc = rt.alloc();
     let facts = facts(alloc)?;
-    let replaced = coalesce(alloc, &facts, &[0, 1])?;
+    let replaced = coalesce(alloc, &facts, &[0, 1], &[None, None])?;
     assert_eq!(rt; text(alloc, &replaced)?.as_str(), "");
-    let again = coalesce(alloc, &facts, &[1, 0])?;
+    let again = coalesce(alloc, &facts, &[1, 0], &[None, None])?;
     assert_eq!(rt; text(alloc, &again)?.as_str(), FOUND);
     Ok(())
 }

@@ -20,6 +20,10 @@ fn each_refusal_has_its_line(rt: HostRuntime) -> Result<(), Fail> {
             "{\"index\":5,\"line\":2,\"refused\":\"bad_request\",\"what\":\"bad_layer\"}\n",
         ),
         (
+            RequestError::BadRequest(RequestWhat::BadSeal(0)),
+            "{\"index\":0,\"line\":2,\"refused\":\"bad_request\",\"what\":\"bad_seal\"}\n",
+        ),
+        (
             RequestError::BadAdvisory {
                 index: 1,
                 what: RecordWhat::NoId,
