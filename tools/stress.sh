@@ -13,7 +13,7 @@ workers=("${@:3}")
 [ ${#workers[@]} != 0 ] || workers=(1 2 3 8)
 # after so many seconds a run is taken to hang
 longest=1800
-program=$(find_cvwatch "") || { echo "stress.sh: there is no cvwatch: build it, or set CVWATCH" >&2; exit 1; }
+program=$(find_cvwatch "")
 work=$(mktemp -d)
 trap 'rm -rf "$work"' EXIT
 cd "$work"

@@ -7,7 +7,7 @@ set -euo pipefail
 . "$(dirname "$0")/test-common.sh"
 # shellcheck source=tools/find-cvwatch
 . "$tools/find-cvwatch"
-program=$(find_cvwatch "") || { echo "test-fuzz.sh: there is no cvwatch: build it, or set CVWATCH" >&2; exit 1; }
+program=$(find_cvwatch "")
 cases=40
 cd "$work"
 export TMPDIR=$work

@@ -6,7 +6,7 @@ set -euo pipefail
 . "$(dirname "$0")/test-common.sh"
 # shellcheck source=tools/find-cvwatch
 . "$tools/find-cvwatch"
-program=$(find_cvwatch "") || { echo "test-own-python.sh: there is no cvwatch: build it, or set CVWATCH" >&2; exit 1; }
+program=$(find_cvwatch "")
 cd "$work"
 
 # the metadata of the package $1 in the version $2 as the file $3

@@ -8,7 +8,7 @@ set -euo pipefail
 . "$(dirname "$0")/test-common.sh"
 # shellcheck source=tools/find-cvwatch
 . "$tools/find-cvwatch"
-REAL=$(find_cvwatch "") || { echo "there is no cvwatch: build it, or set CVWATCH" >&2; exit 1; }
+REAL=$(find_cvwatch "")
 # how many images are in a whole run, which an argument may change, and in those that are interrupted
 count=${1:-200}
 fewer=$((count < 60 ? count : 60))

@@ -2,6 +2,7 @@
 
 import os
 import subprocess
+import sys
 from collections import namedtuple
 
 TOOLS = os.path.dirname(os.path.dirname(os.path.realpath(__file__)))
@@ -17,10 +18,9 @@ Ended = namedtuple("Ended", ["status", "output", "said"])
 
 
 def find_program(named):
-    """The path of cvwatch, as find-cvwatch finds it, or an empty text."""
-    script = os.path.join(TOOLS, "find-cvwatch")
-    found = subprocess.run(["bash", "-c", '. "$1"; find_cvwatch "$2"', "bash", script, named], capture_output=True, text=True, check=False)
-    return found.stdout.strip()
+    """The path of cvwatch, as find-cvwatch finds it, or an empty text after what that says."""
+    words = ["bash", "-c", '. "$1"; find_cvwatch "$2"', sys.argv[0], os.path.join(TOOLS, "find-cvwatch"), named]
+    return subprocess.run(words, stdout=subprocess.PIPE, text=True, check=False).stdout.strip()
 
 
 def run(command, data, folder, longest=60, environment=None):
