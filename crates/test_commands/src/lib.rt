@@ -1,5 +1,5 @@
 //! Runs of the program and of its commands over layers made in memory, for their tests: `scan`, `order`, and the whole program with
-//! its arguments, over one desk or two.
+//! its arguments, over one desk or two, or over layers of hostile sizes.
 //!
 //! ```text
 //! let is_right = scans_to(alloc, input, &CALM, (Status::Done, ".."))?;
@@ -23,6 +23,6 @@ pub use cv_command::Status;
 pub use cv_io::{MemSink, MemSource};
 pub use layers::Layers;
 pub use roots::root_scans_to;
-pub use runs::{run_by_two, runs_to};
+pub use runs::{hostile_runs_to, run_by_two, runs_to};
 pub use scan::scan_input;
 pub use streams::{CALM, Failure, Outside, USAGE, arguments_of, listed, sink_of, source_of};

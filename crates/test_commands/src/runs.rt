@@ -5,6 +5,7 @@ use crate::layers::Layers;
 use crate::streams::{CALM, Outside, arguments_of, listed, sink_of, source_of};
 use cv_base::NoMemory;
 use cv_desk::{Desk, TableDesk};
+use cv_desk_drill::HostileDesk;
 use cv_desk_wrappers::{Faulty, GateDesk};
 use cv_io::MemSink;
 use cv_run::{Status, run};
@@ -44,6 +45,19 @@ pub fn run_by_two<R: Threads + Wait + Sync>(
     let mut desks = vec![in alloc; first, second]?;
     let ended = run_over(rt, alloc, arguments, input, &CALM, &mut desks)?;
     Ok((ended, desks.iter().all(GateDesk::passed)))
+}
+
+/// Runs the program over the desk of hostile sizes. Whether it ends so and prints this text, in which names in brackets stand for texts.
+pub fn hostile_runs_to<R: Threads + Wait + Sync>(
+    rt: &R,
+    alloc: Global,
+    arguments: &[&str],
+    input: &str,
+    (status, text): (Status, &str),
+) -> Result<bool, NoMemory> {
+    let mut desks = vec![in alloc; HostileDesk::new()]?;
+    let ended = run_over(rt, alloc, arguments, input, &CALM, &mut desks)?;
+    is_ended(alloc, &ended, status, text)
 }
 
 /// Runs the program over one desk. Returns how it ended, and what it printed.

@@ -1,3 +1,4 @@
 mod drills;
+mod hostile;
 mod run;
 mod workers;
