@@ -43,7 +43,13 @@ fn try_run<R: Abort + Threads + Wait + Sync>(
 }
 
 /// One text before so many of another, and one after them.
-fn text(alloc: Global, before: &str, each: &str, count: usize, after: &str) -> Result<String, NoMemory> {
+fn text(
+    alloc: Global,
+    before: &str,
+    each: &str,
+    count: usize,
+    after: &str,
+) -> Result<String, NoMemory> {
     let mut text = String::from_str(alloc, before)?;
     text.push_str(each.repeat(alloc, count)?.as_str())?;
     text.push_str(after)?;
@@ -53,10 +59,19 @@ fn text(alloc: Global, before: &str, each: &str, count: usize, after: &str) -> R
 #[test]
 fn layers_of_hostile_sizes_are_scanned_or_named(rt: HostRuntime) -> Result<(), NoMemory> {
     for (spelled, status, output) in &SCANS {
-        let mut before = String::from_str(rt.alloc(), r#"{"hash":"<1>","layers":[{"hash":"sha256:"#)?;
+        let mut before = String::from_str(
+            rt.alloc(),
+            r#"{"hash":"<1>","layers":[{"hash":"sha256:"#,
+        )?;
         before.push_str(spelled)?;
         let input = text(rt.alloc(), before.as_str(), "0", 54, r#""}]}"#)?;
-        try_run(&rt, rt.alloc(), &["scan"], input.as_str(), (*status, *output))?;
+        try_run(
+            &rt,
+            rt.alloc(),
+            &["scan"],
+            input.as_str(),
+            (*status, *output),
+        )?;
     }
     Ok(())
 }
@@ -84,7 +99,13 @@ fn an_image_has_at_most_128_layers(rt: HostRuntime) -> Result<(), NoMemory> {
 {"at":3,"event":"indexed","layer":"<a>","reply":"entered","worker":0}
 "#;
     let want = (Status::Done, output);
-    try_run(&rt, rt.alloc(), &["serve", "--workers=1"], input.as_str(), want)
+    try_run(
+        &rt,
+        rt.alloc(),
+        &["serve", "--workers=1"],
+        input.as_str(),
+        want,
+    )
 }
 
 #[test]
@@ -108,5 +129,11 @@ fn a_feed_has_at_most_200_000_records(rt: HostRuntime) -> Result<(), NoMemory> {
     let input = text(alloc, before, "{},", 200_000, "{}]}")?;
     let output = r#"{"line":1,"refused":"too_many_advisories"}
 "#;
-    try_run(&rt, alloc, &["serve"], input.as_str(), (Status::Done, output))
+    try_run(
+        &rt,
+        alloc,
+        &["serve"],
+        input.as_str(),
+        (Status::Done, output),
+    )
 }
