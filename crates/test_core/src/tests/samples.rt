@@ -56,8 +56,8 @@ pub fn outcomes<L: Ledger>(
     let layers = [digest(0xaa), digest(0xbb)];
     let facts = facts(alloc, layers[0], layers[1])?;
     let feeds = Feeds::new(alloc, 1)?;
-    let good = outcome_of(alloc, &facts, &feeds, &layers, steps)?;
-    let pending = outcome_of(alloc, &facts, &feeds, &[digest(0xcc)], steps)?;
+    let good = outcome_of(alloc, &facts, &feeds, &layers, &[None, None], steps)?;
+    let pending = outcome_of(alloc, &facts, &feeds, &[digest(0xcc)], &[None], steps)?;
     let one = Tree::new().set(alloc, digest(1), good)?;
     one.set(alloc, digest(2), pending)
 }
