@@ -14,6 +14,7 @@ set -euo pipefail
 times=9
 program=$(find_cvwatch "${1:-}") || { echo 'bench/hostile.sh: there is no cvwatch: build it, or name it' >&2; exit 1; }
 data=$(data_folder hostile)
+rm -rf "$data/layers"
 trap 'rm -rf "$data"' EXIT
 cd "$data"
 
@@ -26,13 +27,13 @@ files() {
     seq -f "$(folder "$1")/f%08.0f" 0 "$(($2 - 1))" | xargs touch --
 }
 
-# so many folders, each in the one before; the shell makes them from within, since the whole path may be too long
+# so many folders, each in the one before: each is made from within the one before, since the whole path may be too long
 folders() {
     mkdir -p "$(folder "$1")"
-    (
-        cd "$(folder "$1")"
-        for _ in $(seq "$2"); do mkdir d && cd -P d; done
-    )
+    (cd "$(folder "$1")" && python3 -c 'import os, sys
+for _ in range(int(sys.argv[1])):
+    os.mkdir("d")
+    os.chdir("d")' "$2")
 }
 
 # a dpkg status of so many line feeds
@@ -41,16 +42,10 @@ line_feeds() {
     head -c "$2" /dev/zero | tr '\0' '\n' >"$(folder "$1")/var/lib/dpkg/status"
 }
 
-# scans the image of one layer; its status is in $status, and what it printed in the file answer
-scan() {
-    status=0
-    manifest image "$1" >input
-    measure input answer "$program" scan || status=$?
-}
-
-# the layer of the word $1 has to be scanned without findings
+# the layer of the word $1 has to be scanned without findings; the time is in $seconds, the memory in $peak
 scan_good() {
-    scan "$1"
+    manifest image "$1" >input
+    measure input answer "$program" scan
     grep -q '^{"findings":\[\],.*"reply":"good"}$' answer || { cat answer >&2; return 1; }
 }
 
@@ -69,7 +64,7 @@ row() {
         done
     done
     awk -v name="$name" -v count="$count" -v half="$(median used.half)" -v whole="$(median used.whole)" -v peak="$peak" 'BEGIN {
-        printf "%-12s %10d %10.2f s %10.2f s %8s %7d MB\n", name, count, half, whole, half > 0 ? sprintf("%.2f", whole / half) : "-", peak
+        printf "%-12s %10d %10.2f s %10.2f s %8s %7d MB\n", name, count, half, whole, (half > 0 ? sprintf("%.2f", whole / half) : "-"), peak
     }'
     rm -rf "$data/layers"
 }
@@ -77,8 +72,10 @@ row() {
 # what a scan of a layer prints that is over a limit
 over() {
     local name=$1 make=$2 count=$3
+    local status=0
     "$make" whole "$count"
-    scan whole
+    manifest image whole >input
+    "$program" scan <input >answer 2>/dev/null || status=$?
     printf '%-12s %10d ends with %d: ' "$name" "$count" "$status"
     cat answer
     rm -rf "$data/layers"
