@@ -1,6 +1,7 @@
 #!/usr/bin/env bash
 # Shows that `cvwatch scan` reads a package file of 33,554,432 bytes and refuses one that has a byte more, at each place of a package
-# file, and that a larger one does not count that is hidden or no package file. Needs the built program and a free GB of disk.
+# file, that a larger one does not count that is hidden or no package file, and that the seals of such layers agree with
+# tools/layer-seal. Needs the built program and a free GB of disk.
 set -euo pipefail
 # shellcheck source=tools/test-common.sh
 . "$(dirname "$0")/test-common.sh"
@@ -57,6 +58,20 @@ check app/node_modules/large/package.json '{"name":"large","version":"1.0.0"}' '
 check var/lib/dpkg/status 'Package: large\nStatus: install ok installed\nVersion: 1.0\nDescription: ' x var/lib/dpkg/status
 check var/lib/dpkg/status.d/large 'Package: large\nVersion: 1.0\nDescription: ' x var/lib/dpkg/status.d
 check lib/apk/db/installed 'P:large\nV:1.0\nT:' x lib/apk/db
+
+# a layer whose status file is at the limit, and one with a byte more, with their seals: only the first one's bytes are in its sum
+for more in '' x; do
+    rm -rf layers
+    { padded 'Package: large\nStatus: install ok installed\nVersion: 1.0\nDescription: ' "$most" x; printf %s "$more"; } | put base var/lib/dpkg/status
+    seal=$("$tools/layer-seal" "$(folder base)")
+    {
+        jq -cn --arg hash "sha256:$(name image)" --arg layer "sha256:$(name base)" --arg seal "$seal" '{hash: $hash, layers: [{hash: $layer, seal: $seal}]}'
+        record
+    } >input
+    "$program" scan <input >answer 2>said || true
+    same "$((most + ${#more})) bytes, sealed" "$(jq -c 'if .reply == "good" then [.findings[].name] else .bad.cause end' answer)" \
+        "$([ -z "$more" ] && echo '["large"]' || echo '"too_large"')"
+done
 
 # larger files that are no package files
 rm -rf layers
