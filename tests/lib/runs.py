@@ -24,7 +24,7 @@ def find_program(named):
 
 
 def run(command, data, folder, longest=60, environment=None):
-    """Runs a command over the input in a folder, for so many seconds at most."""
+    """Runs a command over the input in a folder, for at most this number of seconds."""
     try:
         done = subprocess.run(command, input=data, cwd=folder, env=environment, capture_output=True, timeout=longest, check=False)
     except subprocess.TimeoutExpired as expired:
