@@ -9,10 +9,12 @@ import osv_records
 
 STYLE = """
 :root { color-scheme: light dark; font: 15px/1.45 system-ui, sans-serif; }
-body { margin: 1.5rem auto; max-width: 90rem; padding: 0 1rem; }
+body { margin: 1.5rem auto; max-width: 120rem; padding: 0 1rem; }
 h1 { font-size: 1.3rem; }
 input { font: inherit; padding: .35rem .6rem; width: min(30rem, 100%); box-sizing: border-box; }
-label { display: block; margin: 1rem 0; }
+input[type=checkbox] { width: auto; }
+fieldset { border: 0; padding: 0; margin: 1rem 0; display: flex; flex-wrap: wrap; gap: .5rem 1.2rem; align-items: center; }
+.whole { user-select: all; overflow-wrap: anywhere; opacity: .75; }
 .wide { overflow-x: auto; }
 table { border-collapse: collapse; width: 100%; }
 th, td { text-align: left; padding: .35rem .7rem; border-bottom: 1px solid #8886; vertical-align: top; overflow-wrap: break-word; max-width: 30rem; }
@@ -22,46 +24,18 @@ th button:focus-visible { outline: 2px solid; }
 th[aria-sort=ascending] button::after { content: " \\25B2"; }
 th[aria-sort=descending] button::after { content: " \\25BC"; }
 td { font-family: ui-monospace, monospace; font-size: .9em; }
+td.severity { border-left: 4px solid #8886; }
+td.severity, td.advisory { white-space: nowrap; }
+[data-severity=critical] .severity { border-left-color: #a0f; font-weight: 700; }
+[data-severity=high] .severity { border-left-color: #e22; font-weight: 700; }
+[data-severity=medium] .severity { border-left-color: #e90; }
+[data-severity=low] .severity { border-left-color: #39c; }
+td.summary { font-family: inherit; min-width: 14rem; }
 .none { opacity: .6; }
 .refused { border-left: 4px solid #c33; padding-left: .8rem; overflow-wrap: anywhere; }
 """
 
-# of a page with records
-RECORD_STYLE = """
-body { max-width: 120rem; }
-.whole { user-select: all; overflow-wrap: anywhere; opacity: .75; }
-fieldset { border: 0; padding: 0; margin: 1rem 0; display: flex; flex-wrap: wrap; gap: .5rem 1.2rem; align-items: center; }
-fieldset label { margin: 0; }
-input[type=checkbox] { width: auto; }
-td.severity { border-left: 4px solid #8886; white-space: nowrap; }
-[data-severity=critical] .severity { border-color: #a0f; font-weight: 700; }
-[data-severity=high] .severity { border-color: #e22; font-weight: 700; }
-[data-severity=medium] .severity { border-color: #e90; }
-[data-severity=low] .severity { border-color: #39c; }
-td.summary { font-family: inherit; min-width: 14rem; }
-"""
-
-SEARCH = """
-const body = document.querySelector("tbody");
-const rows = Array.from(body.rows);
-const shown = document.getElementById("shown");
-const search = document.getElementById("search");
-const texts = new Map(rows.map(row => [row, row.textContent.toLowerCase()]));
-search.disabled = false;
-const order = new Intl.Collator("en", { numeric: true });
-search.addEventListener("input", () => {
-  const words = search.value.toLowerCase().split(/\\s+/).filter(word => word);
-  let count = 0;
-  for (const row of rows) {
-    row.hidden = !words.every(word => texts.get(row).includes(word));
-    if (!row.hidden) count += 1;
-  }
-  shown.textContent = `${count} of ${rows.length} shown`;
-});
-"""
-
-# in place of SEARCH on a page with records
-FILTER = """
+SCRIPT = """
 const body = document.querySelector("tbody");
 const rows = Array.from(body.rows);
 const shown = document.getElementById("shown");
@@ -73,10 +47,10 @@ const texts = new Map(rows.map(row => [row, row.textContent.toLowerCase()]));
 const order = new Intl.Collator("en", { numeric: true });
 const filter = () => {
   const words = search.value.toLowerCase().split(/\\s+/).filter(word => word);
-  const severities = new Set(severityBoxes.filter(box => box.checked).map(box => box.value));
+  const hidden = new Set(severityBoxes.filter(box => !box.checked).map(box => box.value));
   let count = 0;
   for (const row of rows) {
-    row.hidden = !severities.has(row.dataset.severity) || (fixedOnly.checked && !row.dataset.fixed)
+    row.hidden = hidden.has(row.dataset.severity) || (fixedOnly.checked && !row.dataset.fixed)
       || !words.every(word => texts.get(row).includes(word));
     if (!row.hidden) count += 1;
   }
@@ -85,53 +59,29 @@ const filter = () => {
 filters.disabled = false;
 filters.addEventListener("input", filter);
 filter();
-"""
-
-SORT = """const heads = Array.from(document.querySelectorAll("th"));
+const heads = Array.from(document.querySelectorAll("th"));
 heads.forEach((head, column) => head.querySelector("button").addEventListener("click", () => {
   const down = head.getAttribute("aria-sort") === "ascending";
   heads.forEach(other => other.removeAttribute("aria-sort"));
   head.setAttribute("aria-sort", down ? "descending" : "ascending");
-  const at = row => SORT_KEY;
-  rows.sort((a, b) => (down ? -1 : 1) * order.compare(at(a), at(b)));
+  const keys = new Map(rows.map(row => [row, row.cells[column].dataset.order ?? row.cells[column].textContent]));
+  rows.sort((a, b) => (down ? -1 : 1) * order.compare(keys.get(a), keys.get(b)));
   body.append(...rows);
 }));
 """
 
-SCRIPT = SEARCH + SORT.replace("SORT_KEY", "row.cells[column].textContent")
-RECORD_SCRIPT = FILTER + SORT.replace("SORT_KEY", "row.cells[column].dataset.order ?? row.cells[column].textContent")
-
 
 def print_page(report):
-    if report.has_records:
-        print_record_page(report)
-    else:
-        print_plain_page(report)
-
-
-def print_plain_page(report):
-    """The page without records."""
-    columns = [*report.columns()[:-1], "source", "ecosystem", "path"]
-    title = report.summary() if report.images else "no image was scanned"
-    print_begin("Findings of cvwatch", STYLE, SCRIPT)
-    print(f"<h1>{html.escape(title)}</h1>")
-    print_refused(report.refused)
-    print('<label>Search <input id="search" type="search" autocomplete="off" disabled></label>')
-    print_rows(report, columns, plain_row)
-    print_end(SCRIPT)
-
-
-def print_record_page(report):
     columns = [*report.columns(), "source", "ecosystem"]
-    print_begin(title(report), STYLE + RECORD_STYLE, RECORD_SCRIPT)
+    print_begin(title(report))
     print_images(report)
     print(f"<p>{html.escape(report.summary())}</p>")
     for line in report.further_summary():
         print(f"<p>{html.escape(line)}</p>")
     print_refused(report.refused)
     print_filters(report)
-    print_rows(report, columns, record_row)
-    print_end(RECORD_SCRIPT)
+    print_rows(report, columns)
+    print_end()
 
 
 def title(report):
@@ -154,6 +104,8 @@ def print_images(report):
 
 def digests(image):
     """The digest in short, and the whole one, which a click selects."""
+    if not image.digest:
+        return ""
     return f'<code>{html.escape(short_digest(image.digest))}</code> <code class="whole">{html.escape(image.digest)}</code>'
 
 
@@ -165,20 +117,20 @@ def short_digest(digest):
 def print_filters(report):
     print('<fieldset id="filters" disabled>')
     print('<label>Search <input id="search" type="search" autocomplete="off"></label>')
-    for severity, count in report.severity_counts().items():
+    for severity, count in report.severity_counts().items() if report.has_records else ():
         print(f'<label><input type="checkbox" name="severity" value="{severity}" autocomplete="off" checked> {severity} ({count})</label>')
     print('<label><input id="fixed-only" type="checkbox" autocomplete="off"> only with a fix</label>\n</fieldset>')
 
 
-def print_begin(name, style, script):
+def print_begin(name):
     print(f"""<!doctype html>
 <html lang="en">
 <head>
 <meta charset="utf-8">
 <meta name="viewport" content="width=device-width, initial-scale=1">
-<meta http-equiv="Content-Security-Policy" content="default-src 'none'; style-src 'unsafe-inline'; script-src '{script_digest(script)}'">
+<meta http-equiv="Content-Security-Policy" content="default-src 'none'; style-src 'unsafe-inline'; script-src '{script_digest(SCRIPT)}'">
 <title>{html.escape(name)}</title>
-<style>{style}</style>
+<style>{STYLE}</style>
 </head>
 <body>""")
 
@@ -188,7 +140,7 @@ def print_refused(refused):
         print(f'<p class="refused">Not scanned: <code>{html.escape(line)}</code></p>')
 
 
-def print_rows(report, columns, html_row):
+def print_rows(report, columns):
     print(f'<p id="shown" role="status">{len(report.rows)} of {len(report.rows)} shown</p>')
     print('<div class="wide"><table><thead><tr>')
     for column in columns:
@@ -199,24 +151,21 @@ def print_rows(report, columns, html_row):
     print("</tbody></table></div>")
 
 
-def print_end(script):
-    print(f"<script>{script}</script>\n</body>\n</html>")
+def print_end():
+    print(f"<script>{SCRIPT}</script>\n</body>\n</html>")
 
 
-def plain_row(row, columns):
-    return "<tr>" + "".join(f"<td>{content(column, text)}</td>" for column, text in row.texts_of(columns)) + "</tr>"
-
-
-def record_row(row, columns):
+def html_row(row, columns):
     cells = []
     for column, text in row.texts_of(columns):
-        attributes = f' class="{column}"' if column in ("severity", "summary") else ""
+        attributes = f' class="{column}"' if column in ("severity", "advisory", "summary") else ""
         if column == "severity":
             # the greatest first, as the table begins
             attributes += f' data-order="{len(osv_records.SEVERITIES) - osv_records.rank(row.severity)}"'
         cells.append(f"<td{attributes}>{content(column, text)}</td>")
     fixed = ' data-fixed="yes"' if row.fixed else ""
-    return f'<tr data-severity="{row.severity}"{fixed}>{"".join(cells)}</tr>'
+    severity = f' data-severity="{row.severity}"' if "severity" in columns else ""
+    return f"<tr{severity}{fixed}>{''.join(cells)}</tr>"
 
 
 def content(column, text):
