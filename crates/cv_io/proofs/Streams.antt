@@ -1,8 +1,8 @@
 -- What sources over memory and whole writes do to known bytes.
 use Rattle.std.proofs.Common.{◌≡◌, ℕ, ◌+◌, ◌<◌, ◌≤◌, min, List, [], ◌++◌, length, take, drop, sym, ◌∙◌, ap, arith, take-append-drop, drop-drop, length-drop, append_assoc, append-nil, take-add}
 use Rattle.std.proofs.lemmas.List.{drop_all}
-use Rattle.std.specs.Prelude.{Option, None, Some}
-use Rattle.std.specs.Io.KnownBytes.{Appends, Keeps}
+use Rattle.std.specs.Prelude.{Option, None, Some, Result, Ok, Err}
+use Rattle.std.specs.Io.KnownBytes.{Appends, Keeps, ReadConsumes, WriteAppends}
 use Rattle.cv_io.specs.Writes.{AppendsPrefix}
 
 -- a piece copied from the front of the remaining bytes
@@ -45,3 +45,23 @@ prefix_appended a b c bytes n within h k = (n, within, appends_then_keeps a b c 
 -- a front part of the rest, appended after the bytes before it, makes a front part of the whole
 pub prefix_more : (a b c : Option (List ℕ)) (bytes : List ℕ) (at : ℕ) → at ≤ length bytes → Appends a b (take at bytes) → AppendsPrefix b c (drop at bytes) → AppendsPrefix a c bytes
 prefix_more a b c bytes at within h k = (at + k.0, omega (arith, within, k.1, length-drop at bytes), Appends-more a b c bytes at k.0 h k.2)
+
+-- bytes that stayed, and stayed again
+pub keeps_after : (a b c : Option (List ℕ)) → Keeps a b → Keeps b c → Keeps a c
+keeps_after None b c h k = tt
+keeps_after (Some xs) None c h k = absurd h
+keeps_after (Some xs) (Some ys) c h k = rw h at k
+
+-- a read after others that took nothing
+pub read_after : {E : Type 0} (a b c : Option (List ℕ)) (answer : Result ℕ E) (buf : List ℕ) → Keeps a b → ReadConsumes b c answer buf → ReadConsumes a c answer buf
+read_after None b c (Ok n) buf h k = (tt, k.1)
+read_after None b c (Err error) buf h k = tt
+read_after (Some xs) None c answer buf h k = absurd h
+read_after (Some xs) (Some ys) c answer buf h k = rw h at k
+
+-- a write after others that wrote nothing
+pub write_after : {E : Type 0} (a b c : Option (List ℕ)) (answer : Result ℕ E) (bytes : List ℕ) → Keeps a b → WriteAppends b c answer bytes → WriteAppends a c answer bytes
+write_after None b c (Ok n) bytes h k = tt
+write_after None b c (Err error) bytes h k = tt
+write_after (Some xs) None c answer bytes h k = absurd h
+write_after (Some xs) (Some ys) c answer bytes h k = rw h at k

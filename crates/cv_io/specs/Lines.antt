@@ -1,7 +1,7 @@
 -- How bytes are cut into lines, and how far a reader with limits comes (defined by this project). A line ends at an LF, and
 -- one CR before the LF is no part of its text. The bytes after the last LF are a line if there are any, and lose one CR at
 -- their end too. So a last piece that is only a CR is an empty line.
-use Rattle.std.specs.Prelude.{◌≡◌, ℕ, ◌-◌, ◌==◌, nat_lt, nat_le, Bool, false, if◌then◌else◌, List, [], ◌∷◌, length, take, slice_index}
+use Rattle.std.specs.Prelude.{◌≡◌, ℕ, ◌==◌, nat_lt, nat_le, Bool, false, if◌then◌else◌, List, [], ◌∷◌, length, take}
 use Rattle.std.specs.Io.BufRead.{strip_last}
 use Rattle.std.specs.List.{All, slice_split}
 
