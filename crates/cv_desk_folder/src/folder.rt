@@ -4,7 +4,8 @@ ghost use Rattle.cv_desk.specs.Fault.{is_failed};
 ghost use Rattle.cv_desk_folder.specs.code.Walked.{desk_answer, failure_after, faults_after};
 
 use crate::failure::{FolderError, FolderFailure};
-use crate::walk::{list_folder, read_file};
+use crate::reading::read_file;
+use crate::walk::list_folder;
 use cv_base::{Digest, ListEntry, RelPath, Seq};
 use cv_desk::{Desk, DeskFault, ReadResult};
 use std::alloc::Global;
@@ -12,8 +13,8 @@ use std::rt::Files;
 
 /// Real folders below `./layers`: the layer of a digest is the folder `layers/sha256/<64 digits>`. No tree is known. A folder
 /// that does not exist is no layer. A link is listed as `Other` and is not read; the system follows links among the folders on the
-/// way to a file. Any other failure but running out of memory is a fault, as a name that is not UTF-8 or a file that is gone. The last
-/// failure is kept with its path.
+/// way to a file. Any other failure but running out of memory is a fault, as a name that is not UTF-8, a file that is gone or one that
+/// was replaced while it was read. The last failure is kept with its path. What signals interrupt is tried again.
 #[derive(Drop)]
 pub struct FolderDesk<R: Files + AllocGlobal + Clone + Drop> {
     rt: R,

@@ -6,8 +6,11 @@
 //! ```
 #![tactic(auto)]
 
+mod again;
 mod failure;
 mod folder;
+mod place;
+mod reading;
 mod walk;
 
 pub use failure::FolderFailure;

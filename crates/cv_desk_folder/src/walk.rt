@@ -1,16 +1,16 @@
-ghost use Rattle.std.specs.Prelude.{◌≡◌, ◌≢◌, ◌≤◌, ◌<◌, ◌+◌, ◌++◌, ◌∷◌, [], true, false, is_some, length, string_bytes, IfOk, IfErr, IfSome, IsErr, OnOk, Ok, Some, None};
+ghost use Rattle.std.specs.Prelude.{◌≡◌, ◌≢◌, ◌↔◌, ◌≤◌, ◌<◌, ◌+◌, ◌++◌, ◌∷◌, [], true, false, is_some, length, IfOk, IfErr, IfSome, IsErr, IsErrAnd, IsTrue, OnOk, Ok, None};
 ghost use Rattle.std.specs.Fs.{IsDir, IsFile, dir_entry_name, file_type, metadata_len};
 ghost use Rattle.std.specs.Iterator.{IsFinite};
 ghost use Rattle.std.specs.List.Sorted.{IsPermutation, IsSortedByKey};
 ghost use Rattle.std.specs.IoError.{error_kind};
 ghost use Rattle.cv_base.specs.Path.{path_cmp, path_of, path_text};
-ghost use Rattle.cv_desk_folder.specs.Folder.{folder_text, most_entries};
-ghost use Rattle.cv_desk.specs.Stored.{File, file_read};
-ghost use Rattle.cv_desk_folder.specs.code.Walked.{AreAllAdded, IsWithin, is_failure, joined};
+ghost use Rattle.cv_desk_folder.specs.Folder.{most_entries};
+ghost use Rattle.cv_desk_folder.specs.code.Walked.{AreAllAdded, Grows, IsErrorOf, IsInterrupted, is_failure, joined};
 
-use crate::failure::{FolderError, FolderFailure};
-use cv_base::{Digest, Kind, ListEntry, MAX_ENTRIES, NoMemory, PathError, RelPath, Seq};
-use cv_desk::FileRead;
+use crate::again::{MOST_TRIES, look, too_many_signals};
+use crate::failure::{FolderError, answer_at, failure};
+use crate::place::{folder_of, joined};
+use cv_base::{Digest, Kind, ListEntry, MAX_ENTRIES, PathError, RelPath, Seq};
 use std::alloc::Global;
 use std::fs::{self, DirEntry, Metadata, ReadDir};
 use std::io::{self, ErrorKind};
@@ -29,7 +29,7 @@ pub fn list_folder<R: Files + AllocGlobal + Clone + Drop>(
     ensures at_most { IfOk result (λ found. IfSome found (λ entries. length entries ≤ most_entries)) }
 {
     let folder = folder_of(alloc, layer)?;
-    let found = rt.symlink_metadata(folder.as_str());
+    let found = look(rt, folder.as_str());
     list_found(rt, alloc, folder.as_str(), found)
 }
 
@@ -41,9 +41,9 @@ fn list_found<R: Files + AllocGlobal + Clone + Drop>(
     found: io::Result<Metadata>,
 ) -> Result<Option<Seq<ListEntry>>, FolderError>
     ensures folder { IfOk found (λ at. IsDir (file_type at) → IfOk result (λ entries. is_some entries ≡ true)) }
-    ensures no_folder { IfOk found (λ at. ¬ IsDir (file_type at) → IsErr result) }
+    ensures no_folder { IfOk found (λ at. ¬ IsDir (file_type at) → IsErrAnd result (λ error. is_failure error ≡ true)) }
     ensures absent { IfErr found (λ error. error_kind error ≡ ErrorKind.NotFound → result ≡ Ok None) }
-    ensures error { IfErr found (λ error. error_kind error ≢ ErrorKind.NotFound → IsErr result) }
+    ensures error { IfErr found (λ reason. error_kind reason ≢ ErrorKind.NotFound → IsErrAnd result (IsErrorOf reason)) }
     ensures sorted { IfOk result (λ found. IfSome found (λ entries. IsSortedByKey (λ entry. entry.path) path_cmp entries)) }
     ensures at_most { IfOk result (λ found. IfSome found (λ entries. length entries ≤ most_entries)) }
 {
@@ -58,9 +58,9 @@ fn list_found<R: Files + AllocGlobal + Clone + Drop>(
 /// Whether there is a layer, by the system's answer about its folder.
 fn is_layer(alloc: Global, folder: &str, found: io::Result<Metadata>) -> Result<bool, FolderError>
     ensures folder { IfOk found (λ at. IsDir (file_type at) → result ≡ Ok true) }
-    ensures no_folder { IfOk found (λ at. ¬ IsDir (file_type at) → IsErr result) }
+    ensures no_folder { IfOk found (λ at. ¬ IsDir (file_type at) → IsErrAnd result (λ error. is_failure error ≡ true)) }
     ensures absent { IfErr found (λ error. error_kind error ≡ ErrorKind.NotFound → result ≡ Ok false) }
-    ensures error { IfErr found (λ error. error_kind error ≢ ErrorKind.NotFound → IsErr result) }
+    ensures error { IfErr found (λ reason. error_kind reason ≢ ErrorKind.NotFound → IsErrAnd result (IsErrorOf reason)) }
 {
     match found {
         Ok(found) => {
@@ -77,15 +77,6 @@ fn is_layer(alloc: Global, folder: &str, found: io::Result<Metadata>) -> Result<
             Err(failure(alloc, folder, error))
         }
     }
-}
-
-/// The folder of a layer.
-fn folder_of(alloc: Global, layer: &Digest) -> Result<String, NoMemory>
-    ensures { IfOk result (λ folder. string_bytes folder ≡ folder_text layer.now) }
-{
-    let mut folder = String::from_str(alloc, "layers/sha256/")?;
-    folder.push_str(hex::encode(alloc, layer.bytes())?.as_str())?;
-    Ok(folder)
 }
 
 /// Sorts entries by their paths.
@@ -134,7 +125,8 @@ fn list_all<R: Files + AllocGlobal + Clone + Drop>(
 }
 
 /// Adds the entries directly in one folder of a layer, and its folders to those that remain to be listed. Returns whether the walk goes
-/// on; else it has as many entries as it may have.
+/// on; else it has as many entries as it may have. A folder of which a signal interrupts the listing is listed anew.
+#[tactic(auto, using(crate::proofs::Walks::grows_none, crate::proofs::Walks::cut_back))]
 fn list_one<R: Files + AllocGlobal + Clone + Drop>(
     rt: &R,
     alloc: Global,
@@ -146,16 +138,59 @@ fn list_one<R: Files + AllocGlobal + Clone + Drop>(
     requires room { length entries.old.items < most_entries }
     ensures at_most { OnOk result (length entries.new.items ≤ most_entries) }
     ensures more { OnOk result (length entries.old.items ≤ length entries.new.items) }
+    ensures entries { Grows entries.old.items entries.new.items }
+    ensures no_interrupt { ¬ IsErrAnd result IsInterrupted }
     ensures folders { OnOk result (length folders.new.items + length entries.old.items ≤ length folders.old.items + length entries.new.items) }
     ensures full { IfOk result (λ goes_on. goes_on ≡ false → length entries.new.items ≡ most_entries) }
     ensures room { IfOk result (λ goes_on. goes_on ≡ true → length entries.new.items < most_entries) }
 {
     let place = joined(alloc, folder, path.text())?;
-    let found = fs::read_dir(rt, place.as_str());
-    add_found(alloc, place.as_str(), path, found, entries, folders)
+    let (listed, to_list) = (entries.len(), folders.len());
+    for _ in 0..MOST_TRIES {
+        let answer = list_at(rt, alloc, place.as_str(), path, entries, folders);
+        if !is_interrupted(&answer) {
+            return answer;
+        }
+        entries.truncate(listed);
+        folders.truncate(to_list);
+    }
+    Err(failure(alloc, place.as_str(), too_many_signals()))
+}
+
+/// Whether a signal interrupted a listing.
+fn is_interrupted<X>(answer: &Result<X, FolderError>) -> bool
+    ensures { IsTrue result ↔ IsErrAnd answer.now IsInterrupted }
+{
+    match answer {
+        Ok(_) => false,
+        Err(error) => error.is_interrupted(),
+    }
+}
+
+/// Adds the entries directly in the folder at `place`, which is `path` in the layer, as `list_one` does, but with one try.
+fn list_at<R: Files + AllocGlobal + Clone + Drop>(
+    rt: &R,
+    alloc: Global,
+    place: &str,
+    path: &RelPath,
+    entries: &mut Vec<ListEntry>,
+    folders: &mut Vec<RelPath>,
+) -> Result<bool, FolderError>
+    requires room { length entries.old.items < most_entries }
+    ensures more { OnOk result (length entries.old.items ≤ length entries.new.items) }
+    ensures entries { Grows entries.old.items entries.new.items }
+    ensures to_list { Grows folders.old.items folders.new.items }
+    ensures at_most { OnOk result (length entries.new.items ≤ most_entries) }
+    ensures folders { OnOk result (length folders.new.items + length entries.old.items ≤ length folders.old.items + length entries.new.items) }
+    ensures full { IfOk result (λ goes_on. goes_on ≡ false → length entries.new.items ≡ most_entries) }
+    ensures room { IfOk result (λ goes_on. goes_on ≡ true → length entries.new.items < most_entries) }
+{
+    let found = fs::read_dir(rt, place);
+    add_found(alloc, place, path, found, entries, folders)
 }
 
 /// Adds the entries that the system found in the folder at `place`, which is `path` in the layer, as `list_one` does.
+#[tactic(auto, using(crate::proofs::Walks::grows_none))]
 fn add_found<R: Files + Clone + Drop>(
     alloc: Global,
     place: &str,
@@ -165,9 +200,11 @@ fn add_found<R: Files + Clone + Drop>(
     folders: &mut Vec<RelPath>,
 ) -> Result<bool, FolderError>
     requires room { length entries.old.items < most_entries }
-    ensures error { IfErr found (λ error. IsErr result) }
+    ensures error { IfErr found (λ reason. IsErrAnd result (IsErrorOf reason)) }
     ensures at_most { OnOk result (length entries.new.items ≤ most_entries) }
     ensures more { OnOk result (length entries.old.items ≤ length entries.new.items) }
+    ensures entries { Grows entries.old.items entries.new.items }
+    ensures to_list { Grows folders.old.items folders.new.items }
     ensures folders { OnOk result (length folders.new.items + length entries.old.items ≤ length folders.old.items + length entries.new.items) }
     ensures full { IfOk result (λ goes_on. goes_on ≡ false → length entries.new.items ≡ most_entries) }
     ensures room { IfOk result (λ goes_on. goes_on ≡ true → length entries.new.items < most_entries) }
@@ -178,6 +215,7 @@ fn add_found<R: Files + Clone + Drop>(
 
 /// Adds the entry of each item that the system found in the folder at `place`, as `list_one` does. An item that is an error is an error
 /// here too.
+#[tactic(auto, using(crate::proofs::Walks::grows_none, crate::proofs::Walks::grows_more))]
 fn add_each<R: Files + Drop, I: Iterator<Item = io::Result<DirEntry<R>>>>(
     alloc: Global,
     place: &str,
@@ -192,6 +230,8 @@ fn add_each<R: Files + Drop, I: Iterator<Item = io::Result<DirEntry<R>>>>(
     ensures each { IfOk result (λ goes_on. goes_on ≡ true → AreAllAdded I.next_gives found (length entries.old.items) (length entries.new.items)) }
     ensures at_most { OnOk result (length entries.new.items ≤ most_entries) }
     ensures more { OnOk result (length entries.old.items ≤ length entries.new.items) }
+    ensures entries { Grows entries.old.items entries.new.items }
+    ensures to_list { Grows folders.old.items folders.new.items }
     ensures folders { OnOk result (length folders.new.items + length entries.old.items ≤ length folders.old.items + length entries.new.items) }
     ensures full { IfOk result (λ goes_on. goes_on ≡ false → length entries.new.items ≡ most_entries) }
     ensures room { IfOk result (λ goes_on. goes_on ≡ true → length entries.new.items < most_entries) }
@@ -207,6 +247,7 @@ fn add_each<R: Files + Drop, I: Iterator<Item = io::Result<DirEntry<R>>>>(
 }
 
 /// Adds an entry, and its path to the folders if it is one.
+#[tactic(auto, using(crate::proofs::Walks::grows_none, crate::proofs::Walks::grows_by))]
 fn add(
     entries: &mut Vec<ListEntry>,
     folders: &mut Vec<RelPath>,
@@ -215,6 +256,8 @@ fn add(
     ensures entries { OnOk result (entries.new.items ≡ entries.old.items ++ entry ∷ []) }
     ensures folder { OnOk result (entry.kind ≡ Kind.Dir → folders.new.items ≡ folders.old.items ++ entry.path ∷ []) }
     ensures other { OnOk result (entry.kind ≢ Kind.Dir → folders.new.items ≡ folders.old.items) }
+    ensures grows { Grows entries.old.items entries.new.items }
+    ensures to_list { Grows folders.old.items folders.new.items }
     ensures count { OnOk result (length entries.new.items ≡ length entries.old.items + 1) }
     ensures at_most { OnOk result (length folders.new.items ≤ length folders.old.items + 1) }
 {
@@ -233,7 +276,7 @@ fn read_entry<R: Files + Drop>(
     found: io::Result<DirEntry<R>>,
 ) -> Result<ListEntry, FolderError>
     ensures path { IfOk found (λ entry. IfOk result (λ listed. path_of (joined (path_text path.now) (dir_entry_name entry)) ≡ Ok listed.path)) }
-    ensures error { IfErr found (λ error. IsErr result) }
+    ensures error { IfErr found (λ reason. IsErrAnd result (IsErrorOf reason)) }
 {
     let entry = answer_at(alloc, place, found)?;
     let name = joined(alloc, path.text(), entry.file_name())?;
@@ -248,7 +291,7 @@ fn listed(
     name: &str,
     found: io::Result<Metadata>,
 ) -> Result<ListEntry, FolderError>
-    ensures error { IfErr found (λ error. IsErr result) }
+    ensures error { IfErr found (λ reason. IsErrAnd result (IsErrorOf reason)) }
     ensures path { IfOk result (λ entry. path_of name.now ≡ Ok entry.path) }
     ensures dir { IfOk found (λ at. IfOk result (λ entry. IsDir (file_type at) → (entry.kind ≡ Kind.Dir) × (entry.size ≡ 0))) }
     ensures file { IfOk found (λ at. IfOk result (λ entry. IsFile (file_type at) → (entry.kind ≡ Kind.File) × (entry.size ≡ metadata_len at))) }
@@ -272,123 +315,4 @@ fn listed(
         (Kind::Other, 0)
     };
     Ok(ListEntry { path, kind, size })
-}
-
-/// Reads a file of a layer, if it has at most `limit` bytes.
-pub fn read_file<R: Files + AllocGlobal + Clone + Drop>(
-    rt: &R,
-    alloc: Global,
-    layer: &Digest,
-    path: &RelPath,
-    limit: u32,
-) -> Result<FileRead, FolderError>
-    ensures { IfOk result (λ read. IsWithin limit read) }
-{
-    let place = place_of(alloc, layer, path)?;
-    let found = rt.symlink_metadata(place.as_str());
-    read_at(rt, alloc, place.as_str(), found, limit)
-}
-
-/// Reads the file at `place`, by the system's answer about it, if it has at most `limit` bytes.
-fn read_at<R: Files + AllocGlobal + Clone + Drop>(
-    rt: &R,
-    alloc: Global,
-    place: &str,
-    found: io::Result<Metadata>,
-    limit: u32,
-) -> Result<FileRead, FolderError>
-    ensures error { IfErr found (λ error. IsErr result) }
-    ensures not_file { IfOk found (λ at. ¬ IsFile (file_type at) → result ≡ Ok FileRead.NotFile) }
-    ensures too_large { IfOk found (λ at. IsFile (file_type at) → limit < metadata_len at → result ≡ Ok FileRead.TooLarge) }
-    ensures within { IfOk result (λ read. IsWithin limit read) }
-{
-    if let Some(refused) = refused(alloc, place, found, limit)? {
-        return Ok(refused);
-    }
-    let found = fs::read(rt, place);
-    read_found(alloc, place, found, limit)
-}
-
-/// The path of a layer's entry below the working directory.
-fn place_of(alloc: Global, layer: &Digest, path: &RelPath) -> Result<String, NoMemory>
-    ensures { IfOk result (λ place. string_bytes place ≡ joined (folder_text layer.now) (path_text path.now)) }
-{
-    let folder = folder_of(alloc, layer)?;
-    joined(alloc, folder.as_str(), path.text())
-}
-
-/// Why the file at `place` is not read, by the system's answer about it, if it is not.
-fn refused(
-    alloc: Global,
-    place: &str,
-    found: io::Result<Metadata>,
-    limit: u32,
-) -> Result<Option<FileRead>, FolderError>
-    ensures error { IfErr found (λ error. IsErr result) }
-    ensures not_file { IfOk found (λ at. ¬ IsFile (file_type at) → result ≡ Ok (Some FileRead.NotFile)) }
-    ensures too_large { IfOk found (λ at. IsFile (file_type at) → limit < metadata_len at → result ≡ Ok (Some FileRead.TooLarge)) }
-    ensures none { IfOk found (λ at. IsFile (file_type at) → metadata_len at ≤ limit → result ≡ Ok None) }
-{
-    let at = answer_at(alloc, place, found)?;
-    if !at.is_file() {
-        return Ok(Some(FileRead::NotFile));
-    }
-    if at.len() > u64::from(limit) {
-        return Ok(Some(FileRead::TooLarge));
-    }
-    Ok(None)
-}
-
-/// The bytes that were read of the file at `place`, if they are at most `limit`: it may have grown since its metadata was read.
-fn read_found(
-    alloc: Global,
-    place: &str,
-    found: io::Result<Vec<u8>>,
-    limit: u32,
-) -> Result<FileRead, FolderError>
-    ensures error { IfErr found (λ error. IsErr result) }
-    ensures value { IfOk found (λ bytes. result ≡ Ok (file_read (Some (File bytes.items)) limit)) }
-    ensures within { IfOk result (λ read. IsWithin limit read) }
-{
-    let bytes = answer_at(alloc, place, found)?;
-    if bytes.len() > limit as usize {
-        return Ok(FileRead::TooLarge);
-    }
-    Ok(FileRead::Bytes(Seq::of(bytes)))
-}
-
-/// Two parts of a path with a slash between them; an empty part adds nothing.
-fn joined(alloc: Global, front: &str, back: &str) -> Result<String, NoMemory>
-    ensures { IfOk result (λ path. string_bytes path ≡ joined front.now back.now) }
-{
-    let mut path = String::from_str(alloc, front)?;
-    if !front.is_empty() && !back.is_empty() {
-        path.push('/')?;
-    }
-    path.push_str(back)?;
-    Ok(path)
-}
-
-/// The system's answer about a path, with its error made one of this crate.
-fn answer_at<X>(alloc: Global, path: &str, found: io::Result<X>) -> Result<X, FolderError>
-    ensures ok { IfOk found (λ x. result ≡ Ok x) }
-    ensures error { IfErr found (λ error. IsErr result) }
-{
-    match found {
-        Ok(found) => Ok(found),
-        Err(error) => Err(failure(alloc, path, error)),
-    }
-}
-
-/// The error that an error of the system at a path makes.
-fn failure(alloc: Global, path: &str, reason: io::Error) -> FolderError
-    ensures { error_kind reason ≡ ErrorKind.OutOfMemory → is_failure result ≡ false }
-{
-    if reason.kind() == ErrorKind::OutOfMemory {
-        return FolderError::NoMemory;
-    }
-    match String::from_str(alloc, path) {
-        Ok(path) => FolderError::Failed(FolderFailure { path, reason }),
-        Err(_) => FolderError::NoMemory,
-    }
 }

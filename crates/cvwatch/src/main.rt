@@ -24,14 +24,14 @@ const DESKS: usize = 8;
 
 fn main(rt: HostRuntime) -> ExitCode {
     let ended = start(&rt, &rt);
-    if ended.is_err() {
-        say(&rt, "out of memory");
+    if let Err(error) = &ended {
+        say_not_started(&rt, error);
     }
     Status::exit_code_of(ended)
 }
 
-/// Runs the arguments of the command line over real folders and the standard streams; fails only if memory runs out before a
-/// command is started. Threads are started by a handle of their own.
+/// Runs the arguments of the command line over real folders and the standard streams; fails only before a command is started.
+/// Threads are started by a handle of their own.
 fn start<W: Threads + Wait + Sync>(rt: &HostRuntime, threads: &W) -> io::Result<Status> {
     let arguments = arguments_of(rt)?;
     let mut desks = make_desks(rt)?;
@@ -93,6 +93,15 @@ fn say(rt: &HostRuntime, reason: &str) {
     let _ = eprintln!(rt; "cvwatch: {reason}");
 }
 
+/// Says on standard error why no command was started. A failure to say it is ignored.
+fn say_not_started(rt: &HostRuntime, error: &io::Error) {
+    if error.kind() == ErrorKind::OutOfMemory {
+        say(rt, "out of memory");
+    } else {
+        let _ = eprintln!(rt; "cvwatch: no command could be started: {error}");
+    }
+}
+
 /// Says on standard error why a stream failed. A failure to say it is ignored.
 fn explain(rt: &HostRuntime, reason: &str, error: Option<io::Error>) {
     match error {
@@ -128,10 +137,11 @@ fn read_arguments(rt: &HostRuntime) -> io::Result<Vec<String>> {
     Ok(arguments)
 }
 
-/// Desks over the folders of the working directory.
+/// Desks over the folders of the working directory. None has listed a layer often, and none has counted a failure.
 fn make_desks(rt: &HostRuntime) -> io::Result<Vec<FolderDesk<HostRuntime>>>
     ensures count { IfOk result (λ desks. length desks.items ≡ 8) }
     ensures fresh { IfOk result (λ desks. All (λ desk. ⟦<FolderDesk<HostRuntime> as Desk>⟧.listings desk < 2 ^ 62) desks.items) }
+    ensures unfailed { IfOk result (λ desks. All (λ desk. ⟦<FolderDesk<HostRuntime> as Desk>⟧.faults desk ≡ 0) desks.items) }
 {
     let mut desks = Vec::new(rt.alloc());
     for _ in 0..DESKS {
@@ -143,6 +153,7 @@ fn make_desks(rt: &HostRuntime) -> io::Result<Vec<FolderDesk<HostRuntime>>>
 fn add_desk(rt: &HostRuntime, desks: &mut Vec<FolderDesk<HostRuntime>>) -> io::Result<()>
     ensures count { OnOk result (length desks.new.items ≡ length desks.old.items + 1) }
     ensures fresh { OnOk result (All (λ desk. ⟦<FolderDesk<HostRuntime> as Desk>⟧.listings desk < 2 ^ 62) desks.old.items → All (λ desk. ⟦<FolderDesk<HostRuntime> as Desk>⟧.listings desk < 2 ^ 62) desks.new.items) }
+    ensures unfailed { OnOk result (All (λ desk. ⟦<FolderDesk<HostRuntime> as Desk>⟧.faults desk ≡ 0) desks.old.items → All (λ desk. ⟦<FolderDesk<HostRuntime> as Desk>⟧.faults desk ≡ 0) desks.new.items) }
 {
     desks.push(FolderDesk::new(rt.clone()?))?;
     Ok(())

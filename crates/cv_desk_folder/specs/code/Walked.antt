@@ -1,6 +1,9 @@
 -- Parts of a walk through real folders, and what the desk answers, counts and keeps after it.
-use Rattle.std.specs.Prelude.{◌≡◌, ℕ, ◌+◌, ◌≤◌, Bool, true, false, List, [], ◌∷◌, ◌++◌, length, Option, Some, Result, Ok, Err, IsOk}
+use Rattle.std.specs.Prelude.{◌≡◌, ◌≢◌, ℕ, ◌+◌, ◌≤◌, Bool, true, false, List, [], ◌∷◌, ◌++◌, length, Option, Some, Result, Ok, Err, IsOk}
 use Rattle.std.specs.Iterator.{Drains}
+use Rattle.std.specs.IoError.{error_kind}
+use Rattle.std.specs.declared.io.Error.{Error}
+use Rattle.std.specs.declared.io.ErrorKind.TheVariants.{Interrupted, OutOfMemory}
 use Rattle.std.specs.List.{AllByRecursion}
 use Rattle.cv_seq.specs.Cause.{next_count}
 use Rattle.cv_desk.specs.declared.desk.DeskFault.{DeskFault}
@@ -52,3 +55,21 @@ pub record AreAllAdded {S X E : Type 0} (gives : S → Option (Result X E) → S
   pub drained : Drains gives found items
   pub answers : AllByRecursion IsOk items
   pub counted : count_now ≡ count + length items
+
+-- what an error of the system makes: want of memory where the system says so, and else a failure with this reason
+abbrev pub IsErrorOf : Error → FolderError → Type 0
+IsErrorOf reason (error.Failed failure) = (failure.reason ≡ reason) × (error_kind reason ≢ OutOfMemory)
+IsErrorOf reason error.NoMemory = error_kind reason ≡ OutOfMemory
+
+-- no signal interrupted the call
+abbrev pub IsNoInterrupt : Error → Type 0
+IsNoInterrupt reason = error_kind reason ≢ Interrupted
+
+-- a signal interrupted the listing
+abbrev pub IsInterrupted : FolderError → Type 0
+IsInterrupted (error.Failed failure) = error_kind failure.reason ≡ Interrupted
+IsInterrupted error.NoMemory = ⊥
+
+-- a list that had more added at its end, or nothing
+abbrev pub Grows : {X : Type 0} → List X → List X → Type 0
+Grows {X} before now = (more : List X) × (now ≡ before ++ more)
