@@ -1,3 +1,4 @@
+mod endings;
 mod input;
 mod output;
 mod serve;

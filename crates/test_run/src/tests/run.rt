@@ -1,12 +1,13 @@
 mod failures;
 mod services;
 mod usages;
+mod writes;
 
 use std::alloc::Global;
 use std::process::Abort;
 use std::sync::Wait;
 use std::thread::Threads;
-use test_commands::{CALM, NoMemory, Status, USAGE, runs_to, scan_input};
+use test_commands::{CALM, NoMemory, Outside, Status, USAGE, runs_to, scan_input};
 
 /// Runs a command that reads no input, and compares how it ends and what it prints.
 fn try_command<R: Abort + Threads + Wait + Sync>(
@@ -84,6 +85,22 @@ fn what_fails_is_blamed(rt: HostRuntime) -> Result<(), NoMemory> {
             want,
         )?;
         assert!(rt; is_same, "{}", case.input);
+    }
+    Ok(())
+}
+
+#[test]
+fn the_lines_before_a_failing_write_stand(rt: HostRuntime) -> Result<(), NoMemory> {
+    for (fails, output) in &writes::CASES {
+        let outside = Outside {
+            piece: 4096,
+            writes: *fails,
+            ..CALM
+        };
+        let want = (Status::WriteFault, *output);
+        let arguments = ["serve", "--workers", "1"];
+        let is_same = runs_to(&rt, rt.alloc(), &arguments, writes::SESSION, &outside, want)?;
+        assert!(rt; is_same, "{fails:?}");
     }
     Ok(())
 }
