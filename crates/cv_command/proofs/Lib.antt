@@ -1,3 +1,4 @@
 pub mod Ends
+pub mod ListLemmas
 pub mod OutcomeLemmas
 pub mod Versions

@@ -1,4 +1,6 @@
 pub mod Command
+pub mod Commands
+pub mod List
 pub mod Order
 pub mod Outcome
 pub mod Printed

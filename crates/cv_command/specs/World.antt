@@ -21,6 +21,10 @@ pub record World : Type 0 where
   pub written : Option (List ℕ)
   pub counts : Counts
 
+-- a world without a desk: no counts
+abbrev pub streams : Option (List ℕ) → Option (List ℕ) → World
+streams remaining written = record { remaining = remaining; written = written; counts = record { listings = 0; faults = 0 } }
+
 -- what a run works on: its input, the bytes that its output holds, if they are known, and its desks
 pub record RunWorld (S D : Type 0) : Type 0 where
   pub input : S

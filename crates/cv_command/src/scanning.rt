@@ -1,17 +1,17 @@
-ghost use Rattle.std.specs.Prelude.{◌≡◌, ◌+◌, ◌^◌, ◌<◌, ◌≤◌, true, length, IfOk};
+ghost use Rattle.std.specs.Prelude.{◌≡◌, ◌^◌, ◌<◌, true, IfOk};
+ghost use Rattle.cv_scan_input.specs.Answer.{HasLayers};
 ghost use Rattle.cv_seq.specs.Cause.{Rose};
-ghost use Rattle.cv_scan.specs.Layers.{distinct};
-ghost use Rattle.cv_command.specs.Outcome.{SaysOutcome};
+ghost use Rattle.cv_command.specs.Outcome.{ListsAtMost, SaysOutcome};
 ghost use Rattle.cv_command.specs.Printed.{is_end};
 ghost use Rattle.cv_command.specs.World.{counts_of};
 ghost use Rattle.cv_command.specs.code.Printing.{SaysError, printed_of, reason_of, reason_printed};
 
 use crate::status::Status;
-use cv_base::{Digest, MAX_LAYERS, NoMemory, Text};
+use cv_base::{Digest, Manifest, NoMemory, Text};
 use cv_desk::Desk;
 use cv_overlay::ImageFault;
 use cv_scan_image::{ImageError, scan_layers};
-use cv_scan_input::ScanInput;
+use cv_scan_input::InputLines;
 use cv_scan_output::{bad_image_line, desk_fault_line, good_line};
 use std::alloc::Global;
 
@@ -26,20 +26,19 @@ pub struct Answer {
 pub fn scan_answer<D: Desk>(
     alloc: Global,
     desk: &mut D,
-    request: &ScanInput,
+    request: &InputLines<Manifest>,
 ) -> Result<Answer, NoMemory>
     requires room { D.listings desk.old < 2 ^ 62 }
-    requires at_most_128_layers { length request.now.manifest.layers ≤ MAX_LAYERS }
-    requires as_many_seals { length request.now.manifest.seals ≡ length request.now.manifest.layers }
-    ensures outcome { IfOk result (λ answer. SaysOutcome D.tree request.now.manifest request.now.records (counts_of D.listings D.faults desk.old) (counts_of D.listings D.faults desk.new) (printed_of answer)) }
-    ensures listed { D.listings desk.new ≤ D.listings desk.old + length (distinct request.now.manifest.layers) }
+    requires layers { HasLayers request.now.first }
+    ensures outcome { IfOk result (λ answer. SaysOutcome D.tree request.now.first request.now.records (counts_of D.listings D.faults desk.old) (counts_of D.listings D.faults desk.new) (printed_of answer)) }
+    ensures listed { ListsAtMost request.now.first (counts_of D.listings D.faults desk.old) (counts_of D.listings D.faults desk.new) }
     ensures end { IfOk result (λ answer. is_end answer.ended ≡ true) }
     ensures cause { IfOk result (λ answer. answer.ended ≡ Status.DeskFault → Rose (D.faults desk.old) (D.faults desk.new)) }
 {
     let feed = Text::of(alloc, "scan")?;
-    let hash = &request.manifest.hash;
-    let layers = request.manifest.layers.as_slice();
-    let seals = request.manifest.seals.as_slice();
+    let hash = &request.first.hash;
+    let layers = request.first.layers.as_slice();
+    let seals = request.first.seals.as_slice();
     let records = request.records.as_slice();
     match scan_layers(alloc, desk, layers, seals, &feed, records) {
         Ok(found) => Ok(Answer {
@@ -58,7 +57,11 @@ enum Reason {
 }
 
 /// The line that says why an image has no findings.
-fn error_answer(alloc: Global, hash: &Digest, error: ImageError) -> Result<Answer, NoMemory>
+pub(crate) fn error_answer(
+    alloc: Global,
+    hash: &Digest,
+    error: ImageError,
+) -> Result<Answer, NoMemory>
     ensures { IfOk result (λ answer. SaysError hash.now error (printed_of answer)) }
 {
     match reason_of(error) {

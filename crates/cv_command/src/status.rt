@@ -5,7 +5,7 @@ ghost use Rattle.cv_command.specs.Status.{status_code};
 use std::process::ExitCode;
 
 /// How a command ended. A service prints each round as it ends, so that an end before the end of its input leaves those rounds
-/// printed; a scan prints one line.
+/// printed; a scan prints one line, and so do `sbom` and `scan-list`, of which the same holds.
 #[derive(Clone, Copy, Debug, PartialEq, Eq)]
 pub enum Status {
     /// All was printed: the findings, also if there are none, the transcript, the summary of one, or how two versions compare.

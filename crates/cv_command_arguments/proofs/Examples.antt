@@ -2,15 +2,16 @@
 use Rattle.std.proofs.Common.{◌≡◌, true, false, [], ◌∷◌, codes, refl}
 use Rattle.std.specs.Prelude.{Some, None}
 use Rattle.clap.proofs.OnLiterals.{clap_on_literals}
-use Rattle.cv_command_arguments.specs.Forms.{comparison_of, drill_app, name_of, order_app, packages_named, scan_app, seed_of, serve_app, takes_scan, workers_of}
+use Rattle.cv_command_arguments.specs.Forms.{bare_app, comparison_of, drill_app, name_of, order_app, packages_named, seed_of, serve_app, takes_none, workers_of}
 use Rattle.cv_command_arguments.specs.Simple.{rows_by}
 use Rattle.cv_command_arguments.specs.Values.{is_option, values_of}
 use Rattle.cv_command_arguments.specs.declared.order.Packages.TheVariants.{Deb, Apk, Semver, Pypi}
 
--- a scan has no arguments
-scans : (takes_scan [] ≡ true) × (takes_scan (codes "--" ∷ []) ≡ true) × (takes_scan (codes "walk" ∷ []) ≡ false) × (takes_scan (codes "--help" ∷ []) ≡ false)
-unfolding scan_app rows_by clap_on_literals
-scans = (refl, refl, refl, refl)
+-- a scan has no arguments, and neither have the commands of lists of components
+scans : (takes_none (codes "scan") [] ≡ true) × (takes_none (codes "scan") (codes "--" ∷ []) ≡ true) × (takes_none (codes "scan") (codes "walk" ∷ []) ≡ false)
+    × (takes_none (codes "scan") (codes "--help" ∷ []) ≡ false) × (takes_none (codes "sbom") [] ≡ true) × (takes_none (codes "scan-list") (codes "x" ∷ []) ≡ false)
+unfolding bare_app rows_by clap_on_literals
+scans = (refl, refl, refl, refl, refl, refl)
 
 -- the number of workers stands in an argument of its own, or in that of the option
 services : (workers_of [] ≡ Some None) × (workers_of (codes "--workers" ∷ codes "2" ∷ []) ≡ Some (Some 2))

@@ -1,3 +1,4 @@
+pub mod BareForm
 pub mod DrillForm
 pub mod Examples
 pub mod Numbers
@@ -5,7 +6,6 @@ pub mod Options
 pub mod OrderForm
 pub mod OrderWalk
 pub mod Reading
-pub mod ScanForm
 pub mod ServeForm
 pub mod ServeWalk
 pub mod WalkLemmas

@@ -10,13 +10,13 @@ use Rattle.cv_command_arguments.specs.Simple.{app_named, number_in, rows_by}
 use Rattle.cv_command_arguments.specs.declared.order.Packages.{Packages}
 use Rattle.cv_command_arguments.specs.declared.order.Packages.TheVariants.{Deb, Apk, Semver, Pypi}
 
--- `scan` has no arguments
-unfoldable pub scan_app : App
-scan_app = app_named (codes "scan")
+-- `scan`, `sbom` and `scan-list` have no arguments
+unfoldable pub bare_app : Text → App
+bare_app name = app_named name
 
--- the arguments of a scan are those that its command takes
-abbrev pub takes_scan : List Text → Bool
-takes_scan arguments = is_some (rows_by scan_app arguments)
+-- the arguments of a command without arguments are those that it takes
+abbrev pub takes_none : Text → List Text → Bool
+takes_none name arguments = is_some (rows_by (bare_app name) arguments)
 
 -- the option `--workers` with a number from 1 to 8
 abbrev pub workers_rule : Rule

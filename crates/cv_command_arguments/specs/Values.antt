@@ -40,7 +40,7 @@ drill_values _ = None
 abbrev pub drill_form : List Text → Option ℕ
 drill_form arguments = option_and_then drill_values (values_of arguments)
 
--- there are no arguments, or `--` alone; `scan` takes nothing else
+-- there are no arguments, or `--` alone; a command without arguments takes nothing else
 abbrev pub is_end : List Text → Bool
 is_end [] = true
 is_end (argument ∷ []) = bytes_eq argument (codes "--")

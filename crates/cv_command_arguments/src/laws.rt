@@ -1,12 +1,12 @@
 ghost use Rattle.std.specs.Prelude.{◌≡◌, ◌≤◌, ℕ, true, is_some, List, map, Some, None};
 ghost use Rattle.clap.specs.Walk.{Text};
-ghost use Rattle.cv_command_arguments.specs.Forms.{Names, comparison_of, drill_rows, order_app, order_rows, package_names, seed_of, takes_scan, workers_of};
+ghost use Rattle.cv_command_arguments.specs.Forms.{Names, comparison_of, drill_rows, order_app, order_rows, package_names, seed_of, takes_none, workers_of};
 ghost use Rattle.cv_command_arguments.specs.Simple.{rows_by};
 ghost use Rattle.cv_command_arguments.specs.Values.{drill_form, is_end, order_form, serve_form};
 
-/// What holds of all arguments of `scan`: it takes none, or `--` alone.
-pub fn scan_law()
-    ensures { (arguments : List Text) → takes_scan arguments ≡ is_end arguments }
+/// What holds of all arguments of a command without arguments, whatever its name: it takes none, or `--` alone.
+pub fn bare_law()
+    ensures { (name : Text) (arguments : List Text) → takes_none name arguments ≡ is_end arguments }
 {}
 
 /// What holds of all arguments of `order`. Where the names lie in memory makes no difference, `place`. Arguments that are taken give a

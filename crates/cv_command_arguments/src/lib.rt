@@ -9,15 +9,15 @@
 //! ```
 #![tactic(auto)]
 
+mod bare;
 mod drill;
 mod laws;
 mod order;
-mod scan;
 mod serve;
 mod simple;
 
+pub use bare::takes_none;
 pub use drill::seed_of;
-pub use laws::{drill_laws, order_laws, scan_law, serve_laws};
+pub use laws::{bare_law, drill_laws, order_laws, serve_laws};
 pub use order::{Packages, Versions, versions_of};
-pub use scan::takes_scan;
 pub use serve::workers_of;

@@ -8,7 +8,7 @@ use Rattle.cv_run.specs.Run.{Completes, IsService, KeepsLimits, RunsAs}
 use Rattle.cv_run.specs.Service.{ServeEnds, ServiceEnds, Stops, worker_count}
 use Rattle.cv_command.specs.World.{RunWorld, Trees}
 use Rattle.cv_run.specs.declared.arguments.Command.{Command}
-use Rattle.cv_run.specs.declared.arguments.Command.TheVariants.{Scan, Serve, Drill, Print}
+use Rattle.cv_run.specs.declared.arguments.Command.TheVariants.{Scan, Sbom, ListScan, Serve, Drill, Print}
 use Rattle.cv_command.specs.declared.status.Status.{Status}
 use Rattle.cv_command.specs.declared.status.Status.TheVariants as status
 
@@ -41,6 +41,8 @@ module _ {S D : Type 0} (trees : Trees) (remaining : S → Option (List ℕ)) (l
       → (ended ≡ status.ReadFault → Rose reads reads_now) → (ended ≡ status.WriteFault → Rose writes writes_now)
       → IsService command (length before.desks) → KeepsLimits (remaining before.input) → ¬ Rose reads reads_now → ¬ Rose writes writes_now → (ended ≡ status.Done) ⊎ (ended ≡ status.NoMemory)
   command_completes Scan arguments ended h read write is = absurd is
+  command_completes Sbom arguments ended h read write is = absurd is
+  command_completes ListScan arguments ended h read write is = absurd is
   command_completes (Serve workers) arguments ended h read write is = service_completes (worker_count workers (length before.desks)) ended h read write is
   command_completes (Drill seed) arguments ended h read write is = absurd is
   command_completes Print arguments ended h read write is = absurd is

@@ -1,9 +1,9 @@
 ghost use Rattle.std.specs.Prelude.{◌≡◌, IfOk};
 ghost use Rattle.cv_command_arguments.specs.Simple.{texts_of};
-ghost use Rattle.cv_run.specs.Arguments.{command_of, drill_with, named, scan_with, serve_with};
+ghost use Rattle.cv_run.specs.Arguments.{bare_with, command_of, drill_with, named, serve_with};
 
 use cv_base::NoMemory;
-use cv_command_arguments::{seed_of, takes_scan, workers_of};
+use cv_command_arguments::{seed_of, takes_none, workers_of};
 use std::alloc::Global;
 
 /// What the arguments of the program name.
@@ -11,6 +11,10 @@ use std::alloc::Global;
 pub enum Command {
     /// The scan of an image.
     Scan,
+    /// The packages of an image, as a list of components.
+    Sbom,
+    /// The scan of a list of components.
+    ListScan,
     /// The service, with the number of workers that was asked for.
     Serve(Option<u32>),
     /// A large run of the service that this seed determines.
@@ -33,18 +37,26 @@ fn named(alloc: Global, name: &str, options: &[String]) -> Result<Command, NoMem
     ensures { IfOk result (λ command. command ≡ named name.now (texts_of options.now)) }
 {
     match name {
-        "scan" => scan_with(alloc, options),
+        "scan" => bare_with(alloc, Command::Scan, "scan", options),
+        "sbom" => bare_with(alloc, Command::Sbom, "sbom", options),
+        "scan-list" => bare_with(alloc, Command::ListScan, "scan-list", options),
         "serve" => serve_with(alloc, options),
         "drill" => drill_with(alloc, options),
         _ => Ok(Command::Print),
     }
 }
 
-fn scan_with(alloc: Global, options: &[String]) -> Result<Command, NoMemory>
-    ensures { IfOk result (λ command. command ≡ scan_with (texts_of options.now)) }
+/// A command without arguments.
+fn bare_with(
+    alloc: Global,
+    command: Command,
+    name: &str,
+    options: &[String],
+) -> Result<Command, NoMemory>
+    ensures { IfOk result (λ found. found ≡ bare_with command name.now (texts_of options.now)) }
 {
-    let taken = takes_scan(alloc, options)?;
-    Ok(if taken { Command::Scan } else { Command::Print })
+    let taken = takes_none(alloc, name, options)?;
+    Ok(if taken { command } else { Command::Print })
 }
 
 fn serve_with(alloc: Global, options: &[String]) -> Result<Command, NoMemory>

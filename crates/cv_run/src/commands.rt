@@ -9,14 +9,17 @@ use crate::arguments::{Command, command_of};
 use crate::drill::drill_command;
 use crate::service::serve_command;
 use cv_base::NoMemory;
-use cv_command::{Status, order_command, print_usage, scan_command};
+use cv_command::{
+    Status, list_scan_command, order_command, print_usage, sbom_command, scan_command,
+};
 use cv_desk::Desk;
 use cv_io::{Sink, Source};
 use std::alloc::Global;
 use std::sync::Wait;
 use std::thread::Threads;
 
-/// Runs the command that the arguments name: `scan`, `serve`, `order` or `drill`. Other arguments print the usage line.
+/// Runs the command that the arguments name: `scan`, `sbom`, `scan-list`, `serve`, `order` or `drill`. Other arguments print the
+/// usage line.
 pub fn run<S: Source, K: Sink, D: Desk + Drop + Send + Sync, W: Threads + Wait + Sync>(
     rt: &W,
     alloc: Global,
@@ -70,6 +73,11 @@ fn run_command<S: Source, K: Sink, D: Desk + Drop + Send + Sync, W: Threads + Wa
             let first = &mut desks[0];
             scan_command(alloc, input, output, first)
         }
+        Command::Sbom => {
+            let first = &mut desks[0];
+            sbom_command(alloc, input, output, first)
+        }
+        Command::ListScan => list_scan_command(alloc, input, output),
         Command::Serve(workers) => serve_command(rt, alloc, workers, input, output, desks),
         Command::Drill(seed) => drill_command(rt, alloc, seed, output),
         Command::Print => print_command(alloc, arguments, output),

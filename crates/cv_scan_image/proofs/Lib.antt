@@ -1,3 +1,4 @@
 pub mod Blamed
+pub mod ListLemmas
 pub mod PlaceLemmas
 pub mod ScanLemmas

@@ -1,22 +1,29 @@
 -- The whole lines that were accepted before the source failed.
-use Rattle.std.specs.Prelude.{◌≡◌, ℕ, ◌+◌, ◌-◌, ◌<◌, ◌≤◌, ◌^◌, Bool, true, false, if◌then◌else◌, List, [], ◌∷◌, ◌++◌, length, map, Option, None, Some, Result, Ok, Err, IfSome, IsSomeAnd, refl}
+use Rattle.std.specs.Prelude.{◌≡◌, ℕ, ◌+◌, ◌-◌, ◌<◌, ◌≤◌, ◌^◌, Bool, true, false, if◌then◌else◌, List, [], ◌∷◌, ◌++◌, length, map, Option, None, Some, Result, Ok, Err, IfOk, IfSome, IsErrOf, IsSomeAnd, refl}
 use Rattle.std.specs.List.{AllByRecursion}
 use Rattle.std.specs.Io.KnownBytes.{Consumes, prepend_known}
 use Rattle.std.proofs.Common.{◌∙◌, sym, ap, subst, arith, append_assoc, append-nil, length-append, inl, inr}
 use Rattle.std.proofs.lemmas.Bool.{false≢true}
 use Rattle.std.proofs.lemmas.List.{map-append}
 use Rattle.cv_base.specs.declared.advisory.Advisory.{Advisory}
-use Rattle.cv_base.specs.declared.manifest.Manifest.{Manifest}
 use Rattle.cv_io.specs.declared.line.Line.TheVariants.{Text}
+use Rattle.cv_base.specs.Answer.{Gives}
+use Rattle.std.specs.Result.{IsErrAnd}
+use Rattle.cv_io.specs.declared.line.LineError.{LineError}
 use Rattle.cv_io.specs.declared.line.LineError.TheVariants as line
 use Rattle.cv_io.specs.Lines.{Finished, HasNoLineEnd, LF, Reading, line_then, stopped, text_of}
 use Rattle.cv_io.specs.code.Lines.{lines_then}
 use Rattle.cv_io.specs.Reader.{Reader, Step, progress_of, room_of, ungiven}
 use Rattle.cv_io.specs.Takes.{Takes}
-use Rattle.cv_request.specs.declared.error.RequestFault.{RequestFault}
-use Rattle.cv_scan_input.specs.Request.{manifest_or, record_lines, request_after}
+use Rattle.cv_scan_input.specs.declared.error.InputFault.{InputFault}
+use Rattle.cv_scan_input.specs.declared.later.Later.{Later}
+use Rattle.cv_scan_input.specs.Request.{record_lines, request_after}
 use Rattle.cv_scan_input.specs.code.Remaining.{line_after, refused_at, remaining_request}
 use Rattle.cv_scan_input.specs.code.Accepted.{Accepted, Begun, IsAccepted, IsBegun, IsUnrefusedAfter, UnrefusedAfter}
+use Rattle.cv_scan_input.specs.Answer.{stop_error}
+use Rattle.cv_scan_input.specs.code.Memory.{is_input_memory}
+use Rattle.cv_scan_input.specs.declared.error.InputError.{InputError}
+use Rattle.cv_scan_input.specs.declared.error.InputError.TheVariants as input
 use Rattle.cv_scan_input.specs.Unrefused.{IsPiece, IsUnrefused, Unrefused, ended_lines, is_refusal}
 use Rattle.cv_scan_input.proofs.Lines.{line_taken}
 
@@ -118,81 +125,85 @@ all_snoc [] piece all last = (last, tt)
 all_snoc (first ∷ pieces) piece all last = (all.0, all_snoc pieces piece all.1 last)
 
 -- no line was taken
-pub accepted_first : (manifest : Manifest) (reader : Reader) (l : Option (List ℕ)) → Accepted manifest reader reader [] 2 l l
-accepted_first manifest reader l = by (ungiven reader l)
+pub accepted_first : {A : Type 0} (later : Later) (made : A) (reader : Reader) (l : Option (List ℕ)) → Accepted later made reader reader [] 2 l l
+accepted_first later made reader l = by (ungiven reader l)
   where
-    by : (u : Option (List ℕ)) → IfSome u (λ bytes. IsSomeAnd u (IsAccepted manifest reader reader [] 2 bytes))
+    by : (u : Option (List ℕ)) → IfSome u (λ bytes. IsSomeAnd u (IsAccepted later made reader reader [] 2 bytes))
     by None = tt
     by (Some bytes) = record { pieces = []; lines = tt; joined = refl; room = omega arith; request = λ more. refl }
 
-module _ (manifest : Manifest) (first before now : Reader) (inputs : now.max_input ≡ before.max_input) (limit : now.max_line ≡ 67108864) (l0 l m : Option (List ℕ)) where
+module _ {A : Type 0} (later : Later) (made : A) (first before now : Reader) (inputs : now.max_input ≡ before.max_input) (limit : now.max_line ≡ 67108864) (l0 l m : Option (List ℕ)) where
   -- one more line was taken
-  pub accepted_more : (records more : List Advisory) (number : ℕ) (text : List ℕ) → Accepted manifest first before records number l0 l → Step before now l m (Ok (Text text)) → now.ended ≡ false
-      → line_after number records text ≡ Ok more → Accepted manifest first now more (number + 1) l0 m
+  pub accepted_more : (records more : List Advisory) (number : ℕ) (text : List ℕ) → Accepted later made first before records number l0 l → Step before now l m (Ok (Text text)) → now.ended ≡ false
+      → line_after later number records text ≡ Ok more → Accepted later made first now more (number + 1) l0 m
   accepted_more records more number text h s going taken = by (ungiven first l0) (ungiven before l) (ungiven now m) h e.parts
     where
       e : IsEnded before now l m inputs limit text
       e = ended_line before now l m inputs limit text s going
 
-      request_more : (pieces : List (List ℕ)) → ((rest : Reading) → remaining_request manifest [] 2 (lines_then (map text_of pieces) rest) ≡ remaining_request manifest records number rest)
-          → (rest : Reading) → remaining_request manifest [] 2 (lines_then (map text_of (pieces ++ e.piece ∷ [])) rest) ≡ remaining_request manifest more (number + 1) rest
+      request_more : (pieces : List (List ℕ)) → ((rest : Reading) → remaining_request later made [] 2 (lines_then (map text_of pieces) rest) ≡ remaining_request later made records number rest)
+          → (rest : Reading) → remaining_request later made [] 2 (lines_then (map text_of (pieces ++ e.piece ∷ [])) rest) ≡ remaining_request later made more (number + 1) rest
       request_more pieces request rest =
           let texts : map text_of (pieces ++ e.piece ∷ []) ++ rest.lines ≡ map text_of pieces ++ text_of e.piece ∷ rest.lines =
           ap (λ v. v ++ rest.lines) (map-append text_of pieces (e.piece ∷ [])) ∙ append_assoc (map text_of pieces) (text_of e.piece ∷ []) rest.lines in
-          ap (λ (v : List (List ℕ)). remaining_request manifest [] 2 (record { lines = v; stop = rest.stop })) texts
+          ap (λ (v : List (List ℕ)). remaining_request later made [] 2 (record { lines = v; stop = rest.stop })) texts
           ∙ request (line_then (text_of e.piece) rest)
-          ∙ line_taken manifest records more number (text_of e.piece) rest (subst (λ v. line_after number records v ≡ Ok more) e.text taken)
+          ∙ line_taken later made records more number (text_of e.piece) rest (subst (λ v. line_after later number records v ≡ Ok more) e.text taken)
 
-      by : (u v w : Option (List ℕ)) → IfSome u (λ bytes. IsSomeAnd v (IsAccepted manifest first before records number bytes)) → IfSome v (λ bytes. IsSomeAnd w (λ rest. bytes ≡ e.piece ++ LF ∷ rest))
-          → IfSome u (λ bytes. IsSomeAnd w (IsAccepted manifest first now more (number + 1) bytes))
+      by : (u v w : Option (List ℕ)) → IfSome u (λ bytes. IsSomeAnd v (IsAccepted later made first before records number bytes)) → IfSome v (λ bytes. IsSomeAnd w (λ rest. bytes ≡ e.piece ++ LF ∷ rest))
+          → IfSome u (λ bytes. IsSomeAnd w (IsAccepted later made first now more (number + 1) bytes))
       by None v w p parts = tt
       by (Some bytes) None w p parts = absurd p
       by (Some bytes) (Some rest) None p parts = absurd parts
-      by (Some bytes) (Some rest) (Some later) p parts = record {
+      by (Some bytes) (Some rest) (Some others) p parts = record {
         pieces = p.pieces ++ e.piece ∷ [];
         lines = all_snoc p.pieces e.piece p.lines e.whole;
-        joined = p.joined ∙ ap (λ v. ended_lines p.pieces ++ v) parts ∙ sym (ended_snoc p.pieces e.piece later);
+        joined = p.joined ∙ ap (λ v. ended_lines p.pieces ++ v) parts ∙ sym (ended_snoc p.pieces e.piece others);
         room = omega (arith, p.room, e.room, ended_length p.pieces e.piece);
         request = request_more p.pieces p.request;
       }
 
   -- the source failed after the lines
-  pub accepted_failed : (records : List Advisory) (number : ℕ) → Accepted manifest first before records number l0 l → Step before now l m (Err line.ReadFault) → UnrefusedAfter manifest first l0 m
+  pub accepted_failed : (records : List Advisory) (number : ℕ) → Accepted later made first before records number l0 l → Step before now l m (Err line.ReadFault) → UnrefusedAfter later made first l0 m
   accepted_failed records number h s = by (ungiven first l0) (ungiven before l) m h f.parts
     where
       f : IsFailed before now l m inputs limit
       f = failed before now l m inputs limit s
 
-      by : (u v w : Option (List ℕ)) → IfSome u (λ bytes. IsSomeAnd v (IsAccepted manifest first before records number bytes)) → IfSome v (λ bytes. IsSomeAnd w (λ rest. bytes ≡ now.held ++ rest))
-          → IfSome u (λ bytes. IsSomeAnd w (IsUnrefusedAfter manifest first bytes))
+      by : (u v w : Option (List ℕ)) → IfSome u (λ bytes. IsSomeAnd v (IsAccepted later made first before records number bytes)) → IfSome v (λ bytes. IsSomeAnd w (λ rest. bytes ≡ now.held ++ rest))
+          → IfSome u (λ bytes. IsSomeAnd w (IsUnrefusedAfter later made first bytes))
       by None v w p parts = tt
       by (Some bytes) None w p parts = absurd p
       by (Some bytes) (Some rest) None p parts = absurd parts
-      by (Some bytes) (Some rest) (Some later) p parts = record {
+      by (Some bytes) (Some rest) (Some others) p parts = record {
         pieces = p.pieces;
         begun = now.held;
-        joined = p.joined ∙ ap (λ v. ended_lines p.pieces ++ v) parts ∙ sym (append_assoc (ended_lines p.pieces) now.held later);
+        joined = p.joined ∙ ap (λ v. ended_lines p.pieces ++ v) parts ∙ sym (append_assoc (ended_lines p.pieces) now.held others);
         lines = p.lines;
         last = f.held;
         within = omega (arith, length-append (ended_lines p.pieces) now.held, p.room, f.room);
-        none = ap is_refusal (ap (λ (v : List (List ℕ)). remaining_request manifest [] 2 (record { lines = v; stop = Finished })) (sym (append-nil (map text_of p.pieces))) ∙ p.request (stopped Finished));
+        none = ap is_refusal (ap (λ (v : List (List ℕ)). remaining_request later made [] 2 (record { lines = v; stop = Finished })) (sym (append-nil (map text_of p.pieces))) ∙ p.request (stopped Finished));
       }
 
 -- ---- line 1
 
-module _ (before now : Reader) (inputs : now.max_input ≡ before.max_input) (limit : now.max_line ≡ 67108864) (l m : Option (List ℕ)) where
-  -- it is a manifest
-  pub begun_line : (text : List ℕ) (manifest : Manifest) → Step before now l m (Ok (Text text)) → now.ended ≡ false → refused_at 1 (manifest_or text) ≡ Ok manifest → Begun manifest before now l m
-  begun_line text manifest s going taken = by (ungiven before l) (ungiven now m) e.parts
+abbrev fault_in : {X : Type 0} → Result X InputError → InputError
+fault_in (Ok x) = input.NoLine
+fault_in (Err error) = error
+
+module _ {A : Type 0} (first_of : List ℕ → Result A InputFault) (before now : Reader) (inputs : now.max_input ≡ before.max_input) (limit : now.max_line ≡ 67108864) (l m : Option (List ℕ)) where
+  -- it is this
+  pub begun_line : (text : List ℕ) (made : A) → Step before now l m (Ok (Text text)) → now.ended ≡ false → refused_at 1 (first_of text) ≡ Ok made → Begun first_of made before now l m
+  begun_line text made s going taken = by (ungiven before l) (ungiven now m) e.parts
     where
       e : IsEnded before now l m inputs limit text
       e = ended_line before now l m inputs limit text s going
 
-      read_by : (answer : Result Manifest RequestFault) → refused_at 1 answer ≡ Ok manifest → answer ≡ Ok manifest
+      read_by : (answer : Result A InputFault) → refused_at 1 answer ≡ Ok made → answer ≡ Ok made
       read_by (Ok there) h = ap Ok (cc)
       read_by (Err error) h = absurd (cc)
 
-      by : (u v : Option (List ℕ)) → IfSome u (λ bytes. IsSomeAnd v (λ rest. bytes ≡ e.piece ++ LF ∷ rest)) → IfSome u (λ bytes. IsSomeAnd v (IsBegun manifest before now bytes))
+      by : (u v : Option (List ℕ)) → IfSome u (λ bytes. IsSomeAnd v (λ rest. bytes ≡ e.piece ++ LF ∷ rest)) → IfSome u (λ bytes. IsSomeAnd v (IsBegun first_of made before now bytes))
       by None v parts = tt
       by (Some bytes) None parts = absurd parts
       by (Some bytes) (Some rest) parts = record {
@@ -200,17 +211,23 @@ module _ (before now : Reader) (inputs : now.max_input ≡ before.max_input) (li
         line = e.whole;
         joined = parts;
         room = e.room;
-        read = subst (λ v. manifest_or v ≡ Ok manifest) e.text (read_by (manifest_or text) taken);
+        read = subst (λ v. first_of v ≡ Ok made) e.text (read_by (first_of text) taken);
       }
 
+  -- or it is not
+  pub begun_read : (text : List ℕ) (answer : Result A InputError) → Step before now l m (Ok (Text text)) → Gives is_input_memory (λ made. made) answer (refused_at 1 (first_of text))
+      → IfOk answer (λ made. now.ended ≡ false → Begun first_of made before now l m)
+  begun_read text (Ok made) s h = λ going. begun_line text made s going h
+  begun_read text (Err error) s h = tt
+
   -- the source failed before it ended
-  pub begun_failed : room_of before ≤ 2 ^ 36 → Step before now l m (Err line.ReadFault) → Unrefused (ungiven before l) m
-  begun_failed within s = by (ungiven before l) m f.parts
+  pub begun_failed : (further : Later) → room_of before ≤ 2 ^ 36 → Step before now l m (Err line.ReadFault) → Unrefused first_of further (ungiven before l) m
+  begun_failed further within s = by (ungiven before l) m f.parts
     where
       f : IsFailed before now l m inputs limit
       f = failed before now l m inputs limit s
 
-      by : (u w : Option (List ℕ)) → IfSome u (λ bytes. IsSomeAnd w (λ rest. bytes ≡ now.held ++ rest)) → IfSome u (λ bytes. IsSomeAnd w (IsUnrefused bytes))
+      by : (u w : Option (List ℕ)) → IfSome u (λ bytes. IsSomeAnd w (λ rest. bytes ≡ now.held ++ rest)) → IfSome u (λ bytes. IsSomeAnd w (IsUnrefused first_of further bytes))
       by None w parts = tt
       by (Some bytes) None parts = absurd parts
       by (Some bytes) (Some rest) parts = record {
@@ -223,13 +240,25 @@ module _ (before now : Reader) (inputs : now.max_input ≡ before.max_input) (li
         none = refl;
       }
 
+  -- so it was not refused
+  pub stopped_unrefused : {X : Type 0} (further : Later) → room_of before ≤ 2 ^ 36 → (error : LineError) (answer : Result X InputError) → IsErrAnd answer (λ e. e ≡ stop_error error)
+      → Step before now l m (Err error) → IsErrOf answer input.ReadFault → Unrefused first_of further (ungiven before l) m
+  stopped_unrefused further within error (Ok x) e s h = absurd e
+  stopped_unrefused further within error (Err given) e s h = by_error error (sym e ∙ ap fault_in h) s
+    where
+      by_error : (error : LineError) → stop_error error ≡ input.ReadFault → Step before now l m (Err error) → Unrefused first_of further (ungiven before l) m
+      by_error line.ReadFault same s = begun_failed further within s
+      by_error line.LineTooLong same s = absurd (cc)
+      by_error line.InputTooLong same s = absurd (cc)
+      by_error line.NoMemory same s = absurd (cc)
+
 -- the source failed after line 1
-pub begun_then : (manifest : Manifest) (before now : Reader) (l m k : Option (List ℕ)) → room_of before ≤ 2 ^ 36 → Begun manifest before now l m → UnrefusedAfter manifest now m k
-    → Unrefused (ungiven before l) k
-begun_then manifest before now l m k within_limit = by (ungiven before l) (ungiven now m) k
+pub begun_then : {A : Type 0} (first_of : List ℕ → Result A InputFault) (further : Later) (made : A) (before now : Reader) (l m k : Option (List ℕ)) → room_of before ≤ 2 ^ 36 → Begun first_of made before now l m → UnrefusedAfter further made now m k
+    → Unrefused first_of further (ungiven before l) k
+begun_then first_of further made before now l m k within_limit = by (ungiven before l) (ungiven now m) k
   where
-    by : (u v w : Option (List ℕ)) → IfSome u (λ bytes. IsSomeAnd v (IsBegun manifest before now bytes)) → IfSome v (λ bytes. IsSomeAnd w (IsUnrefusedAfter manifest now bytes))
-        → IfSome u (λ bytes. IsSomeAnd w (IsUnrefused bytes))
+    by : (u v w : Option (List ℕ)) → IfSome u (λ bytes. IsSomeAnd v (IsBegun first_of made before now bytes)) → IfSome v (λ bytes. IsSomeAnd w (IsUnrefusedAfter further made now bytes))
+        → IfSome u (λ bytes. IsSomeAnd w (IsUnrefused first_of further bytes))
     by None v w b r = tt
     by (Some bytes) None w b r = absurd b
     by (Some bytes) (Some rest) None b r = absurd r
@@ -255,10 +284,10 @@ begun_then manifest before now l m k within_limit = by (ungiven before l) (ungiv
             length-append b.piece (LF ∷ []),
             length-append (ended_lines r.pieces) r.begun,
           );
-          none = ap (λ answer. is_refusal (request_after answer (record_lines 2 (map text_of r.pieces)) Finished)) b.read ∙ r.none;
+          none = ap (λ answer. is_refusal (request_after further answer (record_lines 2 (map text_of r.pieces)) Finished)) b.read ∙ r.none;
         }
 
 -- a reader that took nothing holds nothing
-pub begun_new : (l m : Option (List ℕ)) → Unrefused (prepend_known [] l) m → Unrefused l m
-begun_new None m h = tt
-begun_new (Some bytes) m h = h
+pub begun_new : {A : Type 0} (first_of : List ℕ → Result A InputFault) (further : Later) (l m : Option (List ℕ)) → Unrefused first_of further (prepend_known [] l) m → Unrefused first_of further l m
+begun_new first_of further None m h = tt
+begun_new first_of further (Some bytes) m h = h

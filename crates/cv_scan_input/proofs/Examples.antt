@@ -8,7 +8,9 @@ use Rattle.cv_request.specs.Line.{json_of}
 use Rattle.cv_request.specs.Manifest.{manifest_of}
 use Rattle.cv_request.specs.declared.error.RequestFault.TheVariants.{BadJson, BadRequest, BadAdvisory, DuplicateId}
 use Rattle.cv_request.specs.declared.error.RequestWhat.TheVariants.{BadHash}
-use Rattle.cv_scan_input.specs.Request.{ScanRequest, NoLine, RefusedAt, TooLongLine, TooLongInput, Scan, RecordLine, request_after, scan_request_of, record_lines}
+use Rattle.cv_scan_input.specs.Request.{InputRequest, NoLine, RefusedAt, TooLongLine, TooLongInput, Whole, RecordLine, image_request_of, list_request_of, request_after, scan_request_of, record_lines}
+use Rattle.cv_scan_input.specs.declared.error.InputFault.TheVariants.{Request, ExtraLine}
+use Rattle.cv_scan_input.specs.declared.later.Later.TheVariants.{Records, Nothing}
 use Rattle.serde_json.specs.Data.{object, no_members}
 use Rattle.cv_scan_input.specs.declared.input.TheConstants.{MAX_INPUT, MAX_LINE}
 
@@ -24,10 +26,10 @@ none :
 none = (refl, refl, refl)
 
 -- line 1 is the manifest, whatever follows it
-first : (line : List ℕ) → json_of line ≡ None → scan_request_of (read (line ∷ line ∷ []) LongLine) ≡ RefusedAt 1 BadJson
+first : (line : List ℕ) → json_of line ≡ None → scan_request_of (read (line ∷ line ∷ []) LongLine) ≡ RefusedAt 1 (Request BadJson)
 first line h = rw h refl
 
-first_object : (line : List ℕ) → json_of line ≡ Some (object no_members) → scan_request_of (read (line ∷ line ∷ []) LongLine) ≡ RefusedAt 1 (BadRequest BadHash)
+first_object : (line : List ℕ) → json_of line ≡ Some (object no_members) → scan_request_of (read (line ∷ line ∷ []) LongLine) ≡ RefusedAt 1 (Request (BadRequest BadHash))
 unfolding manifest_of
 first_object line h = rw h refl
 
@@ -54,23 +56,39 @@ abbrev no_json : ℕ → RecordLine
 no_json number = record { number = number; found = None }
 
 -- the request of record lines after the manifest
-abbrev after_image : List RecordLine → Stop → ScanRequest
-after_image lines stop = request_after (Ok image) lines stop
+abbrev after_image : List RecordLine → Stop → InputRequest Manifest
+after_image lines stop = request_after Records (Ok image) lines stop
+
+-- and of lines where there may be none
+abbrev alone : List RecordLine → Stop → InputRequest Manifest
+alone lines stop = request_after Nothing (Ok image) lines stop
 
 -- the first refused record line is the answer, with its number and the index of its record
 refused :
-    (after_image (good 3 (codes "a") ∷ good 6 (codes "b") ∷ []) Finished ≡ Scan image (bare (codes "a") ∷ bare (codes "b") ∷ []))
-    × (after_image (good 3 (codes "a") ∷ no_json 5 ∷ malformed 6 ∷ []) Finished ≡ RefusedAt 5 BadJson)
-    × (after_image (good 2 (codes "a") ∷ malformed 4 ∷ good 5 (codes "a") ∷ []) LongLine ≡ RefusedAt 4 (BadAdvisory 1 NoId))
-    × (after_image (good 2 (codes "b") ∷ good 3 (codes "a") ∷ good 5 (codes "a") ∷ no_json 6 ∷ []) LongInput ≡ RefusedAt 5 (DuplicateId 1 2))
+    (after_image (good 3 (codes "a") ∷ good 6 (codes "b") ∷ []) Finished ≡ Whole image (bare (codes "a") ∷ bare (codes "b") ∷ []))
+    × (after_image (good 3 (codes "a") ∷ no_json 5 ∷ malformed 6 ∷ []) Finished ≡ RefusedAt 5 (Request BadJson))
+    × (after_image (good 2 (codes "a") ∷ malformed 4 ∷ good 5 (codes "a") ∷ []) LongLine ≡ RefusedAt 4 (Request (BadAdvisory 1 NoId)))
+    × (after_image (good 2 (codes "b") ∷ good 3 (codes "a") ∷ good 5 (codes "a") ∷ no_json 6 ∷ []) LongInput ≡ RefusedAt 5 (Request (DuplicateId 1 2)))
 refused = (refl, refl, refl, refl)
 
 -- if no line is refused, how the reading stopped is the answer
 stops :
     (after_image (good 2 (codes "a") ∷ []) LongLine ≡ TooLongLine)
     × (after_image (good 2 (codes "a") ∷ []) LongInput ≡ TooLongInput)
-    × (after_image [] Finished ≡ Scan image [])
+    × (after_image [] Finished ≡ Whole image [])
 stops = (refl, refl, refl)
+
+-- where no record may stand, the first line that is not empty is refused, whatever it is
+extra :
+    (alone [] Finished ≡ Whole image [])
+    × (alone (good 4 (codes "a") ∷ no_json 5 ∷ []) LongLine ≡ RefusedAt 4 ExtraLine)
+    × (alone (no_json 2 ∷ []) Finished ≡ RefusedAt 2 ExtraLine)
+    × (alone [] LongLine ≡ TooLongLine)
+extra = (refl, refl, refl, refl)
+
+-- an input without a line, of each kind
+no_lines : (image_request_of (read [] Finished) ≡ NoLine) × (list_request_of (read [] Finished) ≡ NoLine)
+no_lines = (refl, refl)
 
 -- the limits of a line and of the input
 limits : (MAX_LINE ≡ 67108864) × (MAX_INPUT ≡ 68719476736)

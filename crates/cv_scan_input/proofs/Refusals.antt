@@ -1,5 +1,6 @@
 -- The refusals of the calls below, as those of a line.
 use Rattle.std.specs.Prelude.{◌≡◌, ℕ, ⊤, MatchBool, IfSome, List, Option, None, Some, Result, Ok, Err}
+use Rattle.std.specs.Option.{option_map}
 use Rattle.std.proofs.Common.{ap}
 use Rattle.cv_base.specs.Results.{◌>>=◌}
 use Rattle.cv_base.specs.declared.advisory.Advisory.{Advisory}
@@ -15,13 +16,15 @@ use Rattle.cv_request.specs.Fault.{fault_of, listing}
 use Rattle.cv_request.specs.code.Records.{requested}
 use Rattle.cv_request.specs.declared.error.RequestFault.{RequestFault}
 use Rattle.cv_scan_input.specs.code.Memory.{is_input_memory}
+use Rattle.cv_scan_input.specs.Request.{faulting}
 use Rattle.cv_scan_input.specs.code.Remaining.{found_after, record_after, refusal_at, refused_at, text_after}
+use Rattle.cv_scan_input.specs.declared.error.InputFault.{InputFault}
 
--- the fault of a request is that of its line
-pub refusal_gives : {A : Type 0} (number : ℕ) (wanted : Result A RequestFault) (fault : Option RequestFault) → IfSome fault (λ f. wanted ≡ Err f)
-    → MatchBool (is_input_memory (refusal_at number fault)) ⊤ (refused_at number wanted ≡ Err (refusal_at number fault))
-refusal_gives number wanted None h = tt
-refusal_gives number wanted (Some f) h = ap (refused_at number) h
+-- the fault of a call is that of its line
+pub refusal_gives : {A F : Type 0} (number : ℕ) (kind : F → InputFault) (wanted : Result A F) (fault : Option F) → IfSome fault (λ f. wanted ≡ Err f)
+    → MatchBool (is_input_memory (refusal_at number (option_map kind fault))) ⊤ (refused_at number (faulting kind wanted) ≡ Err (refusal_at number (option_map kind fault)))
+refusal_gives number kind wanted None h = tt
+refusal_gives number kind wanted (Some f) h = ap (λ answer. refused_at number (faulting kind answer)) h
 
 -- the fault of a list of records is that of a request
 pub list_yields : {A : Type 0} (wanted : Result A ListFault) (e : OsvError) → IfSome (list.fault_of e) (λ f. wanted ≡ Err f)

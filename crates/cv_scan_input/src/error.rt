@@ -5,16 +5,28 @@ ghost use Rattle.cv_scan_input.specs.declared.error.InputError.TheVariants as in
 use cv_base::NoMemory;
 use cv_io::LineError;
 use cv_request::RequestFault;
+use cv_sbom::ListFault;
 use thiserror::Error;
 
-/// Why the input of a scan requests nothing.
+/// Why a line of an input is refused.
+#[derive(Clone, Copy, Debug, PartialEq, Eq)]
+pub enum InputFault {
+    /// As a manifest, or as a record.
+    Request(RequestFault),
+    /// As a list of components.
+    Components(ListFault),
+    /// A line stands where there may be none.
+    ExtraLine,
+}
+
+/// Why an input requests nothing.
 #[derive(Clone, Copy, Debug, PartialEq, Eq, Error)]
 pub enum InputError {
     #[error("the input has no line")]
-    NoManifest,
+    NoLine,
     /// Lines are numbered from 1, empty ones included.
     #[error("line {line} is refused")]
-    Refused { line: u64, fault: RequestFault },
+    Refused { line: u64, fault: InputFault },
     #[error("the input could not be read")]
     ReadFault,
     #[error("a line is too long")]

@@ -1,5 +1,5 @@
-//! Reads the whole input of a scan: line 1 is the manifest of an image, and each further line that is not empty is one
-//! record of the OSV schema.
+//! Reads the whole input of a command: line 1 is the manifest of an image or a list of components, and each further line that is
+//! not empty is one record of the OSV schema, if there may be records.
 //!
 //! ```text
 //! {"hash":"sha256:11..","layers":[{"hash":"sha256:aa.."}]}
@@ -10,7 +10,11 @@
 
 mod error;
 mod input;
+mod kind;
+mod later;
 mod line;
 
-pub use error::InputError;
-pub use input::{MAX_INPUT, MAX_LINE, ScanInput, read_scan_input};
+pub use error::{InputError, InputFault};
+pub use input::{InputLines, MAX_INPUT, MAX_LINE, read_input};
+pub use kind::{ImageKind, InputKind, ListKind, ScanKind};
+pub use later::Later;

@@ -70,6 +70,14 @@ Tells which container images hold packages with known vulnerabilities.
       The layers are folders below ./layers.
       Example: cd examples/first-scan && cvwatch scan <input.jsonl
 
+  cvwatch sbom
+      Prints the packages of one image as a list of components, in a profile of CycloneDX. Standard input is the manifest.
+      Example: cd examples/first-scan && head -n 1 input.jsonl | cvwatch sbom
+
+  cvwatch scan-list
+      Scans such a list, without any layer. Line 1 of standard input is the list, and each further line an OSV record.
+      Example: cvwatch scan-list <list-and-records.jsonl
+
   cvwatch serve [--workers N]
       Serves requests, one JSON object a line; an empty line ends a round. N is from 1 to 8; without it, 4.
       Example: cd examples/service && cvwatch serve --workers 2 <input.jsonl

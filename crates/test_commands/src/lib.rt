@@ -1,5 +1,5 @@
-//! Runs of the program and of its commands over layers made in memory, for their tests: `scan`, `order`, and the whole program with
-//! its arguments, over one desk or two, or over layers of hostile sizes.
+//! Runs of the program and of its commands over layers made in memory, for their tests: `scan`, `sbom`, `scan-list`, `order`, and the
+//! whole program with its arguments, over one desk or two, or over layers of hostile sizes.
 //!
 //! ```text
 //! let is_right = scans_to(alloc, input, &CALM, (Status::Done, ".."))?;
@@ -16,7 +16,7 @@ mod scan;
 mod streams;
 mod texts;
 
-pub use commands::{orders_to, scans_to};
+pub use commands::{list_scans_to, orders_to, sboms_to, scans_to};
 pub use compare::{after_one_of, is_ended};
 pub use cv_base::NoMemory;
 pub use cv_command::Status;

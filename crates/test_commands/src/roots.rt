@@ -1,11 +1,12 @@
 use crate::compare::after_one_of;
 use crate::layers::Layers;
 use crate::streams::{CALM, source_of};
-use cv_base::{Digest, NoMemory, Text, Tree};
+use cv_base::{Digest, Manifest, NoMemory, Text, Tree};
 use cv_desk::{TableDesk, load};
+use cv_io::MemSource;
 use cv_overlay::Root;
 use cv_scan::scan_root;
-use cv_scan_input::{ScanInput, read_scan_input};
+use cv_scan_input::{InputLines, ScanKind, read_input};
 use cv_scan_output::good_line;
 use std::alloc::Global;
 
@@ -13,26 +14,31 @@ use std::alloc::Global;
 /// the text names in brackets stand for texts.
 pub fn root_scans_to(alloc: Global, input: &str, text: &str) -> Result<bool, NoMemory> {
     let mut source = source_of(alloc, input, &CALM)?;
-    match read_scan_input(alloc, &mut source) {
+    match read_input::<MemSource, ScanKind>(alloc, &mut source) {
         Ok(request) => has_line(alloc, &request, text),
         Err(_) => Ok(false),
     }
 }
 
-fn has_line(alloc: Global, request: &ScanInput, text: &str) -> Result<bool, NoMemory> {
-    let Some(root) = root_of(alloc, request.manifest.layers.as_slice())? else {
+fn has_line(alloc: Global, request: &InputLines<Manifest>, text: &str) -> Result<bool, NoMemory> {
+    let Some(root) = root_of(alloc, request.first.layers.as_slice())? else {
         return Ok(false);
     };
     is_found(alloc, request, &root, text)
 }
 
 /// Whether the line of what is found in a root is this text.
-fn is_found(alloc: Global, request: &ScanInput, root: &Root, text: &str) -> Result<bool, NoMemory> {
+fn is_found(
+    alloc: Global,
+    request: &InputLines<Manifest>,
+    root: &Root,
+    text: &str,
+) -> Result<bool, NoMemory> {
     let feed = Text::of(alloc, "scan")?;
     let Ok(found) = scan_root(alloc, root, request.records.as_slice(), &feed) else {
         return Ok(false);
     };
-    let line = good_line(alloc, &request.manifest.hash, found.as_slice())?;
+    let line = good_line(alloc, &request.first.hash, found.as_slice())?;
     let rest = after_one_of(alloc, line.as_bytes(), &[text])?;
     Ok(matches!(rest, Some([])))
 }

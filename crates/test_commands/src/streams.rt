@@ -5,7 +5,7 @@ use cv_io::{MemSink, MemSource};
 use std::alloc::Global;
 
 /// The line for arguments that are not a command.
-pub const USAGE: &str = "usage: cvwatch serve|scan|order|drill\n";
+pub const USAGE: &str = "usage: cvwatch serve|scan|order|drill|sbom|scan-list\n";
 
 /// How the streams and the desk behave: how many bytes are written at once, at most, and which calls fail, numbered from 1.
 #[derive(Clone, Copy)]

@@ -2,7 +2,7 @@ use cv_base::NoMemory;
 use std::alloc::Global;
 
 /// Texts that stand in the tests for their names.
-static TEXTS: [(&str, &str); 15] = [
+static TEXTS: [(&str, &str); 17] = [
     // Debian's source package openssl, fixed in 3.0.11-1
     (
         "openssl",
@@ -68,6 +68,15 @@ static TEXTS: [(&str, &str); 15] = [
     (
         "a-seal",
         "sha256:85c0b0b0ff65138a0a2fb3ae8e880e0fbab75178f296cf0cdfdc3d45c3b10b8e",
+    ),
+    // the component of libssl3 in a list, and the list of the image that has it alone
+    (
+        "libssl3-component",
+        r#"{"name":"libssl3","properties":[{"name":"cvwatch:arch","value":"amd64"},{"name":"cvwatch:ecosystem","value":"Debian:12"},{"name":"cvwatch:kind","value":"deb"},{"name":"cvwatch:path","value":"var/lib/dpkg/status"},{"name":"cvwatch:source","value":"openssl"},{"name":"cvwatch:source_version","value":"3.0.9-1"}],"type":"library","version":"3.0.9-1+b1"}"#,
+    ),
+    (
+        "libssl3-list",
+        r#"{"bomFormat":"CycloneDX","components":[{"name":"libssl3","properties":[{"name":"cvwatch:arch","value":"amd64"},{"name":"cvwatch:ecosystem","value":"Debian:12"},{"name":"cvwatch:kind","value":"deb"},{"name":"cvwatch:path","value":"var/lib/dpkg/status"},{"name":"cvwatch:source","value":"openssl"},{"name":"cvwatch:source_version","value":"3.0.9-1"}],"type":"library","version":"3.0.9-1+b1"}],"metadata":{"component":{"name":"sha256:1111111111111111111111111111111111111111111111111111111111111111","type":"container"}},"specVersion":"1.5","version":1}"#,
     ),
     // a finding of openssl by a scan
     (

@@ -1,22 +1,20 @@
--- What the parts of the command `scan` print.
-use Rattle.std.specs.Prelude.{◌≡◌, ℕ, ◌+◌, ◌≤◌, List, [], length, string_bytes, Option, Some, None, IsSomeAnd, ◌⊎◌}
+-- What the parts of the commands print.
+use Rattle.std.specs.Prelude.{◌≡◌, ℕ, List, [], string_bytes, Option, Some, None, IsSomeAnd, ◌⊎◌}
 use Rattle.cv_base.specs.declared.advisory.Advisory.{Advisory}
-use Rattle.cv_base.specs.declared.manifest.Manifest.{Manifest}
 use Rattle.std.specs.Io.KnownBytes.{Appends}
-use Rattle.cv_scan.specs.Layers.{distinct}
 use Rattle.cv_scan.specs.declared.layer_error.ImageError.{ImageError}
 use Rattle.cv_scan.specs.declared.layer_error.ImageError.TheVariants as error
 use Rattle.cv_io.specs.declared.write.WriteError.{WriteError}
 use Rattle.cv_io.specs.declared.write.WriteError.TheVariants as write
-use Rattle.cv_request.specs.Fault.{error_of}
+use Rattle.cv_list_output.specs.Fault.{fault_text}
+use Rattle.cv_sbom.specs.declared.list.ComponentList.{ComponentList}
 use Rattle.cv_scan_input.specs.declared.error.InputError.{InputError}
 use Rattle.cv_scan_input.specs.declared.error.InputError.TheVariants as input
 use Rattle.cv_scan_output.specs.Bad.{bad_image_text}
-use Rattle.cv_scan_output.specs.Refusal.{no_manifest_text, refusal_text}
 use Rattle.cv_scan_output.specs.Scan.{desk_fault_text}
-use Rattle.cv_command.specs.Outcome.{SaysOutcome}
+use Rattle.cv_command.specs.List.{list_printed}
 use Rattle.cv_command.specs.Printed.{IsPrinted, Printed}
-use Rattle.cv_command.specs.World.{Counts, Trees}
+use Rattle.cv_command.specs.World.{Counts}
 use Rattle.cv_command.specs.declared.scanning.Answer.{Answer}
 use Rattle.cv_command.specs.declared.scanning.Reason.{Reason}
 use Rattle.cv_command.specs.declared.scanning.Reason.TheVariants as reason
@@ -55,26 +53,26 @@ EndsWithoutLine end before now ended = (ended ≡ end) × Appends before now []
 abbrev pub IsWithoutLine : Option (List ℕ) → Option (List ℕ) → Status → Type 0
 IsWithoutLine before now ended = EndsWithoutLine status.NoMemory before now ended
 
--- the line of an image's outcome was printed
-abbrev pub PrintsOutcome : Trees → Manifest → List Advisory → Counts → Counts → Option (List ℕ) → Option (List ℕ) → Status → Type 0
-PrintsOutcome trees manifest records counts counts_now before now ended =
-    (printed : Printed) × SaysOutcome trees manifest records counts counts_now printed × IsPrinted printed before now ended
+-- the line of a whole input was printed, or the command ran out of memory
+module _ {A : Type 0} (Says : A → List Advisory → Counts → Counts → Printed → Type 0) (Lists : A → Counts → Counts → Type 0) where
+  abbrev pub OutcomePrinted : A → List Advisory → Counts → Counts → Option (List ℕ) → Option (List ℕ) → Status → Type 0
+  OutcomePrinted first records counts counts_now before now ended =
+      (IsWithoutLine before now ended × Lists first counts counts_now)
+      ⊎ ((printed : Printed) × Says first records counts counts_now printed × IsPrinted printed before now ended)
 
--- a line was printed, or the command ran out of memory, and there were no more listings than distinct layers
-abbrev pub OutcomePrinted : Trees → Manifest → List Advisory → Counts → Counts → Option (List ℕ) → Option (List ℕ) → Status → Type 0
-OutcomePrinted trees manifest records counts counts_now before now ended =
-    (IsWithoutLine before now ended × (counts_now.listings ≤ counts.listings + length (distinct manifest.layers)))
-    ⊎ PrintsOutcome trees manifest records counts counts_now before now ended
+-- the line of a list of components was printed, or the command ran out of memory
+abbrev pub ListPrinted : ComponentList → List Advisory → Option (List ℕ) → Option (List ℕ) → Status → Type 0
+ListPrinted list records before now ended = IsWithoutLine before now ended ⊎ IsPrinted (list_printed list records) before now ended
 
 -- the line of a refusal was printed, or the command ran out of memory
 abbrev pub RefusalPrinted : List ℕ → Option (List ℕ) → Option (List ℕ) → Status → Type 0
 RefusalPrinted line before now ended = IsWithoutLine before now ended ⊎ IsPrinted (record { text = line; ended = status.Refused }) before now ended
 
--- an input without a request: a line says why, or the status does
-abbrev pub ErrorPrinted : InputError → Option (List ℕ) → Option (List ℕ) → Status → Type 0
-ErrorPrinted input.NoManifest before now ended = RefusalPrinted no_manifest_text before now ended
-ErrorPrinted (input.Refused line fault) before now ended = RefusalPrinted (refusal_text line (error_of fault)) before now ended
-ErrorPrinted input.ReadFault before now ended = EndsWithoutLine status.ReadFault before now ended
-ErrorPrinted input.LineTooLong before now ended = EndsWithoutLine status.LineTooLong before now ended
-ErrorPrinted input.InputTooLong before now ended = EndsWithoutLine status.InputTooLong before now ended
-ErrorPrinted input.NoMemory before now ended = EndsWithoutLine status.NoMemory before now ended
+-- an input without a request: a line says why, the first one if the input has no line, or the status does
+abbrev pub ErrorPrinted : List ℕ → InputError → Option (List ℕ) → Option (List ℕ) → Status → Type 0
+ErrorPrinted none input.NoLine before now ended = RefusalPrinted none before now ended
+ErrorPrinted none (input.Refused line fault) before now ended = RefusalPrinted (fault_text line fault) before now ended
+ErrorPrinted none input.ReadFault before now ended = EndsWithoutLine status.ReadFault before now ended
+ErrorPrinted none input.LineTooLong before now ended = EndsWithoutLine status.LineTooLong before now ended
+ErrorPrinted none input.InputTooLong before now ended = EndsWithoutLine status.InputTooLong before now ended
+ErrorPrinted none input.NoMemory before now ended = EndsWithoutLine status.NoMemory before now ended

@@ -1,4 +1,4 @@
-use cv_command_arguments::{Packages, seed_of, takes_scan, versions_of, workers_of};
+use cv_command_arguments::{Packages, seed_of, takes_none, versions_of, workers_of};
 use std::alloc::Global;
 use std::test::Fail;
 
@@ -17,8 +17,10 @@ fn arguments_are_taken_or_not(rt: HostRuntime) -> Result<(), Fail> {
     let two = arguments_of(alloc, &["--workers=2"])?;
     let help = arguments_of(alloc, &["--help"])?;
     let seed = arguments_of(alloc, &["7"])?;
-    assert!(rt; takes_scan(alloc, none.as_slice())?);
-    assert!(rt; !takes_scan(alloc, help.as_slice())?);
+    for name in ["scan", "sbom", "scan-list"] {
+        assert!(rt; takes_none(alloc, name, none.as_slice())?, "of {name}");
+        assert!(rt; !takes_none(alloc, name, help.as_slice())?, "of {name}");
+    }
     assert_eq!(rt; workers_of(alloc, none.as_slice())?, Some(None));
     assert_eq!(rt; workers_of(alloc, two.as_slice())?, Some(Some(2)));
     assert_eq!(rt; workers_of(alloc, help.as_slice())?, None);

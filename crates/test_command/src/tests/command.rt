@@ -1,11 +1,13 @@
 mod failures;
+mod lists;
 mod scans;
 mod versions;
 
 use std::alloc::Global;
 use std::process::Abort;
 use test_commands::{
-    CALM, NoMemory, Status, USAGE, orders_to, root_scans_to, scan_input, scans_to,
+    CALM, NoMemory, Status, USAGE, list_scans_to, orders_to, root_scans_to, sboms_to, scan_input,
+    scans_to,
 };
 
 /// Scans an image of these layers, and compares how the scan ends and what it prints.
@@ -65,6 +67,34 @@ fn a_stated_seal_is_compared(rt: HostRuntime) -> Result<(), NoMemory> {
     for (input, status, output) in &scans::SEALED {
         let is_same = scans_to(rt.alloc(), input, &CALM, (*status, *output))?;
         assert!(rt; is_same, "{input}");
+    }
+    Ok(())
+}
+
+#[test]
+fn the_packages_of_an_image_are_listed(rt: HostRuntime) -> Result<(), NoMemory> {
+    for (input, status, output) in &lists::SBOMS {
+        let is_same = sboms_to(rt.alloc(), input, &CALM, (*status, *output))?;
+        assert!(rt; is_same, "{input}");
+    }
+    for case in &lists::SBOM_FAILURES {
+        let want = (case.status, case.output);
+        let is_same = sboms_to(rt.alloc(), case.input, &case.outside, want)?;
+        assert!(rt; is_same, "{}", case.input);
+    }
+    Ok(())
+}
+
+#[test]
+fn a_list_of_components_is_scanned(rt: HostRuntime) -> Result<(), NoMemory> {
+    for (input, status, output) in &lists::LISTS {
+        let is_same = list_scans_to(rt.alloc(), input, &CALM, (*status, *output))?;
+        assert!(rt; is_same, "{input}");
+    }
+    for case in &lists::LIST_FAILURES {
+        let want = (case.status, case.output);
+        let is_same = list_scans_to(rt.alloc(), case.input, &case.outside, want)?;
+        assert!(rt; is_same, "{}", case.input);
     }
     Ok(())
 }

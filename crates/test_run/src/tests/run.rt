@@ -44,6 +44,21 @@ fn a_scan_finds_a_python_package(rt: HostRuntime) -> Result<(), NoMemory> {
 }
 
 #[test]
+fn a_list_of_packages_is_scanned_like_the_image(rt: HostRuntime) -> Result<(), NoMemory> {
+    let image = scan_input(rt.alloc(), "a", "")?;
+    let want = (Status::Done, "<libssl3-list>\n");
+    let is_same = runs_to(&rt, rt.alloc(), &["sbom"], image.as_str(), &CALM, want)?;
+    assert!(rt; is_same);
+    let output = r#"{"findings":[<openssl-found>],"image":"<1>","reply":"good","skipped":0}
+"#;
+    let want = (Status::Done, output);
+    let list = "<libssl3-list>\n<X-1>";
+    let is_same = runs_to(&rt, rt.alloc(), &["scan-list"], list, &CALM, want)?;
+    assert!(rt; is_same);
+    Ok(())
+}
+
+#[test]
 fn versions_compare(rt: HostRuntime) -> Result<(), NoMemory> {
     for arguments in [
         &["order", "deb", "1.0~rc1", "1.0"],

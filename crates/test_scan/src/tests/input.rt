@@ -2,7 +2,7 @@ use cv_base::Seq;
 use cv_io::{CalmSource, MemSource};
 use cv_osv::RecordWhat;
 use cv_request::{RequestFault, RequestWhat};
-use cv_scan_input::{InputError, read_scan_input};
+use cv_scan_input::{ImageKind, InputError, InputFault, ScanKind, read_input};
 use std::alloc::Global;
 use std::test::Fail;
 
@@ -26,7 +26,7 @@ fn input_of(alloc: Global, lines: &[&str]) -> Result<Seq<u8>, Fail> {
 /// Why an input is refused, if it is.
 fn refusal_of(alloc: Global, lines: &[&str]) -> Result<Option<InputError>, Fail> {
     let mut input = CalmSource::new(input_of(alloc, lines)?, 7);
-    match read_scan_input(alloc, &mut input) {
+    match read_input::<CalmSource, ScanKind>(alloc, &mut input) {
         Ok(_) => Ok(None),
         Err(InputError::NoMemory) => Err(Fail::from(InputError::NoMemory)),
         Err(error) => Ok(Some(error)),
@@ -38,8 +38,8 @@ fn empty_lines_are_ignored(rt: HostRuntime) -> Result<(), Fail> {
     let alloc = rt.alloc();
     let bytes = input_of(alloc, &[MANIFEST, "", FIRST, "\r", "", SECOND])?;
     let mut input = CalmSource::new(bytes, 7);
-    let request = read_scan_input(alloc, &mut input)?;
-    assert_eq!(rt; request.manifest.layers.as_slice().len(), 1);
+    let request = read_input::<CalmSource, ScanKind>(alloc, &mut input)?;
+    assert_eq!(rt; request.first.layers.as_slice().len(), 1);
     let [first, second] = request.records.as_slice() else {
         return Err(Fail::from("there are two records"));
     };
@@ -47,7 +47,7 @@ fn empty_lines_are_ignored(rt: HostRuntime) -> Result<(), Fail> {
     assert_eq!(rt; second.id.as_str(), "X-2");
     assert!(rt; second.withdrawn && !first.withdrawn);
     shared(request);
-    shared(InputError::NoManifest);
+    shared(InputError::NoLine);
     Ok(())
 }
 
@@ -78,13 +78,33 @@ fn the_first_refused_line_is_the_answer(rt: HostRuntime) -> Result<(), Fail> {
         (&[MANIFEST, SECOND, FIRST, "", FIRST, "X"], 5, same_id),
     ];
     for (lines, line, fault) in table {
+        let fault = InputFault::Request(fault);
         assert_eq!(rt;
             refusal_of(rt.alloc(), lines)?,
             Some(InputError::Refused { line, fault })
         );
     }
-    assert_eq!(rt; refusal_of(rt.alloc(), &[])?, Some(InputError::NoManifest));
+    assert_eq!(rt; refusal_of(rt.alloc(), &[])?, Some(InputError::NoLine));
     assert_eq!(rt; refusal_of(rt.alloc(), &[MANIFEST])?, None);
+    Ok(())
+}
+
+#[test]
+fn an_image_alone_has_no_records(rt: HostRuntime) -> Result<(), Fail> {
+    let alloc = rt.alloc();
+    let bytes = input_of(alloc, &[MANIFEST, "", "\r", ""])?;
+    let mut input = CalmSource::new(bytes, 7);
+    let request = read_input::<CalmSource, ImageKind>(alloc, &mut input)?;
+    assert_eq!(rt; request.first.layers.as_slice().len(), 1);
+    let bytes = input_of(alloc, &[MANIFEST, "", FIRST, "X"])?;
+    let mut input = CalmSource::new(bytes, 7);
+    let fault = InputFault::ExtraLine;
+    assert!(rt;
+        matches!(
+            read_input::<CalmSource, ImageKind>(alloc, &mut input),
+            Err(error) if error == InputError::Refused { line: 3, fault }
+        )
+    );
     Ok(())
 }
 
@@ -96,7 +116,7 @@ fn a_failing_source_is_blamed(rt: HostRuntime) -> Result<(), Fail> {
         let mut input = MemSource::new(input_of(alloc, &[MANIFEST, FIRST])?, 100, fails);
         assert!(rt;
             matches!(
-                read_scan_input(alloc, &mut input),
+                read_input::<MemSource, ScanKind>(alloc, &mut input),
                 Err(InputError::ReadFault)
             ),
             "call {call} fails"

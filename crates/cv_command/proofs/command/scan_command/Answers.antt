@@ -1,17 +1,29 @@
 use Rattle.std.proofs.Common.{refl}
-use Rattle.cv_scan_input.specs.declared.input.ScanInput.{ScanInput}
-use Rattle.cv_command.proofs.Ends.{error_ends, read_rose, scan_ends}
+use Rattle.cv_base.specs.declared.manifest.Manifest.{Manifest}
+use Rattle.cv_scan_input.specs.Request.{manifest_or}
+use Rattle.cv_scan_input.specs.declared.input.InputLines.{InputLines}
+use Rattle.cv_scan_input.specs.declared.later.Later.TheVariants.{Records}
+use Rattle.cv_scan_output.specs.Refusal.{no_manifest_text}
+use Rattle.cv_scan_output.specs.Scan.{good_text}
+use Rattle.cv_scan.specs.Scan.{scan}
+use Rattle.cv_command.specs.Outcome.{ListsAtMost, SaysOutcome, feeds_of}
+use Rattle.cv_command.proofs.Ends.{error_ends, read_rose, whole_ends}
+use Rattle.cv_command.proofs.OutcomeLemmas.{image_end}
 use Rattle.cv_command.proofs.command.scan_command.Goals as goal
 
 pub returns-in-Ok-clause-outcome : goal.returns-in-Ok-clause-outcome
 returns-in-Ok-clause-outcome g c =
-    scan_ends g.D.Desk.tree _ _ c.in-Ok.request.manifest c.in-Ok.request.records c.print_scan.result c.in-Ok.ensures.request c.in-Ok.ensures.ended c.print_scan.ensures.printed
+    let manifest = c.in-Ok.request.first in
+    let records = c.in-Ok.request.records in
+    whole_ends manifest_or Records no_manifest_text (SaysOutcome g.D.Desk.tree) ListsAtMost _ _ manifest records c.print_scan.result
+    (image_end g.D.Desk.tree manifest (λ stored. scan stored manifest.seals (feeds_of records)) (good_text manifest.hash) _ _)
+    c.in-Ok.ensures.request c.in-Ok.ensures.ended c.print_scan.ensures.printed
 
 pub returns-in-Err-clause-outcome : goal.returns-in-Err-clause-outcome
 returns-in-Err-clause-outcome g c =
-    error_ends g.D.Desk.tree _ _ c.in-Err.error c.print_error.result c.in-Err.ensures.request c.in-Err.ensures.limit c.in-Err.ensures.taken
-    c.in-Err.ensures.unrefused c.in-Err.ensures.empty refl c.print_error.ensures.printed
+    error_ends manifest_or Records no_manifest_text (SaysOutcome g.D.Desk.tree) ListsAtMost _ _ c.in-Err.error c.print_error.result
+    c.in-Err.ensures.request c.in-Err.ensures.limit c.in-Err.ensures.taken c.in-Err.ensures.unrefused c.in-Err.ensures.empty refl c.print_error.ensures.printed
 
 pub returns-in-Err-clause-read_fault : goal.returns-in-Err-clause-read_fault
 returns-in-Err-clause-read_fault g c =
-    read_rose ScanInput c.in-Err.error _ _ c.print_error.result _ _ c.print_error.ensures.printed c.in-Err.ensures.cause
+    read_rose (InputLines Manifest) _ c.in-Err.error _ _ c.print_error.result _ _ c.print_error.ensures.printed c.in-Err.ensures.cause

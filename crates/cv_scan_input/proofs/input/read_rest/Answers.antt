@@ -14,9 +14,9 @@ returns-in_err-records-clause-request g c =
     let now = reading c.next.new.self (remaining c.next.new.input) in
     let read = subst (λ line. Reads before now (Ok line)) c.in-Text.is c.in_ok-text.ensures.reads in
     let error = c.in_err-records.field-0.0 in
-    progress_handed c.args.manifest whole error _
-    (progress_refused c.args.manifest whole before now c.loop-records.records _ c.in-Text.text error c.loop-records.invariant.request read
-    (rw (← c.as_slice.ensures) c.in_err-records.ensures))
+    progress_handed g.I.InputKind.further c.args.first whole error _
+    (progress_refused g.I.InputKind.further c.args.first whole before now c.loop-records.records _ c.in-Text.text error c.loop-records.invariant.request read
+    (rw (← c.as_slice.ensures, ← c.later.ensures) c.in_err-records.ensures))
     c.from_residual-in_err-records.ensures.1
 
 pub returns-in_err-text-clause-limit : goal.returns-in_err-text-clause-limit

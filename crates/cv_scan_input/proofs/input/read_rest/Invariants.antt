@@ -10,9 +10,9 @@ use Rattle.cv_scan_input.proofs.input.read_rest.Given as goal
 abbrev pub invariant-loop-records : goal.invariant-loop-records
 invariant-loop-records g l = record {
   not_spent : l.reader.spent ≡ false;
-  request : Progress l.fn.manifest (reading l.fn.reader (g.S.Source.remaining l.fn.input)) (reading l.reader (g.S.Source.remaining l.input)) l.records (l.number + 1);
+  request : Progress g.I.InputKind.further l.fn.first (reading l.fn.reader (g.S.Source.remaining l.fn.input)) (reading l.reader (g.S.Source.remaining l.input)) l.records (l.number + 1);
   before : l.reader.ended ≡ false → l.fn.reader.ended ≡ false;
-  accepted : l.reader.ended ≡ false → Accepted l.fn.manifest l.fn.reader l.reader l.records (l.number + 1) (g.S.Source.remaining l.fn.input) (g.S.Source.remaining l.input);
+  accepted : l.reader.ended ≡ false → Accepted g.I.InputKind.further l.fn.first l.fn.reader l.reader l.records (l.number + 1) (g.S.Source.remaining l.fn.input) (g.S.Source.remaining l.input);
   limit : l.reader.max_line ≡ 67108864;
   inputs : l.reader.max_input ≡ 2 ^ 36;
   taken : IsTakenTo l.fn.reader.taken l.reader.taken (g.S.Source.remaining l.fn.input) (g.S.Source.remaining l.input);

@@ -1,9 +1,13 @@
 /// Arguments that are not a command.
-pub static USAGES: [&[&str]; 13] = [
+pub static USAGES: [&[&str]; 17] = [
     &["order", "rpm", "1", "2"],
     &[],
     &["scan", "walk"],
     &["walk"],
+    &["sbom", "walk"],
+    &["sbom", "--help"],
+    &["scan-list", "list.json"],
+    &["scan", "list"],
     &["serve", "--workers", "0"],
     &["serve", "--workers", "9"],
     &["serve", "--workers"],
