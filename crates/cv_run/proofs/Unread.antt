@@ -1,11 +1,13 @@
 -- How a run ends that ran out of memory before its command began.
 use Rattle.std.proofs.Common.{◌≡◌, ℕ, ◌≤◌, ◌^◌, List, [], ◌∷◌, length, refl, sym, inl, arith}
-use Rattle.std.specs.Prelude.{Option, Some, None}
+use Rattle.std.specs.Prelude.{Option, Some, None, take}
 use Rattle.std.specs.Io.KnownBytes.{Appends}
 use Rattle.std.proofs.lemmas.List.{append-nil}
 use Rattle.cv_io.specs.Writes.{AppendsPrefix}
 use Rattle.cv_scan_input.proofs.Taken.{none_taken}
 use Rattle.cv_command.specs.Commands.{SbomEnds, ScanEnds}
+use Rattle.cv_core_machine.specs.Scans.{StatesEveryLayer, trees_of}
+use Rattle.cv_serve.proofs.Ending.{wrote_nothing}
 use Rattle.cv_run.specs.Run.{FirstEnds, RunsAs}
 use Rattle.cv_run.specs.Service.{ServiceEnds, worker_count}
 use Rattle.cv_command.specs.World.{Counts, RunWorld, Trees, counts_of}
@@ -32,7 +34,13 @@ module _ {S D : Type 0} (trees : Trees) (remaining : S → Option (List ℕ)) (l
 
   service_ends : (workers : Option ℕ) → ServiceEnds trees remaining listings faults workers world world status.NoMemory
   service_ends None = (nothing_written world.written _, refl, refl)
-  service_ends (Some workers) = (none_taken (2 ^ 36) (remaining world.input), (refl, refl))
+  service_ends (Some workers) = (
+    none_taken (2 ^ 36) (remaining world.input),
+    (
+      (refl, refl),
+      wrote_nothing (StatesEveryLayer trees) (trees_of trees) workers listings faults (remaining world.input) (remaining world.input) world.written (take workers world.desks),
+    ),
+  )
 
   -- nothing was read, written or listed
   pub unread_ends : (command : Command) (arguments : List (List ℕ)) → 1 ≤ length world.desks → RunsAs command trees remaining listings faults arguments world world status.NoMemory

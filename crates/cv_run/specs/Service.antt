@@ -6,7 +6,7 @@ use Rattle.cv_io.specs.Lines.{Stop, Finished, LongLine, LongInput}
 use Rattle.cv_core_machine.specs.Scans.{StatesEveryLayer, trees_of}
 use Rattle.cv_scan_input.specs.Request.{input_of}
 use Rattle.cv_scan_input.specs.Taken.{IsTaken, IsTakenWithin}
-use Rattle.cv_serve.specs.Served.{IsServed, IsTakenUpTo}
+use Rattle.cv_serve.specs.Served.{IsServed, IsTakenUpTo, Wrote}
 use Rattle.cv_serve.specs.declared.end.ServeEnd.{ServeEnd}
 use Rattle.cv_serve.specs.declared.end.ServeEnd.TheVariants as end
 use Rattle.cv_command.specs.Printed.{IsPrinted, usage}
@@ -44,6 +44,13 @@ IsTranscript trees workers listings faults remaining written written_now desks d
     StatesEveryLayer trees → IfSome remaining (λ bytes.
     IsServed (trees_of trees) workers listings faults bytes written written_now (take workers desks) (take workers desks_now))
 
+-- What an end says of the output and the desks of the workers, whatever their layers are: the lines that were written, and what the desks
+-- counted. If the layers of the desks' type are known, then these lines are those of legal rounds: before a refusal of the input all that
+-- had ended, and where writing failed or memory ran out the first of them
+abbrev pub ServiceWrote : {S D : Type 0} → Trees → (S → Option (List ℕ)) → (D → ℕ) → (D → ℕ) → ℕ → RunWorld S D → RunWorld S D → ServeEnd → Type 0
+ServiceWrote trees remaining listings faults workers before now ended =
+    Wrote (StatesEveryLayer trees) (trees_of trees) workers listings faults (remaining before.input) (remaining now.input) before.written now.written (take workers before.desks) (take workers now.desks) ended
+
 -- how a service of so many workers ends: only their desks are used, and the input was read to its end if the service is done. More than
 -- 2 to the power of 36 bytes are never taken, and so many if the input is too long. A line of the bytes that were taken, or the whole
 -- of them, is too long if the end says so, and neither is if the source failed
@@ -52,17 +59,23 @@ ServeEnds trees remaining listings faults workers before now status.Done =
     IsAtEnd (remaining now.input) × Stops Finished (remaining before.input) × IsTakenWithin (2 ^ 36) (remaining before.input) (remaining now.input)
     × AreOthersSame workers before.desks now.desks
     × IsTranscript trees workers listings faults (remaining before.input) before.written now.written before.desks now.desks
+    × ServiceWrote trees remaining listings faults workers before now end.Done
 ServeEnds trees remaining listings faults workers before now status.LineTooLong =
     Stops LongLine (remaining before.input) × IsTakenUpTo LongLine (remaining before.input) (remaining now.input) × AreOthersSame workers before.desks now.desks
+    × ServiceWrote trees remaining listings faults workers before now end.LineTooLong
 ServeEnds trees remaining listings faults workers before now status.InputTooLong =
     Stops LongInput (remaining before.input) × IsTaken (2 ^ 36) (remaining before.input) (remaining now.input)
     × IsTakenUpTo LongInput (remaining before.input) (remaining now.input) × AreOthersSame workers before.desks now.desks
+    × ServiceWrote trees remaining listings faults workers before now end.InputTooLong
 ServeEnds trees remaining listings faults workers before now status.ReadFault =
     IsTakenUpTo Finished (remaining before.input) (remaining now.input) × AreOthersSame workers before.desks now.desks
+    × ServiceWrote trees remaining listings faults workers before now end.ReadFault
 ServeEnds trees remaining listings faults workers before now status.WriteFault =
     IsTakenWithin (2 ^ 36) (remaining before.input) (remaining now.input) × AreOthersSame workers before.desks now.desks
+    × ServiceWrote trees remaining listings faults workers before now end.WriteFault
 ServeEnds trees remaining listings faults workers before now status.NoMemory =
     IsTakenWithin (2 ^ 36) (remaining before.input) (remaining now.input) × AreOthersSame workers before.desks now.desks
+    × ServiceWrote trees remaining listings faults workers before now end.NoMemory
 ServeEnds trees remaining listings faults workers before now status.Usage = ⊥
 ServeEnds trees remaining listings faults workers before now status.Refused = ⊥
 ServeEnds trees remaining listings faults workers before now status.DeskFault = ⊥

@@ -1,7 +1,9 @@
 -- What was read of the input, line by line, and how much of it was taken.
-use Rattle.std.specs.Prelude.{◌≡◌, ℕ, ◌^◌, List, [], ◌∷◌, ◌++◌, Option, Some, None, IfSome, IsErrAnd, Result, Ok, Err, refl}
+use Rattle.std.specs.Prelude.{◌≡◌, ℕ, ◌+◌, ◌-◌, ◌^◌, true, false, if◌then◌else◌, List, [], ◌∷◌, ◌++◌, length, Option, Some, None, IfSome, IsErrAnd, Result, Ok, Err, refl}
+use Rattle.std.specs.Io.KnownBytes.{prepend_known}
+use Rattle.std.specs.Option.{option_map}
 use Rattle.std.proofs.Common.{ap, append_assoc, subst, sym, ◌∙◌}
-use Rattle.cv_io.specs.Lines.{Reading, Finished, lines_of}
+use Rattle.cv_io.specs.Lines.{Reading, Finished, lines_of, reading_of}
 use Rattle.cv_io.specs.code.Lines.{lines_then}
 use Rattle.cv_io.proofs.Readings.{reading_finished}
 use Rattle.cv_io.specs.Reader.{Reader, Reads, Step, new_reader, reading}
@@ -13,8 +15,10 @@ use Rattle.cv_scan_input.specs.code.TakenParts.{IsTakenTo}
 use Rattle.cv_scan_input.proofs.Taken.{rest_taken_up, taken_first, taken_more, taken_up}
 use Rattle.cv_scan_input.specs.declared.input.TheConstants.{MAX_INPUT, MAX_LINE}
 use Rattle.cv_serve.specs.code.Ends.{end_of}
-use Rattle.cv_serve.specs.Served.{FitsInput}
+use Rattle.cv_scan_input.specs.Request.{input_of}
+use Rattle.cv_serve.specs.Served.{AreGiven, FitsInput}
 use Rattle.cv_serve.specs.code.Reading.{HasRead, HasReadAll}
+use Rattle.cv_serve.specs.declared.end.ServeEnd.{ServeEnd}
 use Rattle.cv_serve.specs.declared.end.Stop.{Stop as Stopped}
 use Rattle.cv_serve.specs.declared.end.Stop.TheVariants as stop
 
@@ -49,6 +53,33 @@ all_taken_up l m h = rest_taken_up 0 0 l l m (taken_first 0 l) h refl
 pub handed_on : (error : Stopped) (r : Result Unit Stopped) → IsErrAnd r (λ e. e ≡ error) → r ≡ Err (stop.Input line.InputTooLong) → error ≡ stop.Input line.InputTooLong
 handed_on error (Ok x) from e = absurd from
 handed_on error (Err x) from e = cc
+
+-- what holds of the end by a stop holds of the end by one that is handed on
+pub handed_end : (P : ServeEnd → Type 0) (error : Stopped) (r : Result Unit Stopped) → IsErrAnd r (λ e. e ≡ error) → P (end_of (Err error)) → P (end_of r)
+handed_end P error (Ok x) from h = absurd from
+handed_end P error (Err x) from h = subst (λ e. P (end_of (Err e))) (sym from) h
+
+-- a reader that took nothing is a new one
+pub fresh_reader : (r : Reader) → r.held ≡ [] → r.taken ≡ 0 → r.ended ≡ false → r.max_line ≡ 67108864 → r.max_input ≡ 2 ^ 36 → (remaining : Option (List ℕ))
+    → reading r remaining ≡ option_map input_of remaining
+fresh_reader r held taken ended lines inputs None =
+    λ i. option_map (reading_of (lines i) (length (held i) + (inputs i - taken i))) (if ended i then Some (held i) else prepend_known (held i) None)
+fresh_reader r held taken ended lines inputs (Some bytes) =
+    λ i. option_map (reading_of (lines i) (length (held i) + (inputs i - taken i))) (if ended i then Some (held i) else prepend_known (held i) (Some bytes))
+
+-- the lines that were read are the first of the input
+first_given : (remaining : Option (List ℕ)) (now : Option Reading) (texts : List (List ℕ)) → HasRead (option_map input_of remaining) now texts → AreGiven false remaining texts
+first_given None now texts h = tt
+first_given (Some bytes) None texts h = absurd h
+first_given (Some bytes) (Some rest) texts h = (rest.lines, ap (λ (whole : Reading). whole.lines) h)
+
+pub given_first : (r : Reader) (remaining : Option (List ℕ)) (now : Option Reading) (texts : List (List ℕ)) → reading r remaining ≡ option_map input_of remaining → HasRead (reading r remaining) now texts → AreGiven false remaining texts
+given_first r remaining now texts is h = first_given remaining now texts (subst (λ whole. HasRead whole now texts) is h)
+
+-- or all
+pub given_all : (remaining : Option (List ℕ)) (texts : List (List ℕ)) → HasReadAll (reading (new_reader MAX_LINE MAX_INPUT) remaining) texts → AreGiven true remaining texts
+given_all None texts h = tt
+given_all (Some bytes) texts h = h
 
 -- all lines of the input were read
 pub reads_input : (P : List ℕ → Type 0) (remaining : Option (List ℕ)) (texts : List (List ℕ)) → HasReadAll (reading (new_reader MAX_LINE MAX_INPUT) remaining) texts

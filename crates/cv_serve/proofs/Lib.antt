@@ -1,4 +1,5 @@
-mod Ending
+pub mod Ending
+mod Fronts
 mod Input
 mod Quiet
 mod UpTo

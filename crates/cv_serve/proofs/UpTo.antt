@@ -1,12 +1,15 @@
 -- How the lines of the bytes stop that were taken.
-use Rattle.std.specs.Prelude.{◌≡◌, ℕ, ◌+◌, ◌-◌, ◌<◌, ◌≤◌, ◌^◌, List, [], ◌∷◌, ◌++◌, length, take, drop, Option, IsErrAnd, Result, Ok, Err}
+use Rattle.std.specs.Prelude.{◌≡◌, ⊤, ℕ, ◌+◌, ◌-◌, ◌<◌, ◌≤◌, ◌^◌, false, List, [], ◌∷◌, ◌++◌, length, map, take, drop, Option, IsErrAnd, Result, Ok, Err, refl}
 use Rattle.std.specs.Io.KnownBytes.{Consumes}
 use Rattle.std.specs.List.{AllByRecursion}
 use Rattle.std.proofs.Common.{ap, append_assoc, append-nil, arith, inl, inr, length-append, length-take-le, subst, sym, take-append-drop, ◌∙◌}
 use Rattle.std.proofs.KnownBytes.{Consumes-nil}
 use Rattle.std.proofs.lemmas.Bool.{false≢true}
+use Rattle.std.proofs.lemmas.List.{map-append}
+use Rattle.std.proofs.lemmas.List.Elements.{All-nil}
 use Rattle.cv_base.proofs.AllItems.{all_more}
-use Rattle.cv_io.specs.Lines.{Finished, HasNoLineEnd, LF, LongInput, LongLine, Stop, reading_of}
+use Rattle.cv_base.specs.Lines.{numbered}
+use Rattle.cv_io.specs.Lines.{Finished, HasNoLineEnd, LF, LongInput, LongLine, Stop, is_line_end, reading_of, text_of}
 use Rattle.cv_io.specs.Reader.{Reader, Step}
 use Rattle.cv_io.specs.declared.line.Line.{Line}
 use Rattle.cv_io.specs.declared.line.Line.TheVariants.{Text}
@@ -16,16 +19,17 @@ use Rattle.cv_io.proofs.Lines.{reading_of-last, reading_of-line, reading_of-long
 use Rattle.cv_io.proofs.Takes.{Consumes-more}
 use Rattle.cv_scan_input.specs.Unrefused.{IsPiece, ended_lines}
 use Rattle.cv_scan_input.proofs.Accepted.{ended_snoc}
+use Rattle.cv_serve_legal.specs.Rounds.{cut_lines, round_limits, rounds_of}
 use Rattle.cv_serve.specs.code.Ends.{end_of}
-use Rattle.cv_serve.specs.Served.{IsTakenUpTo, TakesUpTo}
+use Rattle.cv_serve.specs.Served.{IsBeforeRefusal, IsTakenUpTo, TakesUpTo}
 use Rattle.cv_serve.specs.code.Reading.{AreTaken, IsTakenLines}
+use Rattle.cv_serve.specs.declared.end.ServeEnd.{ServeEnd}
+use Rattle.cv_serve.specs.declared.end.ServeEnd.TheVariants as end
 use Rattle.cv_serve.specs.declared.end.Stop.{Stop as Stopped}
 use Rattle.cv_serve.specs.declared.end.Stop.TheVariants as stop
+use Rattle.cv_serve.proofs.Fronts.{one_line, rounds_ended}
 
 -- ---- whole lines, and then more
-
-one_line : (piece rest more : List ℕ) → ((piece ++ LF ∷ []) ++ rest) ++ more ≡ piece ++ LF ∷ (rest ++ more)
-one_line piece rest more = append_assoc (piece ++ LF ∷ []) rest more ∙ append_assoc piece (LF ∷ []) (rest ++ more)
 
 -- the lines stop as those of the rest do
 stop_after : (pieces : List (List ℕ)) (room : ℕ) (rest : List ℕ) → AllByRecursion IsPiece pieces
@@ -59,21 +63,48 @@ stop_cut most room bytes whole short all =
 -- ---- by the calls of a reader
 
 -- a reader that took nothing
-pub none_given : (reader : Reader) (l : Option (List ℕ)) → reader.held ≡ [] → reader.taken ≡ 0 → AreTaken reader l l
+pub none_given : (reader : Reader) (l : Option (List ℕ)) → reader.held ≡ [] → reader.taken ≡ 0 → AreTaken reader l l []
 none_given reader l none zero = inl (record {
   pieces = [];
   lines = tt;
   front = subst (λ held. Consumes l l held) (sym none) (Consumes-nil l);
   counted = zero ∙ sym (ap length none);
+  texts_are = refl;
 })
 
-module _ (before now : Reader) (first l m : Option (List ℕ)) (limit : now.max_line ≡ 67108864) where
+-- how the lines of the bytes stop that were taken, and the bytes before the refusal: their rounds are those of these lines
+pub record IsRefusal (stop : Stop) (first m : Option (List ℕ)) (texts : List (List ℕ)) : Type 0 where
+  pub taken : IsTakenUpTo stop first m
+  pub front : List ℕ
+  pub refused : IsBeforeRefusal stop front taken.bytes
+  pub rounds : rounds_of round_limits front false ≡ (cut_lines round_limits (numbered 1 texts)).rounds
+
+-- the same by the end of the service
+abbrev pub Refuses : Option (List ℕ) → Option (List ℕ) → List (List ℕ) → ServeEnd → Type 0
+Refuses first m texts end.ReadFault = IsRefusal Finished first m texts
+Refuses first m texts end.LineTooLong = IsRefusal LongLine first m texts
+Refuses first m texts end.InputTooLong = IsRefusal LongInput first m texts
+Refuses first m texts _ = ⊤
+
+pub takes_up_to : (first m : Option (List ℕ)) (texts : List (List ℕ)) (ended : ServeEnd) → Refuses first m texts ended → TakesUpTo first m ended
+takes_up_to first m texts end.Done h = tt
+takes_up_to first m texts end.ReadFault h = h.taken
+takes_up_to first m texts end.WriteFault h = tt
+takes_up_to first m texts end.LineTooLong h = h.taken
+takes_up_to first m texts end.InputTooLong h = h.taken
+takes_up_to first m texts end.NoMemory h = tt
+
+-- that no byte follows
+all_before : (pieces : List (List ℕ)) → ended_lines pieces ++ [] ≡ ended_lines pieces
+all_before pieces = append-nil (ended_lines pieces)
+
+module _ (before now : Reader) (first l m : Option (List ℕ)) (texts : List (List ℕ)) (limit : now.max_line ≡ 67108864) where
   -- what was taken before, and in this call
-  joined : (h : IsTakenLines before first l) (bytes more : List ℕ) → bytes ≡ before.held ++ more → (ended_lines h.pieces ++ before.held) ++ more ≡ ended_lines h.pieces ++ bytes
+  joined : (h : IsTakenLines before first l texts) (bytes more : List ℕ) → bytes ≡ before.held ++ more → (ended_lines h.pieces ++ before.held) ++ more ≡ ended_lines h.pieces ++ bytes
   joined h bytes more e = append_assoc (ended_lines h.pieces) before.held more ∙ ap (λ v. ended_lines h.pieces ++ v) (sym e)
 
   -- one more line
-  pub one_given : (text : List ℕ) → AreTaken before first l → Step before now l m (Ok (Text text)) → AreTaken now first m
+  pub one_given : (text : List ℕ) → AreTaken before first l texts → Step before now l m (Ok (Text text)) → AreTaken now first m (texts ++ text ∷ [])
   one_given text (inl h) s =
       elim s.answers.rest [
         | inl e ↦
@@ -83,6 +114,7 @@ module _ (before now : Reader) (first l m : Option (List ℕ)) (limit : now.max_
               lines = all_more IsPiece h.pieces s.answers.piece h.lines (record { whole = s.answers.whole; short = omega (arith, s.answers.short, limit) });
               front = subst (λ v. Consumes first m v) join (Consumes-more first l m (ended_lines h.pieces ++ before.held) s.takes.more h.front s.takes.consumed);
               counted = omega (arith, s.takes.counted, h.counted, ap length join, length-append (ended_lines h.pieces ++ before.held) s.takes.more);
+              texts_are = map-append text_of h.pieces (s.answers.piece ∷ []) ∙ ap (λ given. given ++ text_of s.answers.piece ∷ []) h.texts_are ∙ ap (λ last. texts ++ last ∷ []) (sym s.answers.text);
             })
         | inr e ↦ inr (e.2, e.3)
       ]
@@ -95,42 +127,64 @@ module _ (before now : Reader) (first l m : Option (List ℕ)) (limit : now.max_
       ]
 
   -- all bytes that were taken, as a call ends that gives no line
-  all_bytes : (stop : Stop) (answer : Result Line LineError) → (h : IsTakenLines before first l) → (s : Step before now l m answer) → now.max_input ≡ 2 ^ 36
-      → ((room : ℕ) → room + length (ended_lines h.pieces) ≡ 2 ^ 36 → now.taken ≡ length (ended_lines h.pieces) + length s.bytes → (reading_of 67108864 room s.bytes).stop ≡ stop) → IsTakenUpTo stop first m
+  all_bytes : (stop : Stop) (answer : Result Line LineError) → (h : IsTakenLines before first l texts) → (s : Step before now l m answer) → now.max_input ≡ 2 ^ 36
+      → ((room : ℕ) → room + length (ended_lines h.pieces) ≡ 2 ^ 36 → now.taken ≡ length (ended_lines h.pieces) + length s.bytes → (reading_of 67108864 room s.bytes).stop ≡ stop)
+      → (taken : IsTakenUpTo stop first m) × (taken.bytes ≡ ended_lines h.pieces ++ s.bytes)
   all_bytes stop answer h s inputs by =
       let join = joined h s.bytes s.takes.more s.takes.joined in
       let count : now.taken ≡ length (ended_lines h.pieces) + length s.bytes =
       omega (arith, s.takes.counted, h.counted, ap length join, length-append (ended_lines h.pieces ++ before.held) s.takes.more, length-append (ended_lines h.pieces) s.bytes) in
       let room : ℕ = 2 ^ 36 - length (ended_lines h.pieces) in
-      let whole : length (ended_lines h.pieces) + room ≡ 2 ^ 36 = omega (arith, count, s.within, inputs) in
-      record {
-        bytes = ended_lines h.pieces ++ s.bytes;
-        front = subst (λ v. Consumes first m v) join (Consumes-more first l m (ended_lines h.pieces ++ before.held) s.takes.more h.front s.takes.consumed);
-        within = omega (arith, count, s.within, inputs, length-append (ended_lines h.pieces) s.bytes);
-        stops = ap (λ n. (reading_of 67108864 n (ended_lines h.pieces ++ s.bytes)).stop) (sym whole) ∙ stop_after h.pieces room s.bytes h.lines ∙ by room (omega (arith, whole)) count;
-      }
+      let whole : length (ended_lines h.pieces) + room ≡ 2 ^ 36 = omega (arith, count, s.within, inputs) in (
+        record {
+          bytes = ended_lines h.pieces ++ s.bytes;
+          front = subst (λ v. Consumes first m v) join (Consumes-more first l m (ended_lines h.pieces ++ before.held) s.takes.more h.front s.takes.consumed);
+          within = omega (arith, count, s.within, inputs, length-append (ended_lines h.pieces) s.bytes);
+          stops = ap (λ n. (reading_of 67108864 n (ended_lines h.pieces ++ s.bytes)).stop) (sym whole) ∙ stop_after h.pieces room s.bytes h.lines ∙ by room (omega (arith, whole)) count;
+        },
+        refl,
+      )
 
   -- the call failed, or refused what is next
-  none_left : (error : LineError) → AreTaken before first l → Step before now l m (Err error) → now.max_input ≡ 2 ^ 36 → TakesUpTo first m (end_of (Err (stop.Input error)))
+  pub none_left : (error : LineError) → AreTaken before first l texts → Step before now l m (Err error) → now.max_input ≡ 2 ^ 36 → Refuses first m texts (end_of (Err (stop.Input error)))
   none_left line.NoMemory h s inputs = tt
   none_left line.ReadFault (inl h) s inputs =
       let x = s.answers.0 in
-      all_bytes Finished (Err line.ReadFault) h s inputs
-      (λ room whole count. stop_last room s.bytes x.whole (omega (arith, x.short, limit)) (omega (arith, whole, count, s.answers.1, inputs)))
+      let all = all_bytes Finished (Err line.ReadFault) h s inputs
+      (λ room whole count. stop_last room s.bytes x.whole (omega (arith, x.short, limit)) (omega (arith, whole, count, s.answers.1, inputs))) in
+      record { taken = all.0; front = ended_lines h.pieces ++ s.bytes; refused = sym all.1; rounds = rounds_ended h.pieces s.bytes texts h.lines x.whole h.texts_are }
   none_left line.ReadFault (inr h) s inputs = absurd (false≢true (sym s.answers.0.not_ended ∙ (s.takes.over h.1).1))
   none_left line.LineTooLong (inl h) s inputs =
-      all_bytes LongLine (Err line.LineTooLong) h s inputs
+      let all = all_bytes LongLine (Err line.LineTooLong) h s inputs
       (λ room whole count. subst (λ most. (reading_of most room s.bytes).stop ≡ LongLine) limit
-      (stop_long now.max_line room s.bytes s.answers.whole s.answers.long (omega (arith, whole, count, s.within, inputs))))
+      (stop_long now.max_line room s.bytes s.answers.whole s.answers.long (omega (arith, whole, count, s.within, inputs)))) in
+      let most : now.max_line + 1 ≡ 67108865 = omega (arith, limit) in
+      record {
+        taken = all.0;
+        front = ended_lines h.pieces;
+        refused = record {
+          pieces = h.pieces;
+          lines = h.lines;
+          whole = refl;
+          later = s.bytes;
+          joined = all.1;
+          unended = subst (λ n. HasNoLineEnd (take n s.bytes)) most s.answers.whole;
+          long = omega (arith, limit, s.answers.long);
+        };
+        rounds = ap (λ bytes. rounds_of round_limits bytes false) (sym (all_before h.pieces))
+            ∙ rounds_ended h.pieces [] texts h.lines (All-nil (λ b. is_line_end b ≡ false)) h.texts_are;
+      }
   none_left line.LineTooLong (inr h) s inputs =
       absurd (omega (arith, s.answers.long, ap length s.takes.joined, length-append before.held s.takes.more, ap length h.0, ap length (s.takes.over h.1).0))
   none_left line.InputTooLong (inl h) s inputs =
       let x = s.answers.0 in
-      all_bytes LongInput (Err line.InputTooLong) h s inputs
-      (λ room whole count. stop_cut 67108864 room s.bytes x.whole (omega (arith, x.short, limit)) (omega (arith, whole, count, s.answers.1, inputs)))
+      let all = all_bytes LongInput (Err line.InputTooLong) h s inputs
+      (λ room whole count. stop_cut 67108864 room s.bytes x.whole (omega (arith, x.short, limit)) (omega (arith, whole, count, s.answers.1, inputs))) in
+      record { taken = all.0; front = ended_lines h.pieces ++ s.bytes; refused = sym all.1; rounds = rounds_ended h.pieces s.bytes texts h.lines x.whole h.texts_are }
   none_left line.InputTooLong (inr h) s inputs = absurd (false≢true (sym s.answers.0.not_ended ∙ (s.takes.over h.1).1))
 
-  pub stop_given : (error : LineError) (r : Result Unit Stopped) → AreTaken before first l → Step before now l m (Err error) → now.max_input ≡ 2 ^ 36
+  pub stop_given : (error : LineError) (r : Result Unit Stopped) → AreTaken before first l texts → Step before now l m (Err error) → now.max_input ≡ 2 ^ 36
       → IsErrAnd r (λ e. e ≡ stop.Input error) → TakesUpTo first m (end_of r)
   stop_given error (Ok x) h s inputs from = absurd from
-  stop_given error (Err e) h s inputs from = subst (λ e. TakesUpTo first m (end_of (Err e))) (sym from) (none_left error h s inputs)
+  stop_given error (Err e) h s inputs from =
+      subst (λ e. TakesUpTo first m (end_of (Err e))) (sym from) (takes_up_to first m texts (end_of (Err (stop.Input error))) (none_left error h s inputs))

@@ -1,14 +1,22 @@
 -- What a service did that is done (defined by this project): what it wrote is a legal transcript of what it read, and the desk of
 -- each worker counted what the transcript says of that worker. And what each end says of the input, and of how much of it was taken.
-use Rattle.std.specs.Prelude.{◌≡◌, ⊤, ℕ, ◌≤◌, ◌^◌, true, List, Option, IfSome, length}
+use Rattle.std.specs.Prelude.{◌≡◌, ⊤, ℕ, ◌<◌, ◌≤◌, ◌^◌, Bool, true, false, List, [], ◌++◌, Option, IfSome, length, take}
 use Rattle.std.specs.Io.KnownBytes.{Appends, Consumes}
-use Rattle.cv_io.specs.Lines.{Stop, Finished, LongLine, LongInput}
+use Rattle.std.specs.List.{AllByRecursion}
+use Rattle.cv_base.specs.Lines.{numbered}
+use Rattle.cv_io.specs.Lines.{Stop, Finished, HasNoLineEnd, LongLine, LongInput}
+use Rattle.cv_io.specs.declared.write.WriteError.{WriteError}
+use Rattle.cv_io.specs.declared.write.WriteError.TheVariants as error
+use Rattle.cv_transcript.specs.declared.entry.Entry.{Entry}
 use Rattle.cv_core_machine.specs.Scans.{Trees}
 use Rattle.cv_core_machine.specs.State.{State}
-use Rattle.cv_serve_legal.specs.Legal.{IsLegal}
-use Rattle.cv_serve_legal.specs.Rounds.{round_limits, rounds_of}
+use Rattle.cv_serve_legal.specs.Legal.{AreLegalRounds, AreLines, IsLegal}
+use Rattle.cv_serve_legal.specs.Replay.{Moment, beginning}
+use Rattle.cv_serve_legal.specs.Rounds.{Round, cut_lines, round_limits, rounds_of}
+use Rattle.cv_serve_round.specs.Further.{AreToEnd, Stops}
 use Rattle.cv_serve_round.specs.Round.{DesksCounted}
 use Rattle.cv_scan_input.specs.Request.{input_of}
+use Rattle.cv_scan_input.specs.Unrefused.{IsPiece, ended_lines}
 use Rattle.cv_serve.specs.Quiet.{AreQuiet, HasNoMemoryLine, IsComplete}
 use Rattle.cv_serve.specs.declared.end.ServeEnd.{ServeEnd}
 use Rattle.cv_serve.specs.declared.end.ServeEnd.TheVariants as end
@@ -48,3 +56,81 @@ TakesUpTo before now end.ReadFault = IsTakenUpTo Finished before now
 TakesUpTo before now end.LineTooLong = IsTakenUpTo LongLine before now
 TakesUpTo before now end.InputTooLong = IsTakenUpTo LongInput before now
 TakesUpTo before now _ = ⊤
+
+-- ---- what each end says of the output and the desks. Rounds are legal where the layers of the desks' type are known
+
+-- what was appended to the output are the lines of entries, and each worker's desk counted what they say
+pub record IsCounted {D : Type 0} (listings faults : D → ℕ) (written written_now : Option (List ℕ)) (desks desks_now : List D) : Type 0 where
+  pub entries : List Entry
+  pub output : List ℕ
+  pub appended : Appends written written_now output
+  pub lines : AreLines output entries
+  pub counts : DesksCounted listings faults 0 desks desks_now entries
+
+-- the bytes before the line that is too long: whole lines, of which none is too long. More bytes than a line may have follow, and no
+-- line ends within them
+pub record IsBeforeLongLine (front taken : List ℕ) : Type 0 where
+  pub pieces : List (List ℕ)
+  pub lines : AllByRecursion IsPiece pieces
+  pub whole : front ≡ ended_lines pieces
+  pub later : List ℕ
+  pub joined : taken ≡ front ++ later
+  pub unended : HasNoLineEnd (take 67108865 later)
+  pub long : 67108864 < length later
+
+-- the bytes before the refusal: all that were taken, or those before the line that is too long
+abbrev pub IsBeforeRefusal : Stop → List ℕ → List ℕ → Type 0
+IsBeforeRefusal Finished front taken = front ≡ taken
+IsBeforeRefusal LongLine front taken = IsBeforeLongLine front taken
+IsBeforeRefusal LongInput front taken = front ≡ taken
+
+-- The input was not read to its end, and what was appended to the output are the lines of legal rounds for exactly those rounds that
+-- ended before the refusal. The desk of each worker listed a layer for each line of this worker that says `claimed`, and failed for each
+-- of its `fault` lines: no further round was run
+pub record IsServedUpTo {D : Type 0} (known : Type 0) (trees : Trees) (workers : ℕ) (listings faults : D → ℕ) (stop : Stop) (remaining remaining_now written written_now : Option (List ℕ)) (desks desks_now : List D) : Type 0 where
+  pub taken : IsTakenUpTo stop remaining remaining_now
+  pub front : List ℕ
+  pub refused : IsBeforeRefusal stop front taken.bytes
+  pub entries : List Entry
+  pub output : List ℕ
+  pub appended : Appends written written_now output
+  pub lines : AreLines output entries
+  pub after : Moment
+  pub legal : known → AreLegalRounds trees workers beginning (rounds_of round_limits front false) entries after
+  pub counts : DesksCounted listings faults 0 desks desks_now entries
+
+-- these lines were given of the input: all, or the first ones
+abbrev pub AreGiven : Bool → Option (List ℕ) → List (List ℕ) → Type 0
+AreGiven true remaining texts = IfSome remaining (λ bytes. input_of bytes ≡ record { lines = texts; stop = Finished })
+AreGiven false remaining texts = IfSome remaining (λ bytes. (later : List (List ℕ)) × ((input_of bytes).lines ≡ texts ++ later))
+
+-- the rounds that ended with the lines that were given, and where these are all, maybe one more without lines
+abbrev pub AreRoundsEnded : Bool → List (List ℕ) → List Round → Type 0
+AreRoundsEnded true texts all = AreToEnd (cut_lines round_limits (numbered 1 texts)) all
+AreRoundsEnded false texts all = all ≡ (cut_lines round_limits (numbered 1 texts)).rounds
+
+-- A write was not made, or memory ran out. What was appended to the output are whole lines of legal rounds, and if a write was not made,
+-- then the first bytes of one more round, which is the last that the lines ended that were given, and was run. What the desks counted is
+-- by the rounds that were run
+pub record IsStopped {D : Type 0} (known : Type 0) (trees : Trees) (workers : ℕ) (listings faults : D → ℕ) (remaining written written_now : Option (List ℕ)) (desks desks_now : List D) (error : WriteError) : Type 0 where
+  pub texts : List (List ℕ)
+  pub are_all : Bool
+  pub given : AreGiven are_all remaining texts
+  pub all : List Round
+  pub ended : AreRoundsEnded are_all texts all
+  pub stops : Stops known trees workers listings faults all [] written written_now desks desks_now error
+
+-- what an end says of the output and the desks
+abbrev pub Wrote : {D : Type 0} → Type 0 → Trees → ℕ → (D → ℕ) → (D → ℕ) → Option (List ℕ) → Option (List ℕ) → Option (List ℕ) → Option (List ℕ) → List D → List D → ServeEnd → Type 0
+Wrote known trees workers listings faults remaining remaining_now written written_now desks desks_now end.Done =
+    IsCounted listings faults written written_now desks desks_now
+Wrote known trees workers listings faults remaining remaining_now written written_now desks desks_now end.ReadFault =
+    IsServedUpTo known trees workers listings faults Finished remaining remaining_now written written_now desks desks_now
+Wrote known trees workers listings faults remaining remaining_now written written_now desks desks_now end.LineTooLong =
+    IsServedUpTo known trees workers listings faults LongLine remaining remaining_now written written_now desks desks_now
+Wrote known trees workers listings faults remaining remaining_now written written_now desks desks_now end.InputTooLong =
+    IsServedUpTo known trees workers listings faults LongInput remaining remaining_now written written_now desks desks_now
+Wrote known trees workers listings faults remaining remaining_now written written_now desks desks_now end.WriteFault =
+    IsStopped known trees workers listings faults remaining written written_now desks desks_now error.WriteFault
+Wrote known trees workers listings faults remaining remaining_now written written_now desks desks_now end.NoMemory =
+    IsStopped known trees workers listings faults remaining written written_now desks desks_now error.NoMemory

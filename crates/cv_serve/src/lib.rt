@@ -1,6 +1,6 @@
 //! The service: it reads requests, carries them out in rounds, and writes a transcript of what it did. `cv_serve_round` runs a round, in
 //! threads over the hub of `cv_hub`, and writes its lines as soon as it ends, before a further line is taken. Which transcripts are legal
-//! is defined in `cv_serve_legal`.
+//! is defined in `cv_serve_legal`, and `specs/Served.antt` says what was read, written and counted at each end of a service.
 //!
 //! ```text
 //! match serve(rt, alloc, &mut input, &mut output, &mut desks, 4) {

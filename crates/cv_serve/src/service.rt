@@ -11,7 +11,7 @@ ghost use Rattle.cv_scan_input.specs.code.TakenParts.{IsTakenFrom, IsTakenTo};
 ghost use Rattle.cv_serve_round.specs.Core.{opened};
 ghost use Rattle.cv_serve_round.specs.Round.{moment_of};
 ghost use Rattle.cv_serve.specs.code.Ends.{end_of, is_read_stop, is_write_stop};
-ghost use Rattle.cv_serve.specs.Served.{FitsInput, IsServed, TakesUpTo};
+ghost use Rattle.cv_serve.specs.Served.{FitsInput, IsServed, TakesUpTo, Wrote};
 ghost use Rattle.cv_serve_round.specs.Begun.{IsPrepared};
 ghost use Rattle.cv_serve.specs.code.Reading.{Done, HasReadAll, StopsLines};
 ghost use Rattle.cv_serve.specs.declared.end.Stop.TheVariants as stop;
@@ -49,6 +49,8 @@ pub fn serve<S: Source, K: Sink, D: Desk + Drop + Send + Sync, W: Threads + Wait
     ensures ended { result ≡ ServeEnd.Done → IsAtEnd (S.remaining input.new) }
     ensures input { FitsInput (S.remaining input.old) result }
     ensures front { TakesUpTo (S.remaining input.old) (S.remaining input.new) result }
+    ensures wrote { Wrote (StatesEveryLayer D.tree) (trees_of D.tree) workers D.listings D.faults (S.remaining input.old) (S.remaining input.new)
+        (K.contents output.old) (K.contents output.new) (take workers desks.old.items) (take workers desks.new.items) result }
     ensures limit { IsTakenWithin (2 ^ 36) (S.remaining input.old) (S.remaining input.new) }
     ensures taken { result ≡ ServeEnd.InputTooLong → IsTaken (2 ^ 36) (S.remaining input.old) (S.remaining input.new) }
     ensures others { drop workers desks.new.items ≡ drop workers desks.old.items }
@@ -75,6 +77,8 @@ fn serve_over<S: Source, K: Sink, D: Desk + Drop + Send + Sync, W: Threads + Wai
     ensures ended { OnOk result (IsAtEnd (S.remaining input.new)) }
     ensures input { FitsInput (S.remaining input.old) (end_of result) }
     ensures front { TakesUpTo (S.remaining input.old) (S.remaining input.new) (end_of result) }
+    ensures wrote { Wrote (StatesEveryLayer D.tree) (trees_of D.tree) (length desks.old) D.listings D.faults (S.remaining input.old) (S.remaining input.new)
+        (K.contents output.old) (K.contents output.new) desks.old desks.new (end_of result) }
     ensures limit { IsTakenWithin (2 ^ 36) (S.remaining input.old) (S.remaining input.new) }
     ensures taken { IsErrOf result (stop.Input line.InputTooLong) → IsTaken (2 ^ 36) (S.remaining input.old) (S.remaining input.new) }
     ensures read_cause { CausedBy (S.faults input.old) (S.faults input.new) (is_read_stop result) }
@@ -113,6 +117,8 @@ fn serve_with<
     ensures ended { OnOk result (IsAtEnd (S.remaining input.new)) }
     ensures input { FitsInput (S.remaining input.old) (end_of result) }
     ensures front { TakesUpTo (S.remaining input.old) (S.remaining input.new) (end_of result) }
+    ensures wrote { Wrote (StatesEveryLayer D.tree) (trees_of D.tree) (length desks.old) D.listings D.faults (S.remaining input.old) (S.remaining input.new)
+        (K.contents output.old) (K.contents output.new) desks.old desks.new (end_of result) }
     ensures limit { IsTakenWithin (2 ^ 36) (S.remaining input.old) (S.remaining input.new) }
     ensures taken { IsErrOf result (stop.Input line.InputTooLong) → IsTaken (2 ^ 36) (S.remaining input.old) (S.remaining input.new) }
     ensures read_cause { CausedBy (S.faults input.old) (S.faults input.new) (is_read_stop result) }
@@ -145,6 +151,8 @@ fn serve_by<
     ensures ended { OnOk result (IsAtEnd (S.remaining input.new)) }
     ensures input { FitsInput (S.remaining input.old) (end_of result) }
     ensures front { TakesUpTo (S.remaining input.old) (S.remaining input.new) (end_of result) }
+    ensures wrote { Wrote (StatesEveryLayer D.tree) (trees_of D.tree) (length desks.old) D.listings D.faults (S.remaining input.old) (S.remaining input.new)
+        (K.contents output.old) (K.contents output.new) desks.old desks.new (end_of result) }
     ensures limit { IsTakenWithin (2 ^ 36) (S.remaining input.old) (S.remaining input.new) }
     ensures taken { IsErrOf result (stop.Input line.InputTooLong) → IsTaken (2 ^ 36) (S.remaining input.old) (S.remaining input.new) }
     ensures read_cause { CausedBy (S.faults input.old) (S.faults input.new) (is_read_stop result) }
@@ -182,11 +190,14 @@ fn read_lines<
     requires fresh { (reader.old.held ≡ []) × (reader.old.taken ≡ 0) }
     requires prepared { IsPrepared D.listings L.parts service.old.hub service.old.seats.items desks.old }
     ensures lines { OnOk result ((texts : List (List ℕ)) × HasReadAll (reading reader.old (S.remaining input.old)) texts
-        × (StatesEveryLayer D.tree → (workers : ℕ) → length desks.old ≡ workers
-        → Done (trees_of D.tree) workers D.listings D.faults [] round.old.taken round.old.bytes (moment_of (trees_of D.tree) L.limits service.old.hub) (K.contents output.old) (K.contents output.old) desks.old desks.old
-        → Done (trees_of D.tree) workers D.listings D.faults texts round.new.taken round.new.bytes (moment_of (trees_of D.tree) L.limits service.new.hub) (K.contents output.old) (K.contents output.new) desks.old desks.new)) }
+        × ((workers : ℕ) → length desks.old ≡ workers
+        → Done (StatesEveryLayer D.tree) (trees_of D.tree) workers D.listings D.faults [] round.old.taken round.old.bytes (moment_of (trees_of D.tree) L.limits service.old.hub) (K.contents output.old) (K.contents output.old) desks.old desks.old
+        → Done (StatesEveryLayer D.tree) (trees_of D.tree) workers D.listings D.faults texts round.new.taken round.new.bytes (moment_of (trees_of D.tree) L.limits service.new.hub) (K.contents output.old) (K.contents output.new) desks.old desks.new)) }
     ensures stops { IfSome (reading reader.old (S.remaining input.old)) (λ whole. StopsLines whole.stop result) }
     ensures front { TakesUpTo (S.remaining input.old) (S.remaining input.new) (end_of result) }
+    ensures wrote { (workers : ℕ) → length desks.old ≡ workers
+        → Done (StatesEveryLayer D.tree) (trees_of D.tree) workers D.listings D.faults [] round.old.taken round.old.bytes (moment_of (trees_of D.tree) L.limits service.old.hub) (K.contents output.old) (K.contents output.old) desks.old desks.old
+        → Wrote (StatesEveryLayer D.tree) (trees_of D.tree) workers D.listings D.faults (S.remaining input.old) (S.remaining input.new) (K.contents output.old) (K.contents output.new) desks.old desks.new (end_of result) }
     ensures limit { IsTakenFrom reader.old.taken (S.remaining input.old) (S.remaining input.new) }
     ensures taken { IsErrOf result (stop.Input line.InputTooLong) → IsTakenTo reader.old.taken (2 ^ 36) (S.remaining input.old) (S.remaining input.new) }
     ensures ended { OnOk result (IsAtEnd (S.remaining input.new)) }

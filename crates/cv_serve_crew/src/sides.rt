@@ -1,6 +1,6 @@
 ghost use Rattle.std.specs.Prelude.{◌+◌, ◌<◌, ◌≤◌, ◌^◌, length, take, drop, OnOk};
 ghost use Rattle.std.specs.Thread.{IsSend, IsSync};
-ghost use Rattle.cv_serve_crew.specs.code.Team.{ArePrepared, ArePreparedFrom, EachDid, EachDidFrom};
+ghost use Rattle.cv_serve_crew.specs.code.Team.{AreLater, ArePrepared, ArePreparedFrom, EachDid, EachDidFrom};
 
 use crate::crew::{Crew, run_crew};
 use crate::team::{Team, run_team};
@@ -9,6 +9,7 @@ use std::thread::{Threads, join_mut};
 
 /// Does the work of a team beside that of a crew, or before it, if the crew is idle. The first seats are the team's, as many as it has
 /// parts, and the others the crew's.
+#[tactic(auto, using(crate::proofs::Later::later_same))]
 pub fn run_sides<
     S: Send,
     P: Send,
@@ -32,6 +33,8 @@ pub fn run_sides<
     requires crew { ArePreparedFrom (C.prepared crew.now) 0 hands.old (drop (length parts.old) seats.old) desks.old }
     ensures team { OnOk result (EachDid (T.did team.now) (take (length parts.old) seats.old) (take (length parts.old) seats.new) parts.old parts.new) }
     ensures crew { OnOk result (EachDidFrom (C.did crew.now) 0 hands.old hands.new (drop (length parts.old) seats.old) (drop (length parts.old) seats.new) desks.old desks.new) }
+    ensures listed { AreLater C.listed desks.old desks.new }
+    ensures failed { AreLater C.failed desks.old desks.new }
 {
     let (front, back) = seats.split_at_mut(parts.len());
     if crew.is_idle() {
@@ -46,7 +49,9 @@ pub fn run_sides<
         { run_team(rt, team, front, parts) },
         &mut || -> Result<(), NoMemory>
             requires { IsSync W.row × IsSync C.row × IsSend H.row × IsSend S.row × IsSend K.row × (length desks.now < 2 ^ 32) × ArePreparedFrom (C.prepared crew.now) 0 hands.now back.now desks.now }
-            ensures { OnOk result (EachDidFrom (C.did crew.entry.now) 0 hands.entry.now hands.exit.now back.entry.now back.exit.now desks.entry.now desks.exit.now) }
+            ensures did { OnOk result (EachDidFrom (C.did crew.entry.now) 0 hands.entry.now hands.exit.now back.entry.now back.exit.now desks.entry.now desks.exit.now) }
+            ensures listed { AreLater C.listed desks.entry.now desks.exit.now }
+            ensures failed { AreLater C.failed desks.entry.now desks.exit.now }
         { run_crew(rt, crew, 0, hands, back, desks) },
     );
     team_end?;

@@ -21,3 +21,7 @@ fault_count events = length (filter (λ event. is_fault event.act) events)
 -- a count of 64 bits rose at least so many times, or stands at its last value
 abbrev pub RoseBy : ℕ → ℕ → ℕ → Type 0
 RoseBy times before now = min (before + times) (2 ^ 64 - 1) ≤ now
+
+-- how many failures a desk has counted, up to the last value of a count of 64 bits
+abbrev pub failures : {D : Type 0} → (D → ℕ) → D → ℕ
+failures faults desk = min (faults desk) (2 ^ 64 - 1)

@@ -1,7 +1,8 @@
-ghost use Rattle.std.specs.Prelude.{◌≡◌, ℕ, List, length, IfOk, OnOk};
+ghost use Rattle.std.specs.Prelude.{◌≡◌, ◌≤◌, ℕ, List, length, IfOk, OnOk};
 ghost use Rattle.cv_core_records.specs.declared.event.Act.TheVariants as name;
 ghost use Rattle.cv_serve_legal.specs.Parts.{is_grant};
 ghost use Rattle.cv_serve_lanes.specs.Core.{IsSound, act_of};
+ghost use Rattle.cv_serve_lanes.specs.Counts.{failures};
 ghost use Rattle.cv_serve_lanes.specs.code.Worker.{Claimed, HandDid, HasRoom, IsHandPrepared, Settled};
 
 use crate::index::index;
@@ -15,7 +16,7 @@ use std::alloc::Global;
 use std::sync::Wait;
 
 /// A worker takes jobs until there are none: each is the place of a layer in the queue. It claims the layer, and if that is granted,
-/// indexes it and says what became of it.
+/// indexes it and says what became of it. Whatever comes, no count of its desk falls.
 pub fn run_worker<D: Desk + Drop, L: Identity, W: Wait>(
     rt: &W,
     alloc: Global,
@@ -29,6 +30,8 @@ pub fn run_worker<D: Desk + Drop, L: Identity, W: Wait>(
     requires hand { IsHandPrepared (length queue.now) hand.old }
     requires desk { HasRoom D.listings seat.old desk.old }
     ensures did { OnOk result (HandDid D.listings D.faults queue.now worker hand.old hand.new seat.old seat.new desk.old desk.new) }
+    ensures listed { D.listings desk.old ≤ D.listings desk.new }
+    ensures failed { failures D.faults desk.old ≤ failures D.faults desk.new }
 {
     for _ in rt.forever() {
         let Some(job) = hand.next(rt) else {

@@ -1,4 +1,5 @@
 ghost use Rattle.std.specs.Prelude.{length};
+ghost use Rattle.cv_serve_lanes.specs.Counts.{failures};
 ghost use Rattle.cv_serve_lanes.specs.code.Worker.{HandDid, HasRoom, IsHandPrepared};
 
 use crate::worker::run_worker;
@@ -24,6 +25,10 @@ impl<'a, D: Desk + Drop, L: Identity, W: Wait> Crew<Hand, Seat<D, L>, D>
     ghost prepared = { λ crew _ hand seat desk. IsHandPrepared (length crew.queue.now) hand × HasRoom D.listings seat desk };
 
     ghost did = { λ crew worker hand hand_after seat seat_after desk desk_after. HandDid D.listings D.faults crew.queue.now worker hand hand_after seat seat_after desk desk_after };
+
+    ghost listed = { D.listings };
+
+    ghost failed = { failures D.faults };
 
     fn is_idle(&self) -> bool {
         self.queue.is_empty()

@@ -5,7 +5,8 @@ use Rattle.cv_transcript.specs.Order.{events_of}
 use Rattle.cv_transcript.specs.declared.entry.Entry.{Entry}
 use Rattle.cv_serve_legal.specs.Parts.{events_by}
 use Rattle.cv_serve_legal.proofs.Segments.{by_both, grants_both}
-use Rattle.cv_serve_round.specs.Round.{DesksCounted, RoseBy, fault_count, grant_count}
+use Rattle.cv_serve_crew.specs.code.Team.{AreLater}
+use Rattle.cv_serve_round.specs.Round.{DesksAtLeast, DesksCounted, RoseBy, failures, fault_count, grant_count}
 use Rattle.cv_serve_round.proofs.WorkerLemmas.{faults_both as counted_both, rose_then}
 
 rose_none : (faults : ℕ) → RoseBy 0 faults faults
@@ -34,3 +35,34 @@ counts_both listings faults worker [] (e ∷ es) gs xs ys h k = absurd h
 counts_both listings faults worker (d ∷ ds) [] gs xs ys h k = absurd h
 counts_both listings faults worker [] [] (g ∷ gs) xs ys h k = absurd k
 counts_both listings faults worker (d ∷ ds) (e ∷ es) [] xs ys h k = absurd k
+
+-- ---- at least
+
+-- exact counts are so many at least
+pub at_least : {D : Type 0} (listings faults : D → ℕ) (worker : ℕ) (ds es : List D) (xs : List Entry) → DesksCounted listings faults worker ds es xs → DesksAtLeast listings faults worker ds es xs
+at_least listings faults worker [] [] xs h = tt
+at_least listings faults worker (d ∷ ds) (e ∷ es) xs h = (omega (arith, h.0), h.1, at_least listings faults (worker + 1) ds es xs h.2)
+at_least listings faults worker [] (e ∷ es) xs h = absurd h
+at_least listings faults worker (d ∷ ds) [] xs h = absurd h
+
+-- counts that did not fall
+pub at_least_none : {D : Type 0} (listings faults : D → ℕ) (worker : ℕ) (ds es : List D) → AreLater listings ds es → AreLater (failures faults) ds es → DesksAtLeast listings faults worker ds es []
+at_least_none listings faults worker [] [] h k = tt
+at_least_none listings faults worker (d ∷ ds) (e ∷ es) h k = (omega (arith, h.0), omega (arith, k.0), at_least_none listings faults (worker + 1) ds es h.1 k.1)
+at_least_none listings faults worker [] (e ∷ es) h k = absurd h
+at_least_none listings faults worker (d ∷ ds) [] h k = absurd h
+
+-- entries came, and then counts rose that no entry tells
+pub at_least_both : {D : Type 0} (listings faults : D → ℕ) (worker : ℕ) (ds es gs : List D) (xs ys : List Entry)
+    → DesksCounted listings faults worker ds es xs → DesksAtLeast listings faults worker es gs ys → DesksAtLeast listings faults worker ds gs (xs ++ ys)
+at_least_both listings faults worker [] [] [] xs ys h k = tt
+at_least_both listings faults worker (d ∷ ds) (e ∷ es) (g ∷ gs) xs ys h k =
+    let more : grant_count (events_by worker (events_of (xs ++ ys))) ≡ grant_count (events_by worker (events_of xs)) + grant_count (events_by worker (events_of ys)) = grants_both worker xs ys in (
+      omega (arith, h.0, k.0, more),
+      subst (λ n. RoseBy n (faults d) (faults g)) (sym (faults_both worker xs ys)) (rose_then _ _ (faults d) (faults e) (faults g) h.1 k.1),
+      at_least_both listings faults (worker + 1) ds es gs xs ys h.2 k.2,
+    )
+at_least_both listings faults worker [] (e ∷ es) gs xs ys h k = absurd h
+at_least_both listings faults worker (d ∷ ds) [] gs xs ys h k = absurd h
+at_least_both listings faults worker [] [] (g ∷ gs) xs ys h k = absurd k
+at_least_both listings faults worker (d ∷ ds) (e ∷ es) [] xs ys h k = absurd k

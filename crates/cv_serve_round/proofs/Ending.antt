@@ -18,7 +18,7 @@ use Rattle.cv_serve_round.specs.code.LineParts.{LastRun}
 use Rattle.cv_serve_round.proofs.Counts.{counts_both}
 use Rattle.cv_serve_round.proofs.Further.{lines_both, same_cons, tags_both}
 
-nothing : (lines : List Line) → is_cons lines ≡ false → lines ≡ []
+pub nothing : (lines : List Line) → is_cons lines ≡ false → lines ≡ []
 nothing [] e = refl
 nothing (line ∷ lines) e = absurd (false≢true (sym e))
 
@@ -29,15 +29,15 @@ legal_by : (trees : Trees) (workers : ℕ) (cut : Cut) (last : ℕ) (taken : Lis
 legal_by trees workers cut last taken bytes entries now more after true is h k = all_legal_last trees workers cut last taken bytes entries now more after h (sym is) k
 legal_by trees workers cut last taken bytes entries now more after false is h k = all_legal trees workers cut last taken bytes entries now more after h (nothing cut.begun (sym is)) k
 
-pub ends_input : {D : Type 0} (trees : Trees) (workers : ℕ) (listings faults : D → ℕ) (cut : Cut) (last : ℕ) (taken left : List ParsedLine) (bytes size : ℕ) (entries : List Entry) (now between after : Moment) (begun : Bool)
-    (w u v : Option (List ℕ)) (l i n : List D) → Served trees workers cut last taken bytes entries now → begun ≡ is_cons taken
-    → Further trees workers listings faults (if begun then end_round cut else cut) last left size entries between w u l i
-    → LastRun trees workers listings faults between after u v i n
-    → ServedToEnd trees workers listings faults cut entries after w v l n
-ends_input trees workers listings faults cut last taken left bytes size entries now between after begun w u v l i n h is f g = record {
+pub ends_input : {D : Type 0} (known : Type 0) (trees : Trees) (workers : ℕ) (listings faults : D → ℕ) (cut : Cut) (last : ℕ) (taken left : List ParsedLine) (bytes size : ℕ) (entries : List Entry) (now between after : Moment) (begun : Bool)
+    (w u v : Option (List ℕ)) (l i n : List D) → (known → Served trees workers cut last taken bytes entries now) → begun ≡ is_cons taken
+    → Further known trees workers listings faults (if begun then end_round cut else cut) last left size entries between w u l i
+    → LastRun known trees workers listings faults between after u v i n
+    → ServedToEnd known trees workers listings faults cut entries after w v l n
+ends_input known trees workers listings faults cut last taken left bytes size entries now between after begun w u v l i n h is f g = record {
   more = f.more ++ g.entries;
-  legal = subst (λ es. AreLegal trees workers beginning (counted true cut) es after) (append_assoc entries f.more g.entries)
-      (legal_by trees workers cut last left size (entries ++ f.more) between g.entries after begun (is ∙ sym (same_cons cut.begun taken h.begun)) f.served g.last);
+  legal = λ k. subst (λ es. AreLegal trees workers beginning (counted true cut) es after) (append_assoc entries f.more g.entries)
+      (legal_by trees workers cut last left size (entries ++ f.more) between g.entries after begun (is ∙ sym (same_cons cut.begun taken (h k).begun)) (f.served k) (g.last k));
   lines = lines_both w u v f.more g.entries f.lines g.appended;
   tags = tags_both f.more g.entries f.tags g.tags;
   counts = counts_both listings faults 0 l i n f.more g.entries f.counts g.counts;

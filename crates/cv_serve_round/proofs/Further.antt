@@ -1,4 +1,4 @@
--- What a service does goes on by what it does next.
+-- What a service did goes on by what it does next.
 use Rattle.std.specs.Prelude.{◌≡◌, ℕ, suc, ◌+◌, Bool, true, false, ◌&&◌, nat_le, nat_lt, if◌then◌else◌, List, [], ◌∷◌, ◌++◌, length, Option, refl}
 use Rattle.std.specs.Io.KnownBytes.{Appends}
 use Rattle.std.specs.List.{AllByRecursion, AllZip, flat_map}
@@ -34,39 +34,26 @@ pub lines_both : (w m v : Option (List ℕ)) (xs ys : List Entry) → Appends w 
 lines_both w m v xs ys h k = subst (Appends w v) (sym (flat_map-append entry_text xs ys)) (Appends-trans w m v _ _ h k)
 
 -- nothing was done yet
-pub stays : {D : Type 0} (trees : Trees) (workers : ℕ) (listings faults : D → ℕ) (cut : Cut) (last : ℕ) (taken : List ParsedLine) (bytes : ℕ) (entries : List Entry) (now : Moment) (w : Option (List ℕ)) (l : List D)
-    → Served trees workers cut last taken bytes entries now → Further trees workers listings faults cut last taken bytes entries now w w l l
-stays trees workers listings faults cut last taken bytes entries now w l h = record {
+pub stays : {D : Type 0} (known : Type 0) (trees : Trees) (workers : ℕ) (listings faults : D → ℕ) (cut : Cut) (last : ℕ) (taken : List ParsedLine) (bytes : ℕ) (entries : List Entry) (now : Moment) (w : Option (List ℕ)) (l : List D)
+    → (known → Served trees workers cut last taken bytes entries now) → Further known trees workers listings faults cut last taken bytes entries now w w l l
+stays known trees workers listings faults cut last taken bytes entries now w l h = record {
   more = [];
-  served = subst (λ es. Served trees workers cut last taken bytes es now) (sym (append-nil entries)) h;
+  served = λ k. subst (λ es. Served trees workers cut last taken bytes es now) (sym (append-nil entries)) (h k);
   lines = Appends-nil w;
   tags = tt;
   counts = counts_none listings faults 0 l;
 }
 
 -- a round was run
-pub runs : {D : Type 0} (trees : Trees) (workers : ℕ) (listings faults : D → ℕ) (cut : Cut) (last : ℕ) (taken : List ParsedLine) (bytes : ℕ) (entries : List Entry) (now after : Moment) (w v : Option (List ℕ)) (l m : List D)
-    → Served trees workers cut last taken bytes entries now → RoundRun trees workers listings faults cut.begun now after w v l m
-    → Further trees workers listings faults (end_round cut) last [] 0 entries after w v l m
-runs trees workers listings faults cut last taken bytes entries now after w v l m h r = record {
-  more = r.entries;
-  served = ends_round trees workers cut last taken bytes entries now r.entries after h r.legal;
+pub runs : {D : Type 0} (known : Type 0) (trees : Trees) (workers : ℕ) (listings faults : D → ℕ) (cut : Cut) (last : ℕ) (taken : List ParsedLine) (bytes : ℕ) (entries : List Entry) (now after : Moment) (w v : Option (List ℕ)) (l m : List D)
+    → (known → Served trees workers cut last taken bytes entries now) → RoundRun known trees workers listings faults taken now after w v l m
+    → Further known trees workers listings faults (end_round cut) last [] 0 entries after w v l m
+runs known trees workers listings faults cut last taken bytes entries now after w v l m h r = record {
+  more = r.made.entries;
+  served = λ k. ends_round trees workers cut last taken bytes entries now r.made.entries after (h k) (r.made.legal k cut.begun last (h k).begun (h k).ascend);
   lines = r.appended;
-  tags = r.tags;
-  counts = r.counts;
-}
-
--- one thing after the other
-pub both : {D : Type 0} (trees : Trees) (workers : ℕ) (listings faults : D → ℕ) (cut : Cut) (last : ℕ) (taken : List ParsedLine) (bytes : ℕ) (entries first : List Entry) (now : Moment) (w m v : Option (List ℕ)) (l k n : List D)
-    → Appends w m (flat_map entry_text first) → AllByRecursion HasTag first → DesksCounted listings faults 0 l k first
-    → Further trees workers listings faults cut last taken bytes (entries ++ first) now m v k n
-    → Further trees workers listings faults cut last taken bytes entries now w v l n
-both trees workers listings faults cut last taken bytes entries first now w m v l k n lines tags counts g = record {
-  more = first ++ g.more;
-  served = subst (λ es. Served trees workers cut last taken bytes es now) (append_assoc entries first g.more) g.served;
-  lines = lines_both w m v first g.more lines g.lines;
-  tags = tags_both first g.more tags g.tags;
-  counts = counts_both listings faults 0 l k n first g.more counts g.counts;
+  tags = r.made.tags;
+  counts = r.made.counts;
 }
 
 -- a line came to the round that has begun
@@ -93,18 +80,18 @@ same_length [] (t ∷ ts) h = absurd h
 same_length (line ∷ lines) [] h = absurd h
 
 -- a round was run, and this is the one that has begun now
-pub runs_to : {D : Type 0} (trees : Trees) (workers : ℕ) (listings faults : D → ℕ) (cut to : Cut) (last : ℕ) (taken : List ParsedLine) (bytes : ℕ) (begun : RoundView) (entries : List Entry) (now after : Moment) (w v : Option (List ℕ)) (l m : List D)
-    → Served trees workers cut last taken bytes entries now → RoundRun trees workers listings faults cut.begun now after w v l m → to ≡ end_round cut → begun ≡ no_lines
-    → Further trees workers listings faults to last begun.taken begun.bytes entries after w v l m
-runs_to trees workers listings faults cut to last taken bytes begun entries now after w v l m h r to_is none =
-    subst (λ c. Further trees workers listings faults c last begun.taken begun.bytes entries after w v l m) (sym to_is)
-    (subst (λ (b : RoundView). Further trees workers listings faults (end_round cut) last b.taken b.bytes entries after w v l m) (sym none)
-    (runs trees workers listings faults cut last taken bytes entries now after w v l m h r))
+pub runs_to : {D : Type 0} (known : Type 0) (trees : Trees) (workers : ℕ) (listings faults : D → ℕ) (cut to : Cut) (last : ℕ) (taken : List ParsedLine) (bytes : ℕ) (begun : RoundView) (entries : List Entry) (now after : Moment) (w v : Option (List ℕ)) (l m : List D)
+    → (known → Served trees workers cut last taken bytes entries now) → RoundRun known trees workers listings faults taken now after w v l m → to ≡ end_round cut → begun ≡ no_lines
+    → Further known trees workers listings faults to last begun.taken begun.bytes entries after w v l m
+runs_to known trees workers listings faults cut to last taken bytes begun entries now after w v l m h r to_is none =
+    subst (λ c. Further known trees workers listings faults c last begun.taken begun.bytes entries after w v l m) (sym to_is)
+    (subst (λ (b : RoundView). Further known trees workers listings faults (end_round cut) last b.taken b.bytes entries after w v l m) (sym none)
+    (runs known trees workers listings faults cut last taken bytes entries now after w v l m h r))
 
-pub stays_at : {D : Type 0} (trees : Trees) (workers : ℕ) (listings faults : D → ℕ) (cut to : Cut) (last : ℕ) (taken : List ParsedLine) (bytes : ℕ) (entries : List Entry) (now : Moment) (w : Option (List ℕ)) (l : List D)
-    → Served trees workers cut last taken bytes entries now → to ≡ cut → Further trees workers listings faults to last taken bytes entries now w w l l
-stays_at trees workers listings faults cut to last taken bytes entries now w l h is =
-    subst (λ c. Further trees workers listings faults c last taken bytes entries now w w l l) (sym is) (stays trees workers listings faults cut last taken bytes entries now w l h)
+pub stays_at : {D : Type 0} (known : Type 0) (trees : Trees) (workers : ℕ) (listings faults : D → ℕ) (cut to : Cut) (last : ℕ) (taken : List ParsedLine) (bytes : ℕ) (entries : List Entry) (now : Moment) (w : Option (List ℕ)) (l : List D)
+    → (known → Served trees workers cut last taken bytes entries now) → to ≡ cut → Further known trees workers listings faults to last taken bytes entries now w w l l
+stays_at known trees workers listings faults cut to last taken bytes entries now w l h is =
+    subst (λ c. Further known trees workers listings faults c last taken bytes entries now w w l l) (sym is) (stays known trees workers listings faults cut last taken bytes entries now w l h)
 
 -- whether a line would make the round too long
 pub before_is : (trees : Trees) (workers : ℕ) (cut : Cut) (last : ℕ) (taken : List ParsedLine) (bytes more : ℕ) (entries : List Entry) (now : Moment) (line : Line) (b : Bool)
@@ -132,11 +119,17 @@ pub filled : (cut : Cut) (line : Line) → is_nil line.text ≡ false → cut_li
 filled cut line h = ap (λ b. if b then end_round cut else end_full round_limits (put_line line (end_before round_limits line cut))) h
 
 -- one thing after the other, up to a line
-pub further : {D : Type 0} (trees : Trees) (workers : ℕ) (listings faults : D → ℕ) (first next to : Cut) (last number at : ℕ) (taken begun : List ParsedLine) (bytes more : ℕ) (entries : List Entry) (now after : Moment)
-    (w m v : Option (List ℕ)) (l k n : List D) → (f : Further trees workers listings faults first last taken bytes entries now w m l k)
-    → Further trees workers listings faults next at begun more (entries ++ f.more) after m v k n → to ≡ next → number ≡ at
-    → Further trees workers listings faults to number begun more entries after w v l n
-further trees workers listings faults first next to last number at taken begun bytes more entries now after w m v l k n f g to_is number_is =
-    subst (λ c. Further trees workers listings faults c number begun more entries after w v l n) (sym to_is)
-    (subst (λ i. Further trees workers listings faults next i begun more entries after w v l n) (sym number_is)
-    (both trees workers listings faults next at begun more entries f.more after w m v l k n f.lines f.tags f.counts g))
+pub further : {D : Type 0} (known : Type 0) (trees : Trees) (workers : ℕ) (listings faults : D → ℕ) (first next to : Cut) (last number at : ℕ) (taken begun : List ParsedLine) (bytes more : ℕ) (entries : List Entry) (now after : Moment)
+    (w m v : Option (List ℕ)) (l k n : List D) → (f : Further known trees workers listings faults first last taken bytes entries now w m l k)
+    → Further known trees workers listings faults next at begun more (entries ++ f.more) after m v k n → (known → to ≡ next) → number ≡ at
+    → Further known trees workers listings faults to number begun more entries after w v l n
+further known trees workers listings faults first next to last number at taken begun bytes more entries now after w m v l k n f g to_is number_is = record {
+  more = f.more ++ g.more;
+  served = λ is.
+      subst (λ c. Served trees workers c number begun more (entries ++ (f.more ++ g.more)) after) (sym (to_is is))
+      (subst (λ i. Served trees workers next i begun more (entries ++ (f.more ++ g.more)) after) (sym number_is)
+      (subst (λ es. Served trees workers next at begun more es after) (append_assoc entries f.more g.more) (g.served is)));
+  lines = lines_both w m v f.more g.more f.lines g.lines;
+  tags = tags_both f.more g.more f.tags g.tags;
+  counts = counts_both listings faults 0 l k n f.more g.more f.counts g.counts;
+}

@@ -8,6 +8,7 @@ mod Queued
 pub mod ReplayLemmas
 pub mod SeatingLemmas
 mod Seats
+pub mod Stops
 pub mod WalkLemmas
 pub mod WholeLemmas
 mod Written

@@ -1,6 +1,7 @@
 //! The rounds of a service over a hub of `cv_hub`: it takes lines into the round that has begun, carries out each round that ends, eight
 //! lanes and the workers concurrently, and writes the round's lines. `specs/Round.antt` says what a round leaves of the desks and of the
-//! seats; its entries are a legal round of `cv_serve_legal`.
+//! seats; its entries are a legal round of `cv_serve_legal`. `specs/Further.antt` says what a service did, and what it leaves that stops
+//! because its output was not written or memory ran out.
 //!
 //! ```text
 //! let core = new_core(alloc)?;

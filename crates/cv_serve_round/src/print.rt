@@ -1,8 +1,9 @@
-ghost use Rattle.std.specs.Prelude.{◌≡◌, map, string_bytes, IfOk, OnOk};
+ghost use Rattle.std.specs.Prelude.{◌≡◌, map, string_bytes, IfOk, OnErr, OnOk};
 ghost use Rattle.std.specs.Io.KnownBytes.{Appends};
 ghost use Rattle.std.specs.List.{AllByRecursion, flat_map};
 ghost use Rattle.cv_seq.specs.Cause.{CausedBy};
 ghost use Rattle.cv_io.specs.Fault.{is_write_fault};
+ghost use Rattle.cv_io.specs.Writes.{AppendsPrefix};
 ghost use Rattle.cv_transcript.specs.Entry.{entry_text};
 ghost use Rattle.cv_serve_round.specs.Printed.{HasTag};
 
@@ -23,9 +24,10 @@ pub fn lines_of(alloc: Global, entries: &[Entry]) -> Result<Vec<String>, NoMemor
     Ok(lines)
 }
 
-/// Writes lines, each as one piece.
+/// Writes lines, each as one piece. After an `Err` it wrote some of them, and a front part of the next one.
 pub fn write_lines<K: Sink>(output: &mut K, lines: &[String]) -> Result<(), WriteError>
     ensures ok { OnOk result (Appends (K.contents output.old) (K.contents output.new) (flat_map (λ line. string_bytes line) lines.now)) }
+    ensures err { OnErr result (AppendsPrefix (K.contents output.old) (K.contents output.new) (flat_map (λ line. string_bytes line) lines.now)) }
     ensures cause { CausedBy (K.faults output.old) (K.faults output.new) (is_write_fault result) }
 {
     for line in lines {

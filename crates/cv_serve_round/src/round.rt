@@ -1,7 +1,9 @@
 ghost use Rattle.std.specs.Prelude.{◌≡◌, ◌+◌, ◌<◌, ◌^◌, length, take, drop, OnOk};
 ghost use Rattle.std.specs.List.{AllByRecursion};
 ghost use Rattle.cv_pool.specs.Hands.{AreSameHands};
+ghost use Rattle.cv_serve_crew.specs.code.Team.{AreLater};
 ghost use Rattle.cv_serve_dealing.specs.code.Dealt.{IsLanePrepared};
+ghost use Rattle.cv_serve_lanes.specs.Counts.{failures};
 ghost use Rattle.cv_serve_lanes.specs.code.Lane.{LanesDid};
 ghost use Rattle.cv_serve_lanes.specs.code.Worker.{AreDone, AreHandsPrepared, HaveRoom, WorkersDid};
 
@@ -36,6 +38,8 @@ pub fn run_all<D: Desk + Drop + Send + Sync, L: Identity + Send + Sync, W: Threa
     ensures workers { OnOk result (WorkersDid D.listings D.faults queue.now 0 hands.new (drop (length lanes.old) seats.old) (drop (length lanes.old) seats.new) desks.old desks.new) }
     ensures hands { OnOk result (AreSameHands hands.old hands.new × AreDone hands.new) }
     ensures room { OnOk result (HaveRoom D.listings (drop (length lanes.old) seats.new) desks.new) }
+    ensures listed { AreLater D.listings desks.old desks.new }
+    ensures failed { AreLater (failures D.faults) desks.old desks.new }
 {
     let team = LaneTeam { rt, hub };
     let crew = WorkerCrew {

@@ -1,19 +1,20 @@
-ghost use Rattle.std.specs.List.{AllByRecursion, AllZip};
-ghost use Rattle.std.specs.Prelude.{if◌then◌else◌, ◌+◌, ◌≡◌, IfOk, List, OnOk, length, map, string_bytes, ℕ};
+ghost use Rattle.std.specs.List.{AllByRecursion};
+ghost use Rattle.std.specs.Prelude.{if◌then◌else◌, ◌+◌, ◌≡◌, [], IfErr, IfOk, List, OnErr, OnOk, length, map, string_bytes, true, ℕ};
 ghost use Rattle.cv_base.specs.Texts.{is_cons, is_nil};
 ghost use Rattle.cv_hub.specs.Events.{state_of};
 ghost use Rattle.cv_io.specs.Fault.{is_write_fault};
-ghost use Rattle.cv_serve_legal.specs.Rounds.{Cut, Round as Lines, cut_line, end_round, round_limits};
-ghost use Rattle.cv_serve_legal.specs.Served.{LinesAscend, Served};
+ghost use Rattle.cv_serve_crew.specs.code.Team.{AreLater};
+ghost use Rattle.cv_serve_legal.specs.Rounds.{Cut, cut_line, end_round, round_limits};
+ghost use Rattle.cv_serve_legal.specs.Served.{Served};
 ghost use Rattle.cv_serve_legal.specs.ParsedLine.{IsTaken};
 ghost use Rattle.cv_core_machine.specs.Layers.{queued};
 ghost use Rattle.cv_core_machine.specs.Scans.{StatesEveryLayer, trees_of};
-ghost use Rattle.cv_serve_round.specs.Round.{IsSoundTaken, moment_of};
+ghost use Rattle.cv_serve_round.specs.Round.{IsSoundTaken, failures, moment_of};
 ghost use Rattle.cv_seq.specs.Cause.{CausedBy};
 ghost use Rattle.cv_transcript.specs.declared.entry.Entry.{Entry};
 ghost use Rattle.cv_serve_round.specs.Begun.{IsPrepared, line_at, no_lines};
-ghost use Rattle.cv_serve_round.specs.Further.{Further, ServedToEnd};
-ghost use Rattle.cv_serve_round.specs.code.LineParts.{LastRun, LegalTexts, RoundRun};
+ghost use Rattle.cv_serve_round.specs.Further.{Further, ServedToEnd, Stops, StopsAtEnd};
+ghost use Rattle.cv_serve_round.specs.code.LineParts.{LastRun, LegalTexts, RoundRun, RoundStops};
 
 use crate::begun::Round;
 use crate::print::{lines_of, write_lines};
@@ -47,10 +48,14 @@ pub fn take_line<
     text: &[u8],
 ) -> Result<(), WriteError>
     requires prepared { IsPrepared D.listings L.parts service.old.hub service.old.seats.items desks.old }
-    ensures further { StatesEveryLayer D.tree → (workers : ℕ) → length desks.old ≡ workers → (cut : Cut) (last : ℕ) (entries : List Entry) → number ≡ last + 1
-        → Served (trees_of D.tree) workers cut last round.old.taken round.old.bytes entries (moment_of (trees_of D.tree) L.limits service.old.hub)
-        → OnOk result (Further (trees_of D.tree) workers D.listings D.faults (cut_line round_limits cut (line_at number text.now)) number round.new.taken round.new.bytes entries (moment_of (trees_of D.tree) L.limits service.new.hub)
+    ensures further { (workers : ℕ) → length desks.old ≡ workers → (cut : Cut) (last : ℕ) (entries : List Entry) → number ≡ last + 1
+        → (StatesEveryLayer D.tree → Served (trees_of D.tree) workers cut last round.old.taken round.old.bytes entries (moment_of (trees_of D.tree) L.limits service.old.hub))
+        → OnOk result (Further (StatesEveryLayer D.tree) (trees_of D.tree) workers D.listings D.faults (cut_line round_limits cut (line_at number text.now)) number round.new.taken round.new.bytes entries (moment_of (trees_of D.tree) L.limits service.new.hub)
         (K.contents output.old) (K.contents output.new) desks.old desks.new) }
+    ensures stops { (workers : ℕ) → length desks.old ≡ workers → (cut : Cut) (last : ℕ) (entries : List Entry) → number ≡ last + 1
+        → (StatesEveryLayer D.tree → Served (trees_of D.tree) workers cut last round.old.taken round.old.bytes entries (moment_of (trees_of D.tree) L.limits service.old.hub))
+        → IfErr result (λ error. Stops (StatesEveryLayer D.tree) (trees_of D.tree) workers D.listings D.faults (cut_line round_limits cut (line_at number text.now)).rounds entries
+        (K.contents output.old) (K.contents output.new) desks.old desks.new error) }
     ensures prepared { OnOk result (IsPrepared D.listings L.parts service.new.hub service.new.seats.items desks.new) }
     ensures cause { CausedBy (K.faults output.old) (K.faults output.new) (is_write_fault result) }
 {
@@ -99,10 +104,15 @@ fn end_if<
     ends: bool,
 ) -> Result<(), WriteError>
     requires prepared { IsPrepared D.listings L.parts service.old.hub service.old.seats.items desks.old }
-    ensures further { StatesEveryLayer D.tree → (workers : ℕ) → length desks.old ≡ workers → (cut : Cut) (last : ℕ) (entries : List Entry)
-        → Served (trees_of D.tree) workers cut last round.old.taken round.old.bytes entries (moment_of (trees_of D.tree) L.limits service.old.hub)
-        → OnOk result (Further (trees_of D.tree) workers D.listings D.faults (if ends then end_round cut else cut) last round.new.taken round.new.bytes entries (moment_of (trees_of D.tree) L.limits service.new.hub)
+    ensures further { (workers : ℕ) → length desks.old ≡ workers → (cut : Cut) (last : ℕ) (entries : List Entry)
+        → (StatesEveryLayer D.tree → Served (trees_of D.tree) workers cut last round.old.taken round.old.bytes entries (moment_of (trees_of D.tree) L.limits service.old.hub))
+        → OnOk result (Further (StatesEveryLayer D.tree) (trees_of D.tree) workers D.listings D.faults (if ends then end_round cut else cut) last round.new.taken round.new.bytes entries (moment_of (trees_of D.tree) L.limits service.new.hub)
         (K.contents output.old) (K.contents output.new) desks.old desks.new) }
+    ensures stops { (workers : ℕ) → length desks.old ≡ workers → (cut : Cut) (last : ℕ) (entries : List Entry)
+        → (StatesEveryLayer D.tree → Served (trees_of D.tree) workers cut last round.old.taken round.old.bytes entries (moment_of (trees_of D.tree) L.limits service.old.hub))
+        → IfErr result (λ error. Stops (StatesEveryLayer D.tree) (trees_of D.tree) workers D.listings D.faults (end_round cut).rounds entries
+        (K.contents output.old) (K.contents output.new) desks.old desks.new error) }
+    ensures ended { OnErr result (ends ≡ true) }
     ensures begun { OnOk result (round.new ≡ (if ends then no_lines else round.old)) }
     ensures prepared { OnOk result (IsPrepared D.listings L.parts service.new.hub service.new.seats.items desks.new) }
     ensures cause { CausedBy (K.faults output.old) (K.faults output.new) (is_write_fault result) }
@@ -128,9 +138,12 @@ fn write_round<
     round: &mut Round,
 ) -> Result<(), WriteError>
     requires prepared { IsPrepared D.listings L.parts service.old.hub service.old.seats.items desks.old }
-    ensures ran { StatesEveryLayer D.tree → (workers : ℕ) → length desks.old ≡ workers → (lines : Lines) (last : ℕ) → AllZip IsTaken lines round.old.taken → LinesAscend lines last
-        → OnOk result (RoundRun (trees_of D.tree) workers D.listings D.faults lines (moment_of (trees_of D.tree) L.limits service.old.hub) (moment_of (trees_of D.tree) L.limits service.new.hub)
+    ensures ran { (workers : ℕ) → length desks.old ≡ workers
+        → OnOk result (RoundRun (StatesEveryLayer D.tree) (trees_of D.tree) workers D.listings D.faults round.old.taken (moment_of (trees_of D.tree) L.limits service.old.hub) (moment_of (trees_of D.tree) L.limits service.new.hub)
         (K.contents output.old) (K.contents output.new) desks.old desks.new) }
+    ensures stops { (workers : ℕ) → length desks.old ≡ workers
+        → IfErr result (λ error. RoundStops (StatesEveryLayer D.tree) (trees_of D.tree) workers D.listings D.faults round.old.taken (moment_of (trees_of D.tree) L.limits service.old.hub)
+        (K.contents output.old) (K.contents output.new) desks.old desks.new error) }
     ensures begins { round.new ≡ no_lines }
     ensures prepared { OnOk result (IsPrepared D.listings L.parts service.new.hub service.new.seats.items desks.new) }
     ensures cause { CausedBy (K.faults output.old) (K.faults output.new) (is_write_fault result) }
@@ -140,7 +153,7 @@ fn write_round<
     write_lines(output, lines.as_slice())
 }
 
-/// The lines of a round that is carried out.
+/// The lines of a round that is carried out. No count of a desk falls, whatever comes.
 fn round_lines<D: Desk + Drop + Send + Sync, L: Identity + Send + Sync, W: Threads + Wait + Sync>(
     rt: &W,
     alloc: Global,
@@ -150,8 +163,10 @@ fn round_lines<D: Desk + Drop + Send + Sync, L: Identity + Send + Sync, W: Threa
 ) -> Result<Vec<String>, NoMemory>
     requires sound { AllByRecursion IsSoundTaken taken.items }
     requires prepared { IsPrepared D.listings L.parts service.old.hub service.old.seats.items desks.old }
-    ensures legal { StatesEveryLayer D.tree → (workers : ℕ) → length desks.old ≡ workers → (lines : Lines) (last : ℕ) → AllZip IsTaken lines taken.items → LinesAscend lines last
-        → IfOk result (λ texts. LegalTexts (trees_of D.tree) workers D.listings D.faults lines (moment_of (trees_of D.tree) L.limits service.old.hub) desks.old (map (λ text. string_bytes text) texts.items) (moment_of (trees_of D.tree) L.limits service.new.hub) desks.new) }
+    ensures legal { (workers : ℕ) → length desks.old ≡ workers
+        → IfOk result (λ texts. LegalTexts (StatesEveryLayer D.tree) (trees_of D.tree) workers D.listings D.faults taken.items (moment_of (trees_of D.tree) L.limits service.old.hub) desks.old (map (λ text. string_bytes text) texts.items) (moment_of (trees_of D.tree) L.limits service.new.hub) desks.new) }
+    ensures listed { AreLater D.listings desks.old desks.new }
+    ensures failed { AreLater (failures D.faults) desks.old desks.new }
     ensures prepared { OnOk result (IsPrepared D.listings L.parts service.new.hub service.new.seats.items desks.new) }
 {
     let seats = service.seats.as_mut_slice();
@@ -159,7 +174,7 @@ fn round_lines<D: Desk + Drop + Send + Sync, L: Identity + Send + Sync, W: Threa
     lines_of(alloc, entries.as_slice())
 }
 
-/// Ends the input. The round that has begun is run, if it has a line, and then one more without requests, if a layer is queued.
+/// Ends the input. After an `Err` no further round is run. The round that has begun is run, if it has a line, and then one more without requests, if a layer is queued.
 pub fn end_input<
     K: Sink,
     D: Desk + Drop + Send + Sync,
@@ -174,10 +189,13 @@ pub fn end_input<
     mut round: Round,
 ) -> Result<(), WriteError>
     requires prepared { IsPrepared D.listings L.parts service.old.hub service.old.seats.items desks.old }
-    ensures legal { StatesEveryLayer D.tree → (workers : ℕ) → length desks.old ≡ workers → (cut : Cut) (last : ℕ) (entries : List Entry)
-        → Served (trees_of D.tree) workers cut last round.taken round.bytes entries (moment_of (trees_of D.tree) L.limits service.old.hub)
-        → OnOk result (ServedToEnd (trees_of D.tree) workers D.listings D.faults cut entries (moment_of (trees_of D.tree) L.limits service.new.hub)
+    ensures legal { (workers : ℕ) → length desks.old ≡ workers → (cut : Cut) (last : ℕ) (entries : List Entry)
+        → (StatesEveryLayer D.tree → Served (trees_of D.tree) workers cut last round.taken round.bytes entries (moment_of (trees_of D.tree) L.limits service.old.hub))
+        → OnOk result (ServedToEnd (StatesEveryLayer D.tree) (trees_of D.tree) workers D.listings D.faults cut entries (moment_of (trees_of D.tree) L.limits service.new.hub)
         (K.contents output.old) (K.contents output.new) desks.old desks.new) }
+    ensures stops { (workers : ℕ) → length desks.old ≡ workers → (cut : Cut) (last : ℕ) (entries : List Entry)
+        → (StatesEveryLayer D.tree → Served (trees_of D.tree) workers cut last round.taken round.bytes entries (moment_of (trees_of D.tree) L.limits service.old.hub))
+        → IfErr result (StopsAtEnd (StatesEveryLayer D.tree) (trees_of D.tree) workers D.listings D.faults cut entries (K.contents output.old) (K.contents output.new) desks.old desks.new) }
     ensures cause { CausedBy (K.faults output.old) (K.faults output.new) (is_write_fault result) }
 {
     let begun = round.has_lines();
@@ -199,8 +217,12 @@ fn end_queued<
     output: &mut K,
 ) -> Result<(), WriteError>
     requires prepared { IsPrepared D.listings L.parts service.old.hub service.old.seats.items desks.old }
-    ensures further { StatesEveryLayer D.tree → (workers : ℕ) → length desks.old ≡ workers → OnOk result (LastRun (trees_of D.tree) workers D.listings D.faults (moment_of (trees_of D.tree) L.limits service.old.hub) (moment_of (trees_of D.tree) L.limits service.new.hub)
+    ensures further { (workers : ℕ) → length desks.old ≡ workers
+        → OnOk result (LastRun (StatesEveryLayer D.tree) (trees_of D.tree) workers D.listings D.faults (moment_of (trees_of D.tree) L.limits service.old.hub) (moment_of (trees_of D.tree) L.limits service.new.hub)
         (K.contents output.old) (K.contents output.new) desks.old desks.new) }
+    ensures stops { (workers : ℕ) → length desks.old ≡ workers
+        → IfErr result (λ error. RoundStops (StatesEveryLayer D.tree) (trees_of D.tree) workers D.listings D.faults [] (moment_of (trees_of D.tree) L.limits service.old.hub)
+        (K.contents output.old) (K.contents output.new) desks.old desks.new error) }
     ensures cause { CausedBy (K.faults output.old) (K.faults output.new) (is_write_fault result) }
 {
     if !is_some_queued(rt, alloc, &service.hub)? {

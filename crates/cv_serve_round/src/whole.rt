@@ -6,8 +6,9 @@ ghost use Rattle.cv_serve_legal.specs.Round.{IsLegalRound};
 ghost use Rattle.cv_serve_legal.specs.ParsedLine.{IsTaken};
 ghost use Rattle.cv_serve_legal.specs.Served.{LinesAscend};
 ghost use Rattle.cv_pool.specs.Hands.{IsNewFill};
+ghost use Rattle.cv_serve_crew.specs.code.Team.{AreLater};
 ghost use Rattle.cv_serve_dealing.specs.Sound.{IsSoundRequest, IsSoundTaken};
-ghost use Rattle.cv_serve_round.specs.Round.{AreRoundSeats, DesksCounted, moment_of};
+ghost use Rattle.cv_serve_round.specs.Round.{AreRoundSeats, DesksCounted, failures, moment_of};
 ghost use Rattle.cv_serve_round.specs.code.Ran.{RoundRan};
 
 use crate::round::run_all;
@@ -25,7 +26,9 @@ use std::thread::Threads;
 
 /// Runs a round: the lanes beside each other, each with its requests in order, and beside them the workers, each with a desk of its
 /// own, which index the layers that were queued as the round began. The entries are those of the refused lines, and then the events and
-/// the reads in the transcript's order. If memory runs out, a part of the round may be carried out, and no further round may be run.
+/// the reads in the transcript's order. If memory runs out, a part of the round may be carried out, and no further round may be run. No
+/// count of a desk falls, whatever comes.
+#[tactic(auto, using(cv_serve_crew::proofs::Later::later_same))]
 pub fn run_round<D: Desk + Drop + Send + Sync, L: Identity + Send + Sync, W: Threads + Wait + Sync>(
     rt: &W,
     alloc: Global,
@@ -43,6 +46,8 @@ pub fn run_round<D: Desk + Drop + Send + Sync, L: Identity + Send + Sync, W: Thr
     ensures desks { IfOk result (λ entries. DesksCounted D.listings D.faults 0 desks.old desks.new entries.items) }
     ensures seats { OnOk result (AreRoundSeats L.parts (length desks.new) hub.new seats.new) }
     ensures room { OnOk result (AllByRecursion (λ desk. D.listings desk ≤ 2 ^ 62 + length hub.new) desks.new) }
+    ensures listed { AreLater D.listings desks.old desks.new }
+    ensures failed { AreLater (failures D.faults) desks.old desks.new }
 {
     let queue = hub.queued(rt, alloc)?;
     let (refused, requested) = divide(alloc, taken)?;
@@ -53,6 +58,7 @@ pub fn run_round<D: Desk + Drop + Send + Sync, L: Identity + Send + Sync, W: Thr
 }
 
 /// Runs the lanes of some requests beside the workers, and takes the events.
+#[tactic(auto, using(cv_serve_crew::proofs::Later::later_same))]
 fn run_parts<D: Desk + Drop + Send + Sync, L: Identity + Send + Sync, W: Threads + Wait + Sync>(
     rt: &W,
     alloc: Global,
@@ -69,6 +75,8 @@ fn run_parts<D: Desk + Drop + Send + Sync, L: Identity + Send + Sync, W: Threads
     ensures ran { IfOk result (λ ran. RoundRan D.tree L.limits D.listings D.faults hub.old hub.new requested.items queue.now desks.old desks.new ran.0.items ran.1.items) }
     ensures seats { OnOk result (AreRoundSeats L.parts (length desks.new) hub.new seats.new) }
     ensures room { OnOk result (AllByRecursion (λ desk. D.listings desk ≤ 2 ^ 62 + length hub.new) desks.new) }
+    ensures listed { AreLater D.listings desks.old desks.new }
+    ensures failed { AreLater (failures D.faults) desks.old desks.new }
 {
     let mut lanes = lanes_of(alloc, requested)?;
     let mut hands = hands_of(alloc, queue.len(), desks.len())?;

@@ -1,9 +1,9 @@
 -- What was read of an input, and what was done with it.
-use Rattle.std.specs.Prelude.{◌≡◌, ◌⊎◌, ⊤, ℕ, true, List, [], ◌++◌, length, Option, IfSome, IsSomeAnd, Result, Ok, Err}
+use Rattle.std.specs.Prelude.{◌≡◌, ◌⊎◌, ⊤, ℕ, true, List, [], ◌++◌, length, map, Option, IfSome, IsSomeAnd, Result, Ok, Err}
 use Rattle.std.specs.Io.KnownBytes.{Consumes}
 use Rattle.std.specs.List.{AllByRecursion}
 use Rattle.cv_base.specs.Lines.{numbered}
-use Rattle.cv_io.specs.Lines.{Reading, Stop, Finished, LongLine, LongInput}
+use Rattle.cv_io.specs.Lines.{Reading, Stop, Finished, LongLine, LongInput, text_of}
 use Rattle.cv_io.specs.code.Lines.{lines_then}
 use Rattle.cv_io.specs.Reader.{Reader}
 use Rattle.cv_io.specs.declared.line.LineError.TheVariants as line
@@ -31,18 +31,19 @@ StopsLines how (Err (stop.Input line.LineTooLong)) = how ≡ LongLine
 StopsLines how (Err (stop.Input line.InputTooLong)) = how ≡ LongInput
 StopsLines how (Err _) = ⊤
 
--- the bytes that were taken are whole lines, and what the reader holds
-pub record IsTakenLines (now : Reader) (before rest : Option (List ℕ)) : Type 0 where
+-- the bytes that were taken are whole lines, which these texts are, and what the reader holds
+pub record IsTakenLines (now : Reader) (before rest : Option (List ℕ)) (texts : List (List ℕ)) : Type 0 where
   pub pieces : List (List ℕ)
   pub lines : AllByRecursion IsPiece pieces
   pub front : Consumes before rest (ended_lines pieces ++ now.held)
   pub counted : now.taken ≡ length (ended_lines pieces ++ now.held)
+  pub texts_are : map text_of pieces ≡ texts
 
 -- so it is, or the last line was given, which ended with the input
-abbrev pub AreTaken : Reader → Option (List ℕ) → Option (List ℕ) → Type 0
-AreTaken now before rest = IsTakenLines now before rest ⊎ ((now.held ≡ []) × (now.ended ≡ true))
+abbrev pub AreTaken : Reader → Option (List ℕ) → Option (List ℕ) → List (List ℕ) → Type 0
+AreTaken now before rest texts = IsTakenLines now before rest texts ⊎ ((now.held ≡ []) × (now.ended ≡ true))
 
 -- what was done with these lines
-abbrev pub Done : {D : Type 0} → Trees → ℕ → (D → ℕ) → (D → ℕ) → List (List ℕ) → List ParsedLine → ℕ → Moment → Option (List ℕ) → Option (List ℕ) → List D → List D → Type 0
-Done trees workers listings faults texts taken bytes now written written_now desks desks_now =
-    Further trees workers listings faults (cut_lines round_limits (numbered 1 texts)) (length texts) taken bytes [] now written written_now desks desks_now
+abbrev pub Done : {D : Type 0} → Type 0 → Trees → ℕ → (D → ℕ) → (D → ℕ) → List (List ℕ) → List ParsedLine → ℕ → Moment → Option (List ℕ) → Option (List ℕ) → List D → List D → Type 0
+Done known trees workers listings faults texts taken bytes now written written_now desks desks_now =
+    Further known trees workers listings faults (cut_lines round_limits (numbered 1 texts)) (length texts) taken bytes [] now written written_now desks desks_now

@@ -1,5 +1,5 @@
 -- Work at the places of two slices beside each other.
-use Rattle.std.specs.Prelude.{⊤, ℕ, ◌+◌, List, ◌∷◌}
+use Rattle.std.specs.Prelude.{⊤, ℕ, ◌+◌, ◌≤◌, List, [], ◌∷◌}
 
 -- each place can be worked at
 abbrev pub ArePrepared : {S P : Type 0} → (S → P → Type 0) → List S → List P → Type 0
@@ -21,3 +21,9 @@ abbrev pub EachDidFrom : {H S K : Type 0} → (ℕ → H → H → S → S → K
 EachDidFrom did number (hand ∷ hands) (hand_after ∷ hands_after) (seat ∷ seats) (seat_after ∷ seats_after) (desk ∷ desks) (desk_after ∷ desks_after) =
     did number hand hand_after seat seat_after desk desk_after × EachDidFrom did (number + 1) hands hands_after seats seats_after desks desks_after
 EachDidFrom did number _ _ _ _ _ _ = ⊤
+
+-- a count of no desk fell
+abbrev pub AreLater : {K : Type 0} → (K → ℕ) → List K → List K → Type 0
+AreLater count [] [] = ⊤
+AreLater count (desk ∷ desks) (desk_after ∷ desks_after) = (count desk ≤ count desk_after) × AreLater count desks desks_after
+AreLater count _ _ = ⊥

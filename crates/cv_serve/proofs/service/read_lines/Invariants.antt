@@ -13,15 +13,15 @@ abbrev pub invariant-loop-text : goal.invariant-loop-text
 invariant-loop-text g l = record {
   not_spent : l.reader.spent ≡ false;
   lines : (texts : List (List ℕ)) × (length texts ≡ l.number) × HasRead (reading l.fn.reader (g.S.Source.remaining l.fn.input)) (reading l.reader (g.S.Source.remaining l.input)) texts
-      × (StatesEveryLayer g.D.Desk.tree → (workers : ℕ) → length l.fn.desks ≡ workers
-      → Done (trees_of g.D.Desk.tree) workers g.D.Desk.listings g.D.Desk.faults [] l.fn.round.taken l.fn.round.bytes (moment_of (trees_of g.D.Desk.tree) g.L.Identity.limits l.fn.service.hub) (g.K.Sink.contents l.fn.output) (g.K.Sink.contents l.fn.output) l.fn.desks l.fn.desks
-      → Done (trees_of g.D.Desk.tree) workers g.D.Desk.listings g.D.Desk.faults texts l.round.taken l.round.bytes (moment_of (trees_of g.D.Desk.tree) g.L.Identity.limits l.service.hub) (g.K.Sink.contents l.fn.output) (g.K.Sink.contents l.output) l.fn.desks l.desks);
+      × AreTaken l.reader (g.S.Source.remaining l.fn.input) (g.S.Source.remaining l.input) texts
+      × ((workers : ℕ) → length l.fn.desks ≡ workers
+      → Done (StatesEveryLayer g.D.Desk.tree) (trees_of g.D.Desk.tree) workers g.D.Desk.listings g.D.Desk.faults [] l.fn.round.taken l.fn.round.bytes (moment_of (trees_of g.D.Desk.tree) g.L.Identity.limits l.fn.service.hub) (g.K.Sink.contents l.fn.output) (g.K.Sink.contents l.fn.output) l.fn.desks l.fn.desks
+      → Done (StatesEveryLayer g.D.Desk.tree) (trees_of g.D.Desk.tree) workers g.D.Desk.listings g.D.Desk.faults texts l.round.taken l.round.bytes (moment_of (trees_of g.D.Desk.tree) g.L.Identity.limits l.service.hub) (g.K.Sink.contents l.fn.output) (g.K.Sink.contents l.output) l.fn.desks l.desks);
   seen : l.reader.ended ≡ true → IsAtEnd (g.S.Source.remaining l.input);
   limits : (l.reader.max_line ≡ 67108864) × (l.reader.max_input ≡ 2 ^ 36);
   taken : IsTakenTo l.fn.reader.taken l.reader.taken (g.S.Source.remaining l.fn.input) (g.S.Source.remaining l.input);
   prepared : IsPrepared g.D.Desk.listings g.L.Ledger.parts l.service.hub l.service.seats.items l.desks;
   count : length l.desks ≡ length l.fn.desks;
-  given : AreTaken l.reader (g.S.Source.remaining l.fn.input) (g.S.Source.remaining l.input);
   space : l.number + room_of l.reader ≤ 2 ^ 36;
   read_later : g.S.Source.faults l.fn.input ≤ g.S.Source.faults l.input;
   write_later : g.K.Sink.faults l.fn.output ≤ g.K.Sink.faults l.output;

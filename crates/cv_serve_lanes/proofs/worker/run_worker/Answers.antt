@@ -2,7 +2,7 @@ use Rattle.std.proofs.Common.{rules, arith, Some}
 use Rattle.cv_core_machine.specs.History.{act_name}
 use Rattle.cv_serve_lanes.specs.Counts.{RoseBy}
 use Rattle.cv_serve_lanes.specs.code.Worker.{EndsWork, fault_of}
-use Rattle.cv_serve_lanes.proofs.WorkerLemmas.{claim_refused, claim_settled, job_did, job_layer, same_next, settled_room}
+use Rattle.cv_serve_lanes.proofs.WorkerLemmas.{claim_refused, claim_settled, failed_once, job_did, job_layer, same_next, settled_room}
 use Rattle.cv_serve_lanes.proofs.worker.run_worker.Goals as goal
 
 -- the claim was granted: its layer was indexed, and the event says what became of it
@@ -21,6 +21,8 @@ loop-preserved g c =
           c.in-Some-next.ensures.hand (job_layer c.args.queue.now c.args.hand.now c.loop.hand c.in-Some-next.job layer c.requires.hand c.loop.invariant.3 c.in-Some-next.ensures.below c.index-queue-job.is) c.loop.invariant.1 one,
       settled_room c.args.worker layer _ _ c.loop.seat c.claim.new.seat c.settle.new.seat (g.D.Desk.listings c.loop.desk) (g.D.Desk.listings c.index-event.new.desk) claimed settled c.index-event.ensures.listed c.loop.invariant.2,
       same_next c.args.hand.now c.loop.hand c.next-in-loop.new.self (Some c.in-Some-next.job) c.loop.invariant.3 c.in-Some-next.ensures.hand,
+      omega (arith, c.loop.invariant.4, c.index-event.ensures.listed),
+      failed_once _ _ _ _ c.loop.invariant.5 c.index-event.ensures.failed,
     )
 
 -- it was not
@@ -35,4 +37,13 @@ loop-preserved-then-not-granted g c =
           c.in-Some-next.ensures.hand (job_layer c.args.queue.now c.args.hand.now c.loop.hand c.in-Some-next.job layer c.requires.hand c.loop.invariant.3 c.in-Some-next.ensures.below c.index-queue-job.is) c.loop.invariant.1 one,
       omega (arith, claimed.longer, c.loop.invariant.2),
       same_next c.args.hand.now c.loop.hand c.next-in-loop.new.self (Some c.in-Some-next.job) c.loop.invariant.3 c.in-Some-next.ensures.hand,
+      c.loop.invariant.4,
+      c.loop.invariant.5,
     )
+
+-- what became of the layer was not said
+pub returns-in_err-settle-clause-listed : goal.returns-in_err-settle-clause-listed
+returns-in_err-settle-clause-listed g c = omega (arith, c.loop.invariant.4, c.index-event.ensures.listed)
+
+pub returns-in_err-settle-clause-failed : goal.returns-in_err-settle-clause-failed
+returns-in_err-settle-clause-failed g c = failed_once _ _ _ _ c.loop.invariant.5 c.index-event.ensures.failed

@@ -1,19 +1,44 @@
 use Rattle.std.specs.Prelude.{[]}
-use Rattle.std.specs.List.{AllZip}
-use Rattle.std.proofs.Common.{subst, sym, ◌∙◌}
+use Rattle.std.proofs.Common.{inr, subst, sym, ◌∙◌}
+use Rattle.std.proofs.KnownBytes.{Appends-nil}
 use Rattle.std.proofs.lemmas.Result.{on_ok_weaker}
-use Rattle.cv_core_machine.specs.Scans.{trees_of}
-use Rattle.cv_serve_legal.specs.ParsedLine.{IsTaken}
+use Rattle.cv_io.specs.declared.write.WriteError.TheVariants as error
+use Rattle.cv_core_machine.specs.Scans.{StatesEveryLayer, trees_of}
 use Rattle.cv_serve_round.specs.Begun.{RoundView}
+use Rattle.cv_serve_round.specs.Round.{moment_of}
+use Rattle.cv_serve_round.specs.code.LineParts.{RoundRun, RoundStops}
+use Rattle.cv_serve_round.proofs.Counts.{at_least, counts_none}
 use Rattle.cv_serve_round.proofs.Queued.{no_layers, none_queued, some_queued}
+use Rattle.cv_serve_round.proofs.Written.{if_err_weaker, if_handed}
 use Rattle.cv_serve_round.proofs.rounds.end_queued.Goals as goal
 
 pub returns-then-not-branch-clause-further : goal.returns-then-not-branch-clause-further
-returns-then-not-branch-clause-further g c = λ known workers many.
-    none_queued (trees_of g.D.Desk.tree) workers g.D.Desk.listings g.D.Desk.faults _ _ _ (no_layers _ (sym (c.in_ok-is_some_queued.ensures known) ∙ c.if-not-branch.true))
+returns-then-not-branch-clause-further g c = λ workers many.
+    none_queued (StatesEveryLayer g.D.Desk.tree) (trees_of g.D.Desk.tree) workers g.D.Desk.listings g.D.Desk.faults _ _ _ (λ known. no_layers _ (sym (c.in_ok-is_some_queued.ensures known) ∙ c.if-not-branch.true))
 
 pub returns-clause-further : goal.returns-clause-further
-returns-clause-further g c = λ known workers many.
+returns-clause-further g c = λ workers many.
+    let trees = trees_of g.D.Desk.tree in
     on_ok_weaker c.write_round.result
-    (λ ran. some_queued (trees_of g.D.Desk.tree) workers g.D.Desk.listings g.D.Desk.faults _ _ _ _ _ _ (sym (c.in_ok-is_some_queued.ensures known) ∙ c.if-not-branch.false) ran)
-    (c.write_round.ensures.ran known workers many [] 0 (subst (λ (r : RoundView). AllZip IsTaken [] r.taken) (sym c.new-none.ensures) tt) tt)
+    (λ ran. some_queued (StatesEveryLayer g.D.Desk.tree) trees workers g.D.Desk.listings g.D.Desk.faults _ _ _ _ _ _ (λ known. sym (c.in_ok-is_some_queued.ensures known) ∙ c.if-not-branch.false)
+    (subst (λ (r : RoundView). RoundRun (StatesEveryLayer g.D.Desk.tree) trees workers g.D.Desk.listings g.D.Desk.faults r.taken (moment_of trees g.L.Identity.limits c.args.service.now.hub) (moment_of trees g.L.Identity.limits c.write_round.new.service.hub)
+    (g.K.Sink.contents c.args.output.now) (g.K.Sink.contents c.write_round.new.output) c.args.desks.now c.write_round.new.desks) c.new-none.ensures ran))
+    (c.write_round.ensures.ran workers many)
+
+pub returns-clause-stops : goal.returns-clause-stops
+returns-clause-stops g c = λ workers many.
+    let trees = trees_of g.D.Desk.tree in
+    if_err_weaker _ _ c.write_round.result
+    (λ error r. subst (λ (r : RoundView). RoundStops (StatesEveryLayer g.D.Desk.tree) trees workers g.D.Desk.listings g.D.Desk.faults r.taken (moment_of trees g.L.Identity.limits c.args.service.now.hub)
+    (g.K.Sink.contents c.args.output.now) (g.K.Sink.contents c.write_round.new.output) c.args.desks.now c.write_round.new.desks error) c.new-none.ensures r)
+    (c.write_round.ensures.stops workers many)
+
+-- whether a layer is queued was not found out
+pub returns-in_err-is_some_queued-clause-stops : goal.returns-in_err-is_some_queued-clause-stops
+returns-in_err-is_some_queued-clause-stops g c = λ workers many.
+    let desks = c.args.desks.now in
+    let written = g.K.Sink.contents c.args.output.now in
+    if_handed
+    (λ error. RoundStops (StatesEveryLayer g.D.Desk.tree) (trees_of g.D.Desk.tree) workers g.D.Desk.listings g.D.Desk.faults [] (moment_of (trees_of g.D.Desk.tree) g.L.Identity.limits c.args.service.now.hub) written written desks desks error)
+    error.NoMemory c.from_residual.result c.from_residual.ensures.1
+    (inr (record { unwritten = Appends-nil written; counts = at_least g.D.Desk.listings g.D.Desk.faults 0 desks desks [] (counts_none g.D.Desk.listings g.D.Desk.faults 0 desks) }))
