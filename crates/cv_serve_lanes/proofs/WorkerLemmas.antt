@@ -1,6 +1,6 @@
 -- What a worker does, job after job.
 use Rattle.std.proofs.Common.{◌≡◌, ℕ, ◌+◌, ◌-◌, ◌^◌, ◌<◌, ◌≤◌, Bool, true, false, List, [], ◌∷◌, ◌++◌, filter, length, map, None, Some, Option, refl, ap, sym, subst, ◌∙◌, arith, length-append}
-use Rattle.std.specs.Prelude.{get_or, min, OnOk, Result, Ok, Err}
+use Rattle.std.specs.Prelude.{get_or, OnOk, Result, Ok, Err}
 use Rattle.std.proofs.lemmas.List.{get_or_default, map-append}
 use Rattle.std.proofs.lemmas.List.Elements.{filter-append, filter_map-append}
 use Rattle.cv_base.proofs.AllItems.{all_both}
@@ -72,10 +72,6 @@ did_then worker first second a b c l f m g n h one two =
       listed = omega (arith, one.listed, two.listed, ap grant_count both, grants_both (map entry_of one.own) (map entry_of two.own));
       failed = rw (both, faults_both (map entry_of one.own) (map entry_of two.own)) (rose_then (fault_count (map entry_of one.own)) (fault_count (map entry_of two.own)) f g h one.failed two.failed);
     }
-
--- the failures that are counted do not fall by one job more
-pub failed_once : (times f g h : ℕ) → min f (2 ^ 64 - 1) ≤ min g (2 ^ 64 - 1) → RoseBy times g h → min f (2 ^ 64 - 1) ≤ min h (2 ^ 64 - 1)
-failed_once times f g h before rose = omega (arith, before, rose)
 
 -- ---- one job
 

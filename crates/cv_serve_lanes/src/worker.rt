@@ -1,9 +1,9 @@
-ghost use Rattle.std.specs.Prelude.{◌≡◌, ◌≤◌, ℕ, List, length, IfOk, OnOk};
+ghost use Rattle.std.specs.Prelude.{◌≡◌, ◌≤◌, ℕ, List, [], ◌∷◌, length, IfOk, OnOk};
 ghost use Rattle.cv_core_records.specs.declared.event.Act.TheVariants as name;
 ghost use Rattle.cv_serve_legal.specs.Parts.{is_grant};
 ghost use Rattle.cv_serve_lanes.specs.Core.{IsSound, act_of};
 ghost use Rattle.cv_serve_lanes.specs.Counts.{failures};
-ghost use Rattle.cv_serve_lanes.specs.code.Worker.{Claimed, HandDid, HasRoom, IsHandPrepared, Settled};
+ghost use Rattle.cv_serve_lanes.specs.code.Worker.{Claimed, HandDid, HasRoom, IsHandPrepared, Settled, WorkerDid};
 
 use crate::index::index;
 use cv_base::{Digest, NoMemory};
@@ -38,14 +38,34 @@ pub fn run_worker<D: Desk + Drop, L: Identity, W: Wait>(
             return Ok(());
         };
         let layer = queue[job as usize];
-        let granted = claim(rt, alloc, hub, worker, layer, seat)?;
-        if !granted {
-            continue;
-        }
-        let event = index(alloc, desk, layer, worker);
-        settle(rt, alloc, hub, worker, event, seat)?;
+        run_job(rt, alloc, hub, worker, layer, seat, desk)?;
     }
     unreachable!()
+}
+
+/// A worker claims a layer, and if that is granted, indexes it and says what became of it. It says that its desk failed only if the
+/// desk counted a failure in this very job. Whatever comes, no count of the desk falls.
+fn run_job<D: Desk + Drop, L: Identity, W: Wait>(
+    rt: &W,
+    alloc: Global,
+    hub: &Hub<D, L>,
+    worker: u32,
+    layer: Digest,
+    seat: &mut Seat<D, L>,
+    desk: &mut D,
+) -> Result<(), NoMemory>
+    requires desk { HasRoom D.listings seat.old desk.old }
+    ensures did { OnOk result (WorkerDid worker (layer ∷ []) seat.old (D.listings desk.old) (D.faults desk.old) seat.new (D.listings desk.new) (D.faults desk.new)) }
+    ensures room { OnOk result (HasRoom D.listings seat.new desk.new) }
+    ensures listed { D.listings desk.old ≤ D.listings desk.new }
+    ensures failed { failures D.faults desk.old ≤ failures D.faults desk.new }
+{
+    let granted = claim(rt, alloc, hub, worker, layer, seat)?;
+    if !granted {
+        return Ok(());
+    }
+    let event = index(alloc, desk, layer, worker);
+    settle(rt, alloc, hub, worker, event, seat)
 }
 
 /// A worker claims a layer, and learns whether the claim is granted.
