@@ -36,10 +36,8 @@ module _ {S D : Type 0} (trees : Trees) (remaining : S → Option (List ℕ)) (l
   service_ends None = (nothing_written world.written _, refl, refl)
   service_ends (Some workers) = (
     none_taken (2 ^ 36) (remaining world.input),
-    (
-      (refl, refl),
-      wrote_nothing (StatesEveryLayer trees) (trees_of trees) workers listings faults (remaining world.input) (remaining world.input) world.written (take workers world.desks),
-    ),
+    (refl, refl),
+    wrote_nothing (StatesEveryLayer trees) (trees_of trees) workers listings faults (remaining world.input) (remaining world.input) world.written (take workers world.desks),
   )
 
   -- nothing was read, written or listed
