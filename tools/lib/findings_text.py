@@ -6,7 +6,7 @@ import sys
 
 from texts import shortened
 
-# so much of a summary stands in a line of the table, and so many aliases
+# how much of a summary stands in a line of the table, and how many aliases
 LONGEST_SUMMARY = 60
 MOST_ALIASES = 2
 COLOURS = {"critical": "1;31", "high": "31", "medium": "33", "low": "36"}
