@@ -1,0 +1,159 @@
+"""The indexer: images are posted, their layers fetched and unpacked, and registered with the child."""
+
+import asyncio
+import hashlib
+import shutil
+from pathlib import Path
+from typing import Any
+
+from aiohttp import web
+
+from . import clair, manifests
+from .configuration import Configuration
+from .keeper import Keeper, register
+from .layers import Layers
+from .logs import note
+from .packages import PackageLists
+from .refusals import Refusal, not_found
+from .store import Image, Store
+
+FINISHED, FAILED, PENDING = "IndexFinished", "IndexError", "IndexPending"
+FIRST_PAUSE = 0.001
+LONGEST_PAUSE = 1.0
+MOST_DIGESTS = 1000
+
+
+class Indexer:
+    """What is done with the images of clients."""
+
+    def __init__(self, configuration: Configuration, store: Store, keeper: Keeper, layers: Layers):
+        self.configuration = configuration
+        self.store = store
+        self.keeper = keeper
+        self.layers = layers
+        self.lists = PackageLists(configuration.child.program, configuration.state, configuration.fetch.at_once)
+        # layers are removed only while no image is on its way
+        self.posts = 0
+
+    async def post(self, request: web.Request) -> web.Response:
+        """Indexes an image, and answers with its report when that is done."""
+        manifest = manifests.parse(request["body"])
+        self.posts += 1
+        try:
+            report = await self.index(manifest, request["lane"])
+        finally:
+            self.posts -= 1
+        return web.json_response(report, status=201, headers={"Location": f"/indexer/api/v1/index_report/{manifest.digest}"})
+
+    async def index(self, manifest: manifests.Manifest, lane: int) -> dict[str, Any]:
+        """The index report of an image, whose layers are brought first."""
+        diff_ids = [await self.layers.unpacked(layer) for layer in manifest.layers]
+        is_new = self.store.add_image(manifest.digest, diff_ids)
+        answer = await self.keeper.ask(register(manifest.digest, diff_ids), lane)
+        if answer.get("reply") not in ("registered", "already"):
+            if is_new:
+                self.store.drop_image(manifest.digest)
+            raise refusal_of(answer)
+        note("an image was registered", image=manifest.digest, layers=len(diff_ids), reply=answer["reply"])
+        return await self.finish(manifest.digest, diff_ids, lane)
+
+    async def finish(self, digest: str, diff_ids: list[str], lane: int) -> dict[str, Any]:
+        """Waits until an image is indexed, notes what was found, and gives the report."""
+        answer = await self.wait(digest, lane)
+        if answer["reply"] == "not_registered":
+            raise not_found("the image was deleted meanwhile")
+        packages = None
+        if answer["reply"] == "good":
+            known = self.store.image(digest)
+            packages = known.packages if known and known.packages is not None else await self.lists.packages(digest, diff_ids)
+        self.store.set_image(digest, state_of(answer), packages)
+        return report_of(digest, packages, answer)
+
+    async def wait(self, digest: str, lane: int) -> dict[str, Any]:
+        """The child's report of an image when its layers are indexed: each question is a round, and rounds index layers."""
+        pause = FIRST_PAUSE
+        end = asyncio.get_running_loop().time() + self.configuration.server.index_seconds
+        while True:
+            answer = await self.keeper.ask({"do": "report", "image": digest}, lane)
+            if answer.get("reply") not in ("pending", "good", "bad_image", "not_registered"):
+                raise refusal_of(answer)
+            if answer["reply"] != "pending" or asyncio.get_running_loop().time() > end:
+                return answer
+            await asyncio.sleep(pause)
+            pause = min(2 * pause, LONGEST_PAUSE)
+
+    def known(self, digest: str) -> Image:
+        """The image of a digest in a path."""
+        image = self.store.image(manifests.digest_of_path(digest))
+        if image is None:
+            raise not_found("the image is not registered")
+        return image
+
+    async def get(self, request: web.Request) -> web.Response:
+        """Answers with the index report of an image."""
+        image = self.known(request.match_info["digest"])
+        answer = await self.keeper.ask({"do": "report", "image": image.digest}, request["lane"])
+        if answer.get("reply") == "good" and image.packages is None:
+            return web.json_response(await self.finish(image.digest, image.layers, request["lane"]))
+        return web.json_response(report_of(image.digest, image.packages, answer))
+
+    async def delete(self, request: web.Request) -> web.Response:
+        """Drops an image."""
+        await self.drop(self.known(request.match_info["digest"]), request["lane"])
+        return web.Response(status=204)
+
+    async def delete_many(self, request: web.Request) -> web.Response:
+        """Drops the images of a list, and answers with those that were there."""
+        digests = manifests.parse_json(request["body"])
+        if not isinstance(digests, list) or len(digests) > MOST_DIGESTS or not all(map(manifests.is_digest, digests)):
+            raise Refusal(400, "bad-request", f"the body is not a list of at most {MOST_DIGESTS} digests")
+        dropped = []
+        for digest in dict.fromkeys(digests):
+            image = self.store.image(digest)
+            if image is not None:
+                await self.drop(image, request["lane"])
+                dropped.append(digest)
+        return web.json_response(dropped)
+
+    async def drop(self, image: Image, lane: int) -> None:
+        """Drops an image, first from the child and then from the state; and its layers, if no other image has them."""
+        answer = await self.keeper.ask({"do": "drop", "image": image.digest}, lane)
+        if answer.get("reply") not in ("dropped", "not_registered"):
+            raise refusal_of(answer)
+        self.store.drop_image(image.digest)
+        note("an image was dropped", image=image.digest)
+        if self.posts == 0:
+            await self.layers.remove_unused(image.layers)
+
+    async def state(self, _request: web.Request) -> web.Response:
+        """Answers with a text that changes when images may be found to have other packages: the sum of the program."""
+        program = shutil.which(self.configuration.child.program)
+        content = await asyncio.to_thread(Path(program).read_bytes) if program else b""
+        digest = hashlib.sha256(content).hexdigest()
+        return web.json_response({"state": digest}, headers={"ETag": f'"{digest}"'})
+
+
+def state_of(answer: dict[str, Any]) -> str:
+    """The state of an image by its report."""
+    return {"good": "good", "bad_image": "bad"}.get(answer["reply"], "pending")
+
+
+def report_of(digest: str, packages: list[dict[str, str]] | None, answer: dict[str, Any]) -> dict[str, Any]:
+    """The index report of an image by the child's report."""
+    if answer.get("reply") == "bad_image":
+        return clair.index_report(digest, None, FAILED, clair.reason_of(answer["bad"]))
+    if answer.get("reply") == "good":
+        return clair.index_report(digest, packages if packages is not None else answer["findings"], FINISHED)
+    return clair.index_report(digest, None, PENDING, "the layers are not indexed yet")
+
+
+def refusal_of(answer: dict[str, Any]) -> Refusal:
+    """What a request is answered that the child did not carry out."""
+    reply = answer.get("reply") or answer.get("refused")
+    if reply == "conflict":
+        return Refusal(409, "conflict", "the image is registered with other layers")
+    if reply == "too_many_images":
+        return Refusal(507, "too-many-images", "cvwatch takes no more images")
+    if reply == "no_memory":
+        return Refusal(503, "unavailable", "cvwatch is out of memory")
+    return Refusal(500, "internal", f"cvwatch answered {reply}")

@@ -1,0 +1,122 @@
+"""What each request goes through: it is counted and logged, checked for the token, and read within limits."""
+
+import asyncio
+import base64
+import binascii
+import errno
+import hmac
+import time
+from typing import Awaitable, Callable
+
+from aiohttp import web
+
+from .child import LANES
+from .connections import heard
+from .logs import logger, note
+from .metrics import Metrics
+from .refusals import Refusal
+
+Handler = Callable[[web.Request], Awaitable[web.StreamResponse]]
+# these answer without a token, as what asks for them has none
+OPEN_PATHS = ("/healthz", "/readyz")
+HEADERS = {
+    "Content-Security-Policy": "default-src 'none'; style-src 'self'; base-uri 'none'; form-action 'none'; frame-ancestors 'none'",
+    "X-Content-Type-Options": "nosniff",
+    "Referrer-Policy": "no-referrer",
+    "Cache-Control": "no-store",
+    "Server": "cvwatch-server",
+}
+
+
+def answer_of(refusal: Refusal) -> web.Response:
+    """The answer to a request that is refused."""
+    headers = {"Retry-After": "1"} if refusal.status == 503 else {}
+    return web.json_response(refusal.body(), status=refusal.status, headers=headers)
+
+
+def route_of(request: web.Request) -> str:
+    """The route of a request, without what its path names."""
+    resource = request.match_info.route.resource
+    return resource.canonical if resource is not None else "none"
+
+
+def counted(metrics: Metrics) -> Handler:
+    """Counts and logs each request."""
+
+    @web.middleware
+    async def middleware(request: web.Request, handler: Handler) -> web.StreamResponse:
+        heard(request)
+        began = time.monotonic()
+        response = await handler(request)
+        route, seconds = route_of(request), time.monotonic() - began
+        metrics.requests.labels(request.method if route != "none" else "none", route, str(response.status)).inc()
+        metrics.seconds.labels(route).observe(seconds)
+        note("request", method=request.method, path=request.path[:200], status=response.status, milliseconds=round(1000 * seconds, 1))
+        response.headers.update(HEADERS)
+        return response
+
+    return middleware
+
+
+@web.middleware
+async def refusing(request: web.Request, handler: Handler) -> web.StreamResponse:
+    """Answers in one form what is refused or fails."""
+    try:
+        return await handler(request)
+    except Refusal as refusal:
+        return answer_of(refusal)
+    except web.HTTPException as error:
+        return answer_of(Refusal(error.status, error.reason.lower().replace(" ", "-"), error.reason))
+    except ConnectionError:
+        raise
+    except OSError as error:
+        if error.errno in (errno.ENOSPC, errno.EDQUOT, errno.EMFILE, errno.ENFILE):
+            return answer_of(Refusal(507, "no-space", "the server has no room for this"))
+        logger.exception("a request failed")
+        return answer_of(Refusal(500, "internal", "the request failed"))
+    except Exception:  # pylint: disable=broad-exception-caught
+        logger.exception("a request failed")
+        return answer_of(Refusal(500, "internal", "the request failed"))
+
+
+def token_of(request: web.Request) -> str:
+    """The token of a request: that of `Bearer`, or the password of `Basic`, as browsers send it."""
+    kind, _, value = request.headers.get("Authorization", "").partition(" ")
+    if kind.lower() == "bearer":
+        return value.strip()
+    if kind.lower() == "basic":
+        try:
+            return base64.b64decode(value, validate=True).decode("utf-8").partition(":")[2]
+        except (binascii.Error, UnicodeDecodeError):
+            return ""
+    return ""
+
+
+def authorized(token: str) -> Handler:
+    """Refuses requests without the token."""
+
+    @web.middleware
+    async def middleware(request: web.Request, handler: Handler) -> web.StreamResponse:
+        if token and request.path not in OPEN_PATHS and not hmac.compare_digest(token_of(request).encode(), token.encode()):
+            response = answer_of(Refusal(401, "unauthorized", "a token is needed"))
+            response.headers["WWW-Authenticate"] = 'Basic realm="cvwatch"' if not request.path.count("/api/") else "Bearer"
+            return response
+        return await handler(request)
+
+    return middleware
+
+
+def read_body(seconds: float) -> Handler:
+    """Reads the body of a request, which has to come in time."""
+
+    @web.middleware
+    async def middleware(request: web.Request, handler: Handler) -> web.StreamResponse:
+        request["lane"] = id(request.transport) // 64 % LANES
+        try:
+            async with asyncio.timeout(seconds):
+                request["body"] = await request.read()
+        except TimeoutError:
+            raise Refusal(408, "timeout", "the body did not come in time") from None
+        return await handler(request)
+
+    return middleware
