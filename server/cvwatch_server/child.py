@@ -73,7 +73,8 @@ class Child:
         rounds = asyncio.create_task(self.rounds())
         try:
             await asyncio.wait({reading, rounds}, return_when=asyncio.FIRST_COMPLETED)
-            await asyncio.wait({reading}, timeout=STOP_SECONDS)
+            if rounds.done() and rounds.exception() is None:
+                await asyncio.wait({reading}, timeout=STOP_SECONDS)
         finally:
             rounds.cancel()
             reading.cancel()

@@ -32,30 +32,29 @@ class Indexer:
         self.keeper = keeper
         self.layers = layers
         self.lists = PackageLists(configuration.child.program, configuration.state, configuration.fetch.at_once)
-        # layers are removed only while no image is on its way
-        self.posts = 0
 
     async def post(self, request: web.Request) -> web.Response:
         """Indexes an image, and answers with its report when that is done."""
         manifest = manifests.parse(request["body"])
-        self.posts += 1
+        diff_ids: list[str] = []
         try:
-            report = await self.index(manifest, request["lane"])
+            for layer in manifest.layers:
+                diff_ids.append(await self.layers.unpacked(layer))
+            report = await self.index(manifest.digest, diff_ids, request["lane"])
         finally:
-            self.posts -= 1
+            await self.layers.release(diff_ids)
         return web.json_response(report, status=201, headers={"Location": f"/indexer/api/v1/index_report/{manifest.digest}"})
 
-    async def index(self, manifest: manifests.Manifest, lane: int) -> dict[str, Any]:
-        """The index report of an image, whose layers are brought first."""
-        diff_ids = [await self.layers.unpacked(layer) for layer in manifest.layers]
-        is_new = self.store.add_image(manifest.digest, diff_ids)
-        answer = await self.keeper.ask(register(manifest.digest, diff_ids), lane)
+    async def index(self, digest: str, diff_ids: list[str], lane: int) -> dict[str, Any]:
+        """The index report of an image, whose layers are there. It is kept before it is registered, so that it is not lost."""
+        is_new = self.store.add_image(digest, diff_ids)
+        answer = await self.keeper.ask(register(digest, diff_ids), lane)
         if answer.get("reply") not in ("registered", "already"):
             if is_new:
-                self.store.drop_image(manifest.digest)
+                self.store.drop_image(digest)
             raise refusal_of(answer)
-        note("an image was registered", image=manifest.digest, layers=len(diff_ids), reply=answer["reply"])
-        return await self.finish(manifest.digest, diff_ids, lane)
+        note("an image was registered", image=digest, layers=len(diff_ids), reply=answer["reply"])
+        return await self.finish(digest, diff_ids, lane)
 
     async def finish(self, digest: str, diff_ids: list[str], lane: int) -> dict[str, Any]:
         """Waits until an image is indexed, notes what was found, and gives the report."""
@@ -122,8 +121,7 @@ class Indexer:
             raise refusal_of(answer)
         self.store.drop_image(image.digest)
         note("an image was dropped", image=image.digest)
-        if self.posts == 0:
-            await self.layers.remove_unused(image.layers)
+        await self.layers.remove_unused(image.layers)
 
     async def state(self, _request: web.Request) -> web.Response:
         """Answers with a text that changes when images may be found to have other packages: the sum of the program."""

@@ -6,6 +6,7 @@ import os
 import resource
 import shutil
 import tempfile
+from collections import Counter
 from pathlib import Path
 
 from .configuration import Configuration, Fetch
@@ -146,6 +147,8 @@ class Layers:
         self.final = configuration.state / "layers" / "sha256"
         self.work = configuration.state / "work"
         self.slots = asyncio.Semaphore(self.settings.at_once)
+        # how many images on their way have a layer
+        self.held: Counter[str] = Counter()
         # a blob that several clients post at once is fetched once; blobs share these locks by their last digits
         self.locks = [asyncio.Lock() for _ in range(256)]
 
@@ -164,13 +167,19 @@ class Layers:
         return self.final / diff_id.removeprefix("sha256:")
 
     async def unpacked(self, layer: Layer) -> str:
-        """The diff ID of a layer whose folder is there: it is fetched and unpacked, unless it was before."""
+        """The diff ID of a layer whose folder is there: it is fetched and unpacked, unless it was before. It stays until `release`."""
         async with self.locks[int(layer.digest[-2:], 16)]:
             diff_id = self.store.diff_id(layer.digest)
-            if diff_id is not None and self.folder(diff_id).is_dir():
-                return diff_id
-            async with self.slots:
-                return await self.bring(layer)
+            if diff_id is None or not self.folder(diff_id).is_dir():
+                async with self.slots:
+                    diff_id = await self.bring(layer)
+            self.held[diff_id] += 1
+            return diff_id
+
+    async def release(self, diff_ids: list[str]) -> None:
+        """Lets layers be removed that no image has."""
+        self.held.subtract(diff_ids)
+        await self.remove_unused(diff_ids)
 
     async def bring(self, layer: Layer) -> str:
         """Fetches and unpacks a layer. What is not whole is removed."""
@@ -204,8 +213,9 @@ class Layers:
     async def remove_unused(self, diff_ids: list[str]) -> None:
         """Removes the folders of layers that no image has. Their blobs are fetched again when an image needs them."""
         for diff_id in dict.fromkeys(diff_ids):
-            if self.store.uses_layer(diff_id) or not self.folder(diff_id).is_dir():
+            if self.held[diff_id] > 0 or self.store.uses_layer(diff_id) or not self.folder(diff_id).is_dir():
                 continue
+            del self.held[diff_id]
             try:
                 gone = Path(tempfile.mkdtemp(dir=self.work))
                 os.rename(self.folder(diff_id), gone / "tree")
