@@ -25,6 +25,8 @@ from .store import Store
 
 STOP_SECONDS = 60.0
 KEEP_ALIVE_SECONDS = 75.0
+# answers that are being written at the end get so long
+CLOSE_SECONDS = 5.0
 
 
 class Application:
@@ -53,7 +55,8 @@ class Application:
             middlewares.counted(self.metrics),
             middlewares.refusing,
             middlewares.authorized(self.configuration.token()),
-            middlewares.read_body(settings.request_seconds),
+            middlewares.without_browsers,
+            middlewares.Bodies(settings.body_bytes, settings.all_bodies_bytes, settings.request_seconds).middleware(),
         ]
         found = web.Application(middlewares=steps, client_max_size=settings.body_bytes)  # type: ignore[arg-type]
         report, one = "/indexer/api/v1/index_report", "/indexer/api/v1/index_report/{digest}"
@@ -94,6 +97,7 @@ class Application:
             yield server.sockets[0].getsockname()[1]
         finally:
             server.close()
+            await manager.shutdown(CLOSE_SECONDS)
             await runner.cleanup()
 
     async def close(self) -> None:

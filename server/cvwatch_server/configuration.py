@@ -29,7 +29,8 @@ class Server:
     token_file: str = ""
     tools: str = ""
     body_bytes: int = 4 * MEBIBYTE
-    connections: int = 4096
+    all_bodies_bytes: int = 256 * MEBIBYTE
+    connections: int = 1024
     request_seconds: float = 30.0
     index_seconds: float = 60.0
 

@@ -14,7 +14,7 @@ from .child import LANES
 from .connections import heard
 from .logs import logger, note
 from .metrics import Metrics
-from .refusals import Refusal
+from .refusals import Refusal, unavailable
 
 Handler = Callable[[web.Request], Awaitable[web.StreamResponse]]
 # these answer without a token, as what asks for them has none
@@ -79,12 +79,17 @@ async def refusing(request: web.Request, handler: Handler) -> web.StreamResponse
         return answer_of(Refusal(500, "internal", "the request failed"))
 
 
+def is_for_programs(request: web.Request) -> bool:
+    """Whether a path is one of the interface, and not of a page."""
+    return "/api/" in request.path
+
+
 def token_of(request: web.Request) -> str:
-    """The token of a request: that of `Bearer`, or the password of `Basic`, as browsers send it."""
+    """The token of a request: that of `Bearer`, or for a page the password of `Basic`, as browsers send it."""
     kind, _, value = request.headers.get("Authorization", "").partition(" ")
     if kind.lower() == "bearer":
         return value.strip()
-    if kind.lower() == "basic":
+    if kind.lower() == "basic" and not is_for_programs(request):
         try:
             return base64.b64decode(value, validate=True).decode("utf-8").partition(":")[2]
         except (binascii.Error, UnicodeDecodeError):
@@ -99,24 +104,61 @@ def authorized(token: str) -> Handler:
     async def middleware(request: web.Request, handler: Handler) -> web.StreamResponse:
         if token and request.path not in OPEN_PATHS and not hmac.compare_digest(token_of(request).encode(), token.encode()):
             response = answer_of(Refusal(401, "unauthorized", "a token is needed"))
-            response.headers["WWW-Authenticate"] = 'Basic realm="cvwatch"' if not request.path.count("/api/") else "Bearer"
+            response.headers["WWW-Authenticate"] = "Bearer" if is_for_programs(request) else 'Basic realm="cvwatch"'
             return response
         return await handler(request)
 
     return middleware
 
 
-def read_body(seconds: float) -> Handler:
-    """Reads the body of a request, which has to come in time."""
+@web.middleware
+async def without_browsers(request: web.Request, handler: Handler) -> web.StreamResponse:
+    """Refuses changes that a page in a browser asks for: a foreign page could do so, and those of the server never do."""
+    if request.method not in ("GET", "HEAD") and "Origin" in request.headers:
+        raise Refusal(403, "forbidden", "pages of browsers may only read")
+    return await handler(request)
 
-    @web.middleware
-    async def middleware(request: web.Request, handler: Handler) -> web.StreamResponse:
+
+class Bodies:
+    """The bodies that are in memory: each within a limit, and all together within another."""
+
+    def __init__(self, longest: int, most: int, seconds: float):
+        self.longest = longest
+        self.most = most
+        self.seconds = seconds
+        self.used = 0
+
+    def size_of(self, request: web.Request) -> int:
+        """How many bytes a body may have: by its header, or else as many as one may."""
+        if not request.can_read_body:
+            return 0
+        size = self.longest if request.content_length is None else request.content_length
+        if size > self.longest:
+            raise Refusal(413, "too-large", f"a body has at most {self.longest} bytes")
+        if self.used + size > self.most:
+            raise unavailable("too many bodies are read now")
+        return size
+
+    async def read(self, request: web.Request, handler: Handler) -> web.StreamResponse:
+        """Reads the body of a request, which has to come in time, and keeps count of it until it is answered."""
         request["lane"] = id(request.transport) // 64 % LANES
+        size = self.size_of(request)
+        self.used += size
         try:
-            async with asyncio.timeout(seconds):
+            async with asyncio.timeout(self.seconds):
                 request["body"] = await request.read()
         except TimeoutError:
             raise Refusal(408, "timeout", "the body did not come in time") from None
-        return await handler(request)
+        else:
+            return await handler(request)
+        finally:
+            self.used -= size
 
-    return middleware
+    def middleware(self) -> Handler:
+        """The step that reads bodies."""
+
+        @web.middleware
+        async def middleware(request: web.Request, handler: Handler) -> web.StreamResponse:
+            return await self.read(request, handler)
+
+        return middleware

@@ -1,5 +1,6 @@
 """The pages for people: images, the findings of one, notifications and feeds. They are rendered here, and have no script."""
 
+import asyncio
 import datetime
 import time
 from collections import Counter
@@ -69,7 +70,7 @@ class Pages:
         images = list(self.store.images(IMAGES_OF_PAGE, (number - 1) * IMAGES_OF_PAGE))
         return self.page(
             "front.html",
-            images=[await self.line_of(image, request["lane"]) for image in images],
+            images=await asyncio.gather(*(self.line_of(image, request["lane"]) for image in images)),
             count=count,
             number=number,
             has_more=number * IMAGES_OF_PAGE < count,

@@ -22,7 +22,7 @@ from typing import Any, Callable, Iterator
 ROOT = Path(__file__).resolve().parents[2]
 SERVER = ROOT / "server" / "cvwatch-server"
 TOOLS = ROOT / "tools"
-PATIENCE = 30.0
+PATIENCE = 120.0
 DEBIAN = b'PRETTY_NAME="Debian GNU/Linux 12 (bookworm)"\nID=debian\nVERSION_ID="12"\n'
 
 
