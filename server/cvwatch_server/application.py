@@ -58,7 +58,7 @@ class Application:
             middlewares.without_browsers,
             middlewares.Bodies(settings.body_bytes, settings.all_bodies_bytes, settings.request_seconds).middleware(),
         ]
-        found = web.Application(middlewares=steps, client_max_size=settings.body_bytes)  # type: ignore[arg-type]
+        found = web.Application(middlewares=steps, client_max_size=settings.body_bytes)
         report, one = "/indexer/api/v1/index_report", "/indexer/api/v1/index_report/{digest}"
         notification = "/notifier/api/v1/notification/{id}"
         found.add_routes([
@@ -86,8 +86,9 @@ class Application:
         settings = self.configuration.server
         runner = web.AppRunner(self.web(), access_log=None, handle_signals=False)
         await runner.setup()
-        manager, limits = runner.server, Limits(settings.connections, settings.request_seconds, self.metrics)
-        assert manager is not None
+        assert runner.server is not None
+        manager: web.Server = runner.server
+        limits = Limits(settings.connections, settings.request_seconds, self.metrics)
         loop = asyncio.get_running_loop()
         options = {"loop": loop, "access_log": None, "logger": logger, "keepalive_timeout": KEEP_ALIVE_SECONDS}
         server = await loop.create_server(
@@ -133,8 +134,6 @@ async def guarded(work: Coroutine[None, None, None]) -> None:
     """Logs what a task fails with."""
     try:
         await work
-    except asyncio.CancelledError:
-        raise
     except Exception:  # pylint: disable=broad-exception-caught
         logger.exception("a task failed")
 

@@ -3,11 +3,12 @@
 import dataclasses
 import ipaddress
 import re
-import tomllib
 import types
 import typing
 from pathlib import Path
 from typing import Any, TypeVar
+
+import tomllib
 
 MEBIBYTE = 1 << 20
 GIBIBYTE = 1 << 30

@@ -9,6 +9,8 @@ from aiohttp import web
 from .metrics import Metrics
 
 BUSY = b"HTTP/1.1 503 Service Unavailable\r\nContent-Length: 0\r\nConnection: close\r\nRetry-After: 1\r\n\r\n"
+# the option TCP_USER_TIMEOUT of Linux
+USER_TIMEOUT = 18
 LATE = b"HTTP/1.1 408 Request Timeout\r\nContent-Length: 0\r\nConnection: close\r\n\r\n"
 
 
@@ -43,7 +45,7 @@ class GuardedConnection(web.RequestHandler):
         self.limits.metrics.connections.set(self.limits.open)
         # a client that reads nothing of its answer is given up as one whose host is gone
         milliseconds = int(1000 * self.limits.seconds)
-        transport.get_extra_info("socket").setsockopt(socket.IPPROTO_TCP, socket.TCP_USER_TIMEOUT, milliseconds)
+        transport.get_extra_info("socket").setsockopt(socket.IPPROTO_TCP, USER_TIMEOUT, milliseconds)
         self._loop.call_later(self.limits.seconds, self.close_if_silent)
 
     def refuse(self, answer: bytes) -> None:

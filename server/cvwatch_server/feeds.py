@@ -115,7 +115,7 @@ class Feeds:
             new_mark = f"{found.st_mtime_ns}-{found.st_size}-{found.st_ino}"
             if new_mark == mark:
                 return None
-            await asyncio.to_thread(shutil.copyfile, feed.file, file)
+            await asyncio.to_thread(copy, feed.file, file)
             return new_mark
         headers = (("If-None-Match", mark),) if mark else ()
         fetched = await self.fetcher.fetch(Request(feed.url, headers, feed.bytes), file)
@@ -173,6 +173,11 @@ class Feeds:
             await self.notifier.keep(part.generation, part.name, change)
         await asyncio.to_thread(self.records.apply, part, change)
         self.records.forget(part, change)
+
+
+def copy(source: str, target: Path) -> None:
+    """Copies a file."""
+    shutil.copyfile(source, target)
 
 
 def read_lines(file: Path) -> dict[str, bytes]:

@@ -118,4 +118,3 @@ class Fetcher:
                 digest.update(chunk)
                 output.write(chunk)
         return Fetched(200, f"sha256:{digest.hexdigest()}", response.headers.get("ETag", ""))
-

@@ -2,6 +2,7 @@
 
 import asyncio
 import fcntl
+import logging
 import os
 from typing import Any, Awaitable, Callable
 
@@ -93,7 +94,7 @@ class Keeper:
         restoring = asyncio.create_task(self.restore(child))
         try:
             status = await running
-            warn("the child ended", status=status) if not self.is_stopping.is_set() else note("the child ended", status=status)
+            note("the child ended", logging.INFO if self.is_stopping.is_set() else logging.WARNING, status=status)
         finally:
             self.is_ready.clear()
             self.metrics.is_ready.set(0)

@@ -20,10 +20,6 @@ class Matcher:
         self.store = store
         self.records = records
         self.keeper = keeper
-        import findings  # pylint: disable=import-outside-toplevel,import-error
-
-        # of tools/lib, as that of the records
-        self.findings = findings
 
     async def answer(self, digest: str, lane: int) -> dict[str, Any]:
         """The child's report of an image that is registered."""

@@ -17,6 +17,7 @@ from .metrics import Metrics
 from .refusals import Refusal, unavailable
 
 Handler = Callable[[web.Request], Awaitable[web.StreamResponse]]
+Middleware = Callable[[web.Request, Handler], Awaitable[web.StreamResponse]]
 # these answer without a token, as what asks for them has none
 OPEN_PATHS = ("/healthz", "/readyz")
 HEADERS = {
@@ -40,7 +41,7 @@ def route_of(request: web.Request) -> str:
     return resource.canonical if resource is not None else "none"
 
 
-def counted(metrics: Metrics) -> Handler:
+def counted(metrics: Metrics) -> Middleware:
     """Counts and logs each request."""
 
     @web.middleware
@@ -97,7 +98,7 @@ def token_of(request: web.Request) -> str:
     return ""
 
 
-def authorized(token: str) -> Handler:
+def authorized(token: str) -> Middleware:
     """Refuses requests without the token."""
 
     @web.middleware
@@ -154,7 +155,7 @@ class Bodies:
         finally:
             self.used -= size
 
-    def middleware(self) -> Handler:
+    def middleware(self) -> Middleware:
         """The step that reads bodies."""
 
         @web.middleware

@@ -92,7 +92,7 @@ class Pages:
 
     def rows_of(self, answer: dict[str, Any]) -> list[Any]:
         """The findings as `findings-table` shows them, the greatest severity first."""
-        findings = self.matcher.findings
+        findings = self.matcher.records.findings
         image = findings.Image(answer)
         rows = []
         for finding in answer["findings"]:
@@ -142,8 +142,8 @@ class Pages:
             count = sum(1 for one in notifications if bool(one.is_taken) == is_taken)
             self.metrics.notifications.labels(str(is_taken).lower()).set(count)
         for feed in self.configuration.feeds:
-            state = self.store.feed(feed.name)
-            self.metrics.feed_records.labels(feed.name).set(state.records)
-            if state.fresh is not None:
-                self.metrics.feed_age.labels(feed.name).set(time.time() - state.fresh)
+            kept = self.store.feed(feed.name)
+            self.metrics.feed_records.labels(feed.name).set(kept.records)
+            if kept.fresh is not None:
+                self.metrics.feed_age.labels(feed.name).set(time.time() - kept.fresh)
         return web.Response(body=self.metrics.text(), headers={"Content-Type": "text/plain; version=0.0.4; charset=utf-8"})

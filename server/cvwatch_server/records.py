@@ -3,6 +3,7 @@
 import collections
 import contextlib
 import dataclasses
+import importlib
 import sys
 from pathlib import Path
 from typing import Any, Callable
@@ -45,11 +46,11 @@ class Records:
         self.path = path
         self.connection = connect(path, SCHEMA)
         self.read: collections.OrderedDict[tuple[str, str], Any] = collections.OrderedDict()
+        # what `findings-table` shows of records and findings is shown here too
         if str(tools / "lib") not in sys.path:
             sys.path.insert(0, str(tools / "lib"))
-        import osv_records  # pylint: disable=import-outside-toplevel,import-error
-
-        self.osv_records = osv_records
+        self.osv_records = importlib.import_module("osv_records")
+        self.findings = importlib.import_module("findings")
 
     def close(self) -> None:
         """Ends the connection."""
@@ -76,7 +77,7 @@ class Records:
     def lines(self, part: str) -> dict[str, bytes]:
         """The records of a part by their ids."""
         with contextlib.closing(connect(self.path, SCHEMA)) as connection:
-            return dict(map(tuple, connection.execute("SELECT id, line FROM record WHERE part = ? ORDER BY id", (part,))))
+            return {row[0]: row[1] for row in connection.execute("SELECT id, line FROM record WHERE part = ? ORDER BY id", (part,))}
 
     def change(self, part: str, lines: dict[str, bytes]) -> Change:
         """What is to be done for the part to have these records."""
@@ -92,11 +93,12 @@ class Records:
     def apply(self, part: Part, change: Change) -> None:
         """Keeps the records of a part as they were sent, in one transaction."""
         rows = ((part.name, name, line) for name, line in change.changed.items())
-        with contextlib.closing(connect(self.path, SCHEMA)) as connection, connection:
+        with contextlib.closing(connect(self.path, SCHEMA)) as connection:
             connection.execute("BEGIN IMMEDIATE")
             connection.executemany("DELETE FROM record WHERE part = ? AND id = ?", ((part.name, name) for name in change.removed))
             connection.executemany("INSERT OR REPLACE INTO record VALUES (?, ?, ?)", rows)
             connection.execute("INSERT OR REPLACE INTO part VALUES (?, ?, ?)", dataclasses.astuple(part))
+            connection.execute("COMMIT")
 
     def forget(self, part: Part, change: Change) -> None:
         """Forgets what was read of records that changed."""

@@ -110,7 +110,7 @@ class Store:
 
     def images_by_state(self) -> dict[str, int]:
         """How many images there are in each state."""
-        return dict(map(tuple, self.all("SELECT state, count(*) FROM image GROUP BY state")))
+        return {row[0]: row[1] for row in self.all("SELECT state, count(*) FROM image GROUP BY state")}
 
     def set_image(self, digest: str, state: str, packages: list[dict[str, str]] | None) -> None:
         """Notes what is known of an image."""
