@@ -90,7 +90,7 @@ class Application:
         manager: web.Server = runner.server
         limits = Limits(settings.connections, settings.request_seconds, self.metrics)
         loop = asyncio.get_running_loop()
-        options = {"loop": loop, "access_log": None, "logger": logger, "keepalive_timeout": KEEP_ALIVE_SECONDS}
+        options = {"loop": loop, "access_log": None, "logger": logger, "keepalive_timeout": KEEP_ALIVE_SECONDS, "auto_decompress": False}
         server = await loop.create_server(
             lambda: GuardedConnection(manager, limits, **options), settings.listen, settings.port, backlog=1024, reuse_address=True
         )

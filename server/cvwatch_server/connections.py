@@ -9,6 +9,8 @@ from aiohttp import web
 from .metrics import Metrics
 
 BUSY = b"HTTP/1.1 503 Service Unavailable\r\nContent-Length: 0\r\nConnection: close\r\nRetry-After: 1\r\n\r\n"
+# so many requests of one connection may wait for the one before them
+MOST_WAITING = 100
 # the option TCP_USER_TIMEOUT of Linux
 USER_TIMEOUT = 18
 LATE = b"HTTP/1.1 408 Request Timeout\r\nContent-Length: 0\r\nConnection: close\r\n\r\n"
@@ -47,6 +49,12 @@ class GuardedConnection(web.RequestHandler):
         milliseconds = int(1000 * self.limits.seconds)
         transport.get_extra_info("socket").setsockopt(socket.IPPROTO_TCP, USER_TIMEOUT, milliseconds)
         self._loop.call_later(self.limits.seconds, self.close_if_silent)
+
+    def data_received(self, data: bytes) -> None:
+        """Takes bytes, and ends a connection that sends many requests without waiting for answers."""
+        super().data_received(data)
+        if len(self._messages) > MOST_WAITING:
+            self.force_close()
 
     def refuse(self, answer: bytes) -> None:
         """Ends the connection with an answer."""

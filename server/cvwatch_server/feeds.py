@@ -13,7 +13,7 @@ from typing import Any
 from .configuration import Configuration, Feed
 from .fetching import Fetcher, Request
 from .keeper import Keeper, patch, update
-from .logs import note, warn
+from .logs import logger, note, warn
 from .metrics import Metrics
 from .notifier import Notifier
 from .records import Change, Part, Records
@@ -83,7 +83,9 @@ class Feeds:
         try:
             async with self.turn:
                 state = await self.bring(feed, state)
-        except (Refusal, BadFeed, OSError) as error:
+        except Exception as error:  # pylint: disable=broad-exception-caught
+            if not isinstance(error, (Refusal, BadFeed, OSError)):
+                logger.exception("a feed failed")
             self.metrics.feed_failures.labels(feed.name).inc()
             warn("a feed is not fresh", feed=feed.name, error=str(error))
             self.store.set_feed(dataclasses.replace(state, error=str(error)))

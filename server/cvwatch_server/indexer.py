@@ -92,7 +92,7 @@ class Indexer:
         """Answers with the index report of an image."""
         image = self.known(request.match_info["digest"])
         answer = await self.keeper.ask({"do": "report", "image": image.digest}, request["lane"])
-        if answer.get("reply") == "good" and image.packages is None:
+        if answer.get("reply") == "good" and image.packages is None and self.lists.is_known:
             return web.json_response(await self.finish(image.digest, image.layers, request["lane"]))
         return web.json_response(report_of(image.digest, image.packages, answer))
 

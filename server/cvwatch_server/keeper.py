@@ -90,6 +90,8 @@ class Keeper:
             warn("the child cannot be started", error=str(error))
             return
         self.child = child
+        if self.is_stopping.is_set():
+            child.stop()
         running = asyncio.create_task(child.run())
         restoring = asyncio.create_task(self.restore(child))
         try:
@@ -151,6 +153,7 @@ class Keeper:
     async def is_pending(self, child: Child, digest: str) -> bool:
         """Whether an image waits for the indexing of its layers."""
         answer = await child.ask({"do": "report", "image": digest})
+        self.store.set_state(digest, {"good": "good", "bad_image": "bad"}.get(answer.get("reply", ""), "pending"))
         return answer.get("reply") == "pending"
 
     def stop(self) -> None:

@@ -10,6 +10,8 @@ from typing import Any, Iterator
 
 SCHEMA = """
 CREATE TABLE IF NOT EXISTS image (digest TEXT PRIMARY KEY, layers TEXT NOT NULL, created REAL NOT NULL, state TEXT NOT NULL, packages TEXT);
+CREATE TABLE IF NOT EXISTS image_layer (layer TEXT NOT NULL, image TEXT NOT NULL, PRIMARY KEY (layer, image)) WITHOUT ROWID;
+CREATE INDEX IF NOT EXISTS layer_of_image ON image_layer (image);
 CREATE TABLE IF NOT EXISTS blob (digest TEXT PRIMARY KEY, diff_id TEXT NOT NULL);
 CREATE TABLE IF NOT EXISTS feed (name TEXT PRIMARY KEY, mark TEXT NOT NULL, looked REAL, fresh REAL, records INTEGER NOT NULL, error TEXT NOT NULL);
 CREATE TABLE IF NOT EXISTS notification (id TEXT PRIMARY KEY, number INTEGER NOT NULL, epoch TEXT NOT NULL, created REAL NOT NULL,
@@ -89,9 +91,13 @@ class Store:
 
     def add_image(self, digest: str, layers: list[str]) -> bool:
         """Adds an image that is not there, and says whether it did."""
-        cursor = self.connection.execute(
-            "INSERT OR IGNORE INTO image VALUES (?, ?, ?, 'pending', NULL)", (digest, json.dumps(layers), time.time())
-        )
+        with self.connection:
+            self.connection.execute("BEGIN")
+            values = (digest, json.dumps(layers), time.time())
+            cursor = self.connection.execute("INSERT OR IGNORE INTO image VALUES (?, ?, ?, 'pending', NULL)", values)
+            if cursor.rowcount == 1:
+                rows = [(layer, digest) for layer in layers]
+                self.connection.executemany("INSERT OR IGNORE INTO image_layer VALUES (?, ?)", rows)
         return cursor.rowcount == 1
 
     def image(self, digest: str) -> Image | None:
@@ -117,13 +123,20 @@ class Store:
         text = None if packages is None else json.dumps(packages)
         self.all("UPDATE image SET state = ?, packages = ? WHERE digest = ?", state, text, digest)
 
+    def set_state(self, digest: str, state: str) -> None:
+        """Notes the state of an image, if it is another one."""
+        self.all("UPDATE image SET state = ? WHERE digest = ? AND state != ?", state, digest, state)
+
     def drop_image(self, digest: str) -> None:
         """Forgets an image."""
-        self.all("DELETE FROM image WHERE digest = ?", digest)
+        with self.connection:
+            self.connection.execute("BEGIN")
+            self.connection.execute("DELETE FROM image_layer WHERE image = ?", (digest,))
+            self.connection.execute("DELETE FROM image WHERE digest = ?", (digest,))
 
     def uses_layer(self, diff_id: str) -> bool:
         """Whether an image has the layer."""
-        return bool(self.all("SELECT 1 FROM image WHERE instr(layers, ?) > 0 LIMIT 1", diff_id))
+        return bool(self.all("SELECT 1 FROM image_layer WHERE layer = ? LIMIT 1", diff_id))
 
     # blobs
 

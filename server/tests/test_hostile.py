@@ -376,6 +376,17 @@ def test_a_client_that_leaves(server: Server) -> None:
     assert server.is_ready()
 
 
+def test_requests_without_waiting(server: Server) -> None:
+    """A client that sends many requests and reads no answers is cut off; a compressed body is not uncompressed."""
+    request = b"GET /healthz HTTP/1.1\r\nHost: x\r\n\r\n"
+    with socket.create_connection(("127.0.0.1", server.port), PATIENCE) as client:
+        with pytest.raises(OSError):
+            for _ in range(10_000):
+                client.sendall(request * 1000)
+    bomb = gzip.compress(b" " * (1 << 28))
+    assert server.call("POST", "/indexer/api/v1/index_report", bomb, Content_Encoding="gzip")[0] == 400
+
+
 def test_one_blob_for_many(server: Server) -> None:
     """A blob that many clients post at once is fetched once."""
     blob = debian_blob(("tar", "tar", "1.34"))
