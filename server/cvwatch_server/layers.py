@@ -5,6 +5,7 @@ import hashlib
 import os
 import resource
 import shutil
+import sys
 import tempfile
 from collections import Counter
 from pathlib import Path
@@ -87,7 +88,8 @@ class Unpacking:
         pipe = asyncio.subprocess.PIPE
         with self.blob.open("rb") as blob, (self.folder / "errors").open("wb") as errors:
             reader = await self.start(*reader_of(self.blob), stdin=blob, stdout=pipe, stderr=asyncio.subprocess.DEVNULL)
-            maker = await self.start(str(self.tools / "unpack-layer"), str(self.folder), stdin=pipe, stdout=errors, stderr=errors)
+            unpack = [sys.executable, str(self.tools / "unpack-layer"), str(self.folder)]
+            maker = await self.start(*unpack, stdin=pipe, stdout=errors, stderr=errors)
         digest = await self.pass_on(reader, maker)
         if await reader.wait() != 0:
             raise bad_layer("the blob is damaged: it cannot be uncompressed")
