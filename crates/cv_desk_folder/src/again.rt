@@ -2,7 +2,7 @@ ghost use Rattle.std.specs.Prelude.{◌≡◌, ◌↔◌, IfErr, IsErrAnd, IsTru
 ghost use Rattle.std.specs.IoError.{error_kind};
 ghost use Rattle.cv_desk_folder.specs.code.Walked.{IsNoInterrupt};
 
-use std::fs::Metadata;
+use std::fs::{Metadata, OpenFile};
 use std::io::{self, ErrorKind};
 use std::rt::Files;
 
@@ -15,6 +15,19 @@ pub fn look<R: Files>(rt: &R, place: &str) -> io::Result<Metadata>
 {
     for _ in 0..MOST_TRIES {
         let found = rt.symlink_metadata(place);
+        if !is_interrupted(&found) {
+            return found;
+        }
+    }
+    Err(too_many_signals())
+}
+
+/// What the system says of an open file. It is asked again while signals interrupt it.
+pub fn look_at_open<F: OpenFile>(file: &F) -> io::Result<Metadata>
+    ensures { IfErr result IsNoInterrupt }
+{
+    for _ in 0..MOST_TRIES {
+        let found = file.metadata();
         if !is_interrupted(&found) {
             return found;
         }

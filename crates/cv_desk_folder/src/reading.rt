@@ -3,13 +3,13 @@ ghost use Rattle.std.specs.Fs.{IsFile, file_type, metadata_len};
 ghost use Rattle.cv_desk.specs.Stored.{File, file_read};
 ghost use Rattle.cv_desk_folder.specs.code.Walked.{IsErrorOf, IsWithin};
 
-use crate::again::look;
+use crate::again::{look, look_at_open};
 use crate::failure::{FolderError, answer_at};
 use crate::place::place_of;
 use cv_base::{Digest, RelPath, Seq};
 use cv_desk::FileRead;
 use std::alloc::Global;
-use std::fs::{self, Metadata, OpenFile};
+use std::fs::{self, Metadata};
 use std::io::{self, Read};
 use std::os::unix::fs::MetadataExt;
 use std::rt::Files;
@@ -75,7 +75,7 @@ fn read_same<R: Files>(
     limit: u32,
 ) -> io::Result<Vec<u8>> {
     let file = fs::open(rt, place)?;
-    check_same(looked_at, &file.metadata()?)?;
+    check_same(looked_at, &look_at_open(&file)?)?;
     read_front(alloc, file, limit)
 }
 
