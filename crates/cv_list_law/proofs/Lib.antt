@@ -1,0 +1,4 @@
+pub mod FirstLines
+pub mod ListRuns
+pub mod NoLineEnd
+pub mod SameFindings
