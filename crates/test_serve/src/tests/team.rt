@@ -57,6 +57,10 @@ impl Crew<u8, u8, u8> for Nobody {
 
     ghost did = { λ _ _ _ _ _ _ _ _. ⊤ };
 
+    ghost listed = { λ _. 0 };
+
+    ghost failed = { λ _. 0 };
+
     fn is_idle(&self) -> bool {
         true
     }
