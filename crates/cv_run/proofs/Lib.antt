@@ -3,5 +3,6 @@ pub mod Completeness
 pub mod DrillLemmas
 pub mod FaultLines
 pub mod FirstDesk
+pub mod ListRuns
 pub mod ShortInput
 pub mod Unread

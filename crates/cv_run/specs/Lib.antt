@@ -1,5 +1,6 @@
 pub mod Arguments
 pub mod Drill
+pub mod ListRuns
 pub mod Run
 pub mod Service
 pub mod code

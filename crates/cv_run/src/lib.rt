@@ -1,4 +1,5 @@
-//! Runs the arguments of the command line: a scan, a service, a comparison of versions, or a drill.
+//! Runs the arguments of the command line: a scan, a list of components or the scan of one, a service, a comparison of versions,
+//! or a drill.
 //!
 //! ```text
 //! let status = run(&rt, alloc, &arguments, &mut input, &mut output, &mut desks);
@@ -8,7 +9,9 @@
 mod arguments;
 mod commands;
 mod drill;
+mod laws;
 mod service;
 
 pub use commands::run;
 pub use cv_command::Status;
+pub use laws::list_law;
