@@ -1,7 +1,6 @@
 -- A service over generated layers never fails, and what it wrote has no `fault` line.
-use Rattle.std.proofs.Common.{◌≡◌, ℕ, ◌+◌, ◌-◌, ◌<◌, ◌≤◌, ◌^◌, List, [], ◌∷◌, length, refl, sym, ◌∙◌, ap, subst, inl, inr, ◌⊎◌, arith, min}
-use Rattle.std.specs.Prelude.{◌≢◌, Option, Some, None, take}
-use Rattle.std.specs.Io.KnownBytes.{Appends}
+use Rattle.std.proofs.Common.{◌≡◌, ℕ, ◌+◌, ◌<◌, ◌≤◌, ◌^◌, List, [], ◌∷◌, length, refl, sym, ◌∙◌, ap, subst, inl, inr, ◌⊎◌, arith}
+use Rattle.std.specs.Prelude.{◌≢◌, Option, Some, take}
 use Rattle.std.proofs.lemmas.List.{length-take-le}
 use Rattle.std.proofs.Math.Nat.{eq-or-lt_of_le}
 use Rattle.cv_desk_drill.specs.Generated.{generated}
@@ -9,7 +8,6 @@ use Rattle.cv_drill.specs.Script.{script}
 use Rattle.cv_io.specs.Lines.{Finished}
 use Rattle.cv_serve_legal.specs.Parts.{events_by}
 use Rattle.cv_serve_legal.specs.Replay.{beginning}
-use Rattle.cv_core_machine.specs.Scans.{Trees}
 use Rattle.cv_serve.specs.Round.{DesksCounted, RoseBy, fault_count}
 use Rattle.cv_scan_input.specs.Request.{input_of}
 use Rattle.cv_seq.specs.Cause.{Rose}
@@ -18,7 +16,7 @@ use Rattle.cv_serve.specs.declared.end.ServeEnd.{ServeEnd}
 use Rattle.cv_serve.specs.declared.end.ServeEnd.TheVariants as end
 use Rattle.cv_transcript.specs.Order.{events_of}
 use Rattle.cv_transcript.specs.declared.entry.Entry.{Entry}
-use Rattle.cv_run.specs.Drill.{DrillEnds, HasNoFault, IsDrilled, PrintsDrill, drill_printed}
+use Rattle.cv_run.specs.Drill.{DrillEnds, IsDrilled, drill_printed}
 use Rattle.cv_command.specs.Printed.{IsPrinted}
 use Rattle.cv_run.specs.Service.{status_of}
 use Rattle.cv_run.specs.code.Drilled.{SummaryPrinted}

@@ -1,10 +1,10 @@
 -- A short input has no line that is too long, and is not too long itself: its lines stop at its end.
-use Rattle.std.proofs.Common.{◌≡◌, ℕ, ◌+◌, ◌≤◌, ◌<◌, Bool, true, false, cond, List, [], ◌∷◌, length, refl, sym, ◌∙◌, ap, arith, take}
-use Rattle.std.specs.Prelude.{⊤, nat_le, nat_lt, if◌then◌else◌}
+use Rattle.std.proofs.Common.{◌≡◌, ℕ, ◌+◌, ◌≤◌, ◌<◌, Bool, true, false, cond, List, [], ◌∷◌, length, refl, arith}
+use Rattle.std.specs.Prelude.{⊤, nat_le}
 use Rattle.std.specs.List.{onto_first, slice_split}
 use Rattle.std.proofs.lemmas.Bool.{le-ltb, leb-true}
 use Rattle.std.proofs.lemmas.List.{take_all}
-use Rattle.cv_io.specs.Lines.{Finished, LongInput, LongLine, Stop, is_line_end, last_lines, line_then, pieces_of, reading_from, reading_of, stopped, text_of}
+use Rattle.cv_io.specs.Lines.{Finished, is_line_end, pieces_of, reading_from, reading_of}
 
 -- no list is longer than this
 abbrev AreShort : ℕ → List (List ℕ) → Type 0

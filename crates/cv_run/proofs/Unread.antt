@@ -1,5 +1,5 @@
 -- How a run ends that ran out of memory before its command began.
-use Rattle.std.proofs.Common.{◌≡◌, ℕ, ◌≤◌, ◌^◌, List, [], ◌∷◌, length, refl, sym, inl, arith}
+use Rattle.std.proofs.Common.{ℕ, ◌≤◌, ◌^◌, List, [], ◌∷◌, length, refl, sym, inl, arith}
 use Rattle.std.specs.Prelude.{Option, Some, None, take}
 use Rattle.std.specs.Io.KnownBytes.{Appends}
 use Rattle.std.proofs.lemmas.List.{append-nil}
@@ -10,7 +10,7 @@ use Rattle.cv_core_machine.specs.Scans.{StatesEveryLayer, trees_of}
 use Rattle.cv_serve.proofs.Ending.{wrote_nothing}
 use Rattle.cv_run.specs.Run.{FirstEnds, RunsAs}
 use Rattle.cv_run.specs.Service.{ServiceEnds, worker_count}
-use Rattle.cv_command.specs.World.{Counts, RunWorld, Trees, counts_of}
+use Rattle.cv_command.specs.World.{RunWorld, Trees, counts_of}
 use Rattle.cv_run.specs.declared.arguments.Command.{Command}
 use Rattle.cv_run.specs.declared.arguments.Command.TheVariants.{Scan, Sbom, ListScan, Serve, Drill, Print}
 use Rattle.cv_command.specs.declared.status.Status.TheVariants as status

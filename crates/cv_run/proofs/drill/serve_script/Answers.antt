@@ -1,4 +1,4 @@
-use Rattle.std.proofs.Common.{◌≡◌, ◌≤◌, ◌^◌, length, refl, ap, ◌∙◌, sym, subst}
+use Rattle.std.proofs.Common.{◌≤◌, ◌^◌, length, refl, ap, ◌∙◌, sym, subst}
 use Rattle.cv_io.specs.Memory.{Pieces}
 use Rattle.cv_run.proofs.DrillLemmas.{drilled, only_memory}
 use Rattle.cv_run.proofs.drill.serve_script.Goals as goal
