@@ -104,6 +104,9 @@ class Feeds:
             new_mark = await self.fetch(feed, mark if is_known else "", file)
             if new_mark is None:
                 return state
+            if file.stat().st_size == 0:
+                # a file that is just being written, or an answer that was cut off, is not a feed without records
+                raise BadFeed("the feed is empty")
             lines = await self.convert(feed, file, folder)
             await self.send(feed, lines)
             return dataclasses.replace(state, mark=f"{source}\n{new_mark}", records=len(lines))

@@ -130,7 +130,8 @@ def write_feed(file: Path, records: list[dict[str, Any]]) -> None:
             for one in records:
                 archive.writestr(f"{one['id']}.json", json.dumps(one))
     else:
-        partial.write_text("".join(json.dumps(one) + "\n" for one in records), encoding="utf-8")
+        # a file without a byte is no feed
+        partial.write_text("".join(json.dumps(one) + "\n" for one in records) or "[]", encoding="utf-8")
     partial.rename(file)
 
 

@@ -207,10 +207,10 @@ def test_blobs_that_are_no_layers(server: Server, content: bytes) -> None:
 def test_a_bomb(server: Server) -> None:
     """A small blob that is large when it is uncompressed is refused."""
     packer = zlib.compressobj(9, zlib.DEFLATED, 31)
-    content = b"".join(packer.compress(b"\0" * (1 << 20)) for _ in range(1000)) + packer.flush()
+    content = b"".join(packer.compress(b"\0" * (1 << 20)) for _ in range(200)) + packer.flush()
     assert len(content) < 3_000_000
     status, body = given(server, content)
-    assert (status, body["code"]) in ((422, "too-large"), (422, "bad-layer"))
+    assert (status, body["code"]) in ((422, "too-large"), (504, "unpack-timeout"))
 
 
 def sparse(size: int, count: int) -> bytes:
@@ -472,9 +472,10 @@ def test_feeds_that_fail(tmp_path: Path, program: str) -> None:
             assert server.index(manifest)[0] == 201
             found = [("bash", "5.2.15-2", "X-1", "")]
             wait_for(lambda: vulnerable(server.report(manifest["hash"])[1]) == found)
-            for content in (b"{", b"\xff\xfe", b"[" * 100_000, b'{"id": 1}\n{'):
+            for content in (b"", b"{", b"\xff\xfe", b"[" * 100_000, b'{"id": 1}\n{'):
                 failures = server.metric('cvwatch_feed_failures_total{feed="a"}')
-                feed.write_bytes(content)
+                (tmp_path / "other").write_bytes(content)
+                (tmp_path / "other").rename(feed)
                 wait_for(lambda: server.metric('cvwatch_feed_failures_total{feed="a"}') > failures)
                 assert vulnerable(server.report(manifest["hash"])[1]) == found
             write_feed(feed, [])
