@@ -2,11 +2,12 @@
 
 import asyncio
 import collections
+import contextlib
 import json
 from pathlib import Path
 from typing import Any
 
-from . import configuration
+from . import configuration, processes
 from .logs import warn
 from .metrics import Metrics
 from .refusals import Refusal, unavailable
@@ -19,6 +20,8 @@ MOST_BYTES = 67_108_864
 LONGEST_ANSWER = 1 << 28
 LANES = 8
 STOP_SECONDS = 60.0
+# a process whose pipes are closed ends by itself in this time
+END_SECONDS = 1.0
 
 
 class ChildGone(Exception):
@@ -89,11 +92,9 @@ class Child:
         """Waits a little for the process to end by itself, and kills it otherwise."""
         assert self.process is not None and self.process.stdin is not None
         self.process.stdin.close()
-        try:
-            return await asyncio.wait_for(self.process.wait(), 1)
-        except TimeoutError:
-            self.process.kill()
-            return await self.process.wait()
+        with contextlib.suppress(TimeoutError):
+            await asyncio.wait_for(self.process.wait(), END_SECONDS)
+        return await processes.kill(self.process)
 
     def stop(self) -> None:
         """Takes no more requests. The round that has begun is ended."""

@@ -10,6 +10,7 @@ import tempfile
 from collections import Counter
 from pathlib import Path
 
+from . import processes
 from .configuration import Configuration, Fetch
 from .fetching import CHUNK, Fetcher, Request
 from .logs import warn
@@ -59,22 +60,23 @@ class Unpacking:
 
     async def run(self) -> str:
         """Unpacks the blob below FOLDER/tree, and gives the diff ID."""
-        watch = asyncio.create_task(self.watch())
+        work, watch = asyncio.create_task(self.unpack()), asyncio.create_task(self.watch())
         try:
             async with asyncio.timeout(self.settings.seconds):
-                work = asyncio.create_task(self.unpack())
                 done, _ = await asyncio.wait({work, watch}, return_when=asyncio.FIRST_COMPLETED)
-                work.cancel()
-                return (done.pop() if work not in done else work).result()
+                return (work if work in done else watch).result()
         except TimeoutError:
             raise Refusal(504, "unpack-timeout", "the layer was not unpacked in time") from None
         finally:
+            work.cancel()
             watch.cancel()
-            await self.end()
+            await asyncio.gather(work, watch, return_exceptions=True)
+            for process in self.processes:
+                await processes.kill(process)
 
     async def start(self, *command: str, **streams: object) -> asyncio.subprocess.Process:
         """Starts a process within the limits."""
-        process = await asyncio.create_subprocess_exec(*command, limit=CHUNK, **streams)  # type: ignore[arg-type]
+        process = await asyncio.create_subprocess_exec(*command, limit=CHUNK, start_new_session=True, **streams)  # type: ignore[arg-type]
         self.processes.append(process)
         for limit, value in ((resource.RLIMIT_AS, self.settings.memory_bytes), (resource.RLIMIT_FSIZE, self.settings.layer_bytes)):
             try:
@@ -126,16 +128,6 @@ class Unpacking:
         """What was said last of the layer."""
         lines = (self.folder / "errors").read_text(encoding="utf-8", errors="replace").splitlines()
         return (lines[-1] if lines else "the layer cannot be unpacked")[:500]
-
-    async def end(self) -> None:
-        """Ends the processes that still run."""
-        for process in self.processes:
-            if process.returncode is None:
-                try:
-                    process.kill()
-                except ProcessLookupError:
-                    pass
-            await process.wait()
 
 
 class Layers:
