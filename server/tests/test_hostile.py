@@ -197,7 +197,11 @@ def given(server: Server, content: bytes) -> tuple[int, Any]:
         return server.index(manifest_of(party.uri, blob))
 
 
-@pytest.mark.parametrize("content", [b"not a tar file at all" * 99, gzip.compress(b"neither" * 99), gzip.compress(tar_of({"a": b"b"}))[:-9], b"\x28\xb5\x2f\xfdx"])
+@pytest.mark.parametrize(
+    "content",
+    [b"not a tar file at all" * 99, gzip.compress(b"neither" * 99), gzip.compress(tar_of({"a": b"b"}))[:-9], b"\x28\xb5\x2f\xfdx"],
+    ids=["text", "compressed text", "cut off", "no zstd"],
+)
 def test_blobs_that_are_no_layers(server: Server, content: bytes) -> None:
     """A blob that is no tar file, or is damaged, is refused."""
     status, body = given(server, content)
