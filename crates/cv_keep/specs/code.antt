@@ -1,0 +1,4 @@
+pub mod Errors
+pub mod MemoryLaws
+pub mod Spoil
+pub mod Walk
