@@ -106,7 +106,8 @@ def change_value(chance, value):
         return {**value, name: change_value(chance, value[name])}
     if isinstance(value, list) and value and chance.random() < 0.85:
         place = chance.randrange(len(value))
-        kept = chance.choice([[change_value(chance, value[place])], [change_value(chance, value[place])], [], [value[place]] * 2])
+        copies = chance.choice([1, 1, 0, 2])
+        kept = [change_value(chance, value[place])] if copies == 1 else [value[place]] * copies
         return value[:place] + kept + value[place + 1 :]
     return chance.choice(TEXTS if chance.random() < 0.7 else VALUES)
 
