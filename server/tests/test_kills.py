@@ -3,6 +3,7 @@
 The environment variable CVWATCH_KILLS says how often (20 without it).
 """
 
+import http.client
 import os
 import random
 import signal
@@ -12,6 +13,7 @@ import time
 from pathlib import Path
 from typing import Any
 
+import pytest
 from support import Blob, Party, Server, blob_party, debian_blob, manifest_of, npm_blob, record, scanned, vulnerable, wait_for, write_feed
 
 KILLS = int(os.environ.get("CVWATCH_KILLS", "20"))
@@ -55,10 +57,8 @@ class Client(threading.Thread):
             else:
                 status, report = self.server.index(manifest_of(self.party.uri, *self.images[digest], digest=digest))
                 assert status in (201, 503), (status, report)
-        except OSError:
-            return
-        except ValueError:
-            # the connection broke within the body
+        except (OSError, ValueError, http.client.HTTPException):
+            # the connection broke before the answer, or within it
             return
         if status == 503:
             return
@@ -93,7 +93,7 @@ def check_layers(server: Server, folder: Path, images: dict[str, tuple[Blob, ...
         assert subprocess.run(["diff", "-r", whole, place]).returncode == 0
 
 
-def test_kills(tmp_path: Path, program: str) -> None:
+def test_kills(tmp_path: Path, program: str, request: pytest.FixtureRequest) -> None:
     """After each of many kills all is as it was answered."""
     images = {}
     for number in range(12):
@@ -104,6 +104,7 @@ def test_kills(tmp_path: Path, program: str) -> None:
     choice = random.Random(SEED)
     with blob_party(BASE, *(blobs[1] for blobs in images.values())) as party:
         server = Server(tmp_path, program, f'[[feed]]\nname = "a"\nfile = "{feed}"\nseconds = 0.3\n').start()
+        request.addfinalizer(server.stop)
         wait_for(lambda: server.metric('cvwatch_feed_records{feed="a"}') == len(RECORDS))
         client = Client(server, party, images)
         client.start()

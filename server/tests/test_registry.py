@@ -1,5 +1,6 @@
 """The whole way: images of a registry are indexed, their reports are those of `cvwatch scan`, and updates reach a webhook."""
 
+import subprocess
 from pathlib import Path
 from typing import Any
 
@@ -171,3 +172,15 @@ def test_images_are_deleted(world: World) -> None:
     assert layers == {OTHER.diff_id.removeprefix("sha256:")}
     assert world.server.index(world.manifest("one"))[0] == 201
     assert vulnerable(world.server.report(world.images["one"])[1]) == [("libssl3", "3.0.9-1", "DSA-5532-1", "3.0.11-1~deb12u2")]
+
+
+def test_packages_are_those_of_a_list(world: World) -> None:
+    """With a cvwatch that has `sbom`, reports have all packages of an image, each once; otherwise those with findings."""
+    asked = subprocess.run([world.program, "sbom"], stdin=subprocess.DEVNULL, stdout=subprocess.DEVNULL, stderr=subprocess.DEVNULL, check=False)
+    world.index_all()
+    expected = ["libssl3", "lodash"] if asked.returncode == 2 else ["libssl3", "lodash", "zlib1g"]
+    _, index = world.server.call("GET", f"/indexer/api/v1/index_report/{world.images['two']}")
+    _, report = world.server.report(world.images["two"])
+    assert sorted(one["name"] for one in index["packages"].values()) == expected
+    assert report["packages"] == index["packages"]
+    assert report["environments"] == index["environments"]
