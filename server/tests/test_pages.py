@@ -28,6 +28,7 @@ def server(tmp_path: Path, program: str) -> object:
             assert found.index(manifest_of(party.uri, Blob(BROKEN, BROKEN)))[0] == 201
             write_feed(feed, [first, record(f"X-{EVIL}", "Debian:12", "bash", None, database_specific={"severity": "CRITICAL"}, summary=EVIL)])
             wait_for(lambda: found.metric('cvwatch_notifications{is_taken="false"}') == 1)
+            wait_for(lambda: found.metric('cvwatch_feed_records{feed="a"}') == 2)
             yield found
 
 
