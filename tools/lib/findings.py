@@ -1,4 +1,4 @@
-"""Answers of `cvwatch scan`, their findings, and what records and options say of them."""
+"""Answers of `cvwatch scan` and `cvwatch scan-list`, their findings, and what records and options say of them."""
 
 import json
 
@@ -6,15 +6,20 @@ import osv_records
 from texts import counted, printable, shortened
 
 FACTS = ("name", "version", "advisory", "path")
+UNNAMED = "unnamed"
 
 
 class Image:
-    """An image that was scanned. An answer without a name has its digest as the name."""
+    """An image that was scanned. An answer without a name has its digest as the name, and that of a list may have no digest either."""
 
     def __init__(self, answer):
-        self.name = printable(answer.get("name") or answer["image"])
-        digest = answer.get("image")
+        digest = answer["image"] if "name" not in answer else answer.get("image")
+        self.name = printable(answer.get("name") or (UNNAMED if digest is None else digest))
         self.digest = printable(digest) if isinstance(digest, str) else ""
+        # the components of a list that are no packages to cvwatch
+        self.skipped = answer.get("skipped", 0)
+        if not isinstance(self.skipped, int) or self.skipped < 0:
+            raise ValueError("not a number of components")
 
 
 class Row:
@@ -120,13 +125,18 @@ class Report:
         where = images[0] if len(images) == 1 else f"{counted(len(images), 'image')}, {clean} without findings"
         return f"{counted(len(rows), 'finding')} {of} ({where})"
 
+    def skipped(self):
+        """What was skipped of lists of components, for each image of which something was."""
+        numbers = {image.name: image.skipped for image in self.images if image.skipped}
+        return [f"{counted(number, 'component')} of {name}" for name, number in numbers.items()]
+
     def severity_counts(self):
         """The number of rows of each severity that occurs, the greatest first."""
         words = [row.severity for row in self.rows]
         return {word: words.count(word) for word in (*reversed(osv_records.SEVERITIES), osv_records.UNKNOWN) if word in words}
 
     def further_summary(self):
-        """Further lines of the summary: the severities, those that are unknown, and what is not shown."""
+        """Further lines of the summary: the severities, those that are unknown, what is not shown, and what of lists was skipped."""
         if self.has_records and self.rows:
             yield ", ".join(f"{number} {word}" for word, number in self.severity_counts().items())
         unknown = sorted({row.advisory for row in self.rows if row.severity == osv_records.UNKNOWN})
@@ -135,6 +145,8 @@ class Report:
         hidden = [f"{self.ignored} ignored"] * (self.ignored > 0) + [f"{self.filtered} of other kinds"] * (self.filtered > 0)
         if hidden:
             yield f"not shown: {', '.join(hidden)}"
+        if self.skipped():
+            yield f"skipped, and not scanned: {listed(self.skipped())}"
 
 
 def listed(names, most=10):

@@ -26,14 +26,19 @@ def run(report):
     index_of = {advisory: index for index, advisory in enumerate(rows_of)}
     return {
         "tool": {"driver": {"name": "cvwatch", "rules": [rule(rows) for rows in rows_of.values()]}},
-        "invocations": [invocation(report.refused)],
+        "invocations": [invocation(report)],
         "results": [result(row, index_of[row.advisory]) for row in report.rows],
     }
 
 
-def invocation(refused):
-    notifications = [{"level": "error", "message": {"text": f"Not scanned: {line}"}} for line in refused]
-    return {"executionSuccessful": not refused, "toolExecutionNotifications": notifications}
+def invocation(report):
+    notifications = [notification("error", f"Not scanned: {line}") for line in report.refused]
+    notifications += [notification("warning", f"Skipped, and not scanned: {text}") for text in report.skipped()]
+    return {"executionSuccessful": not report.refused, "toolExecutionNotifications": notifications}
+
+
+def notification(level, text):
+    return {"level": level, "message": {"text": text}}
 
 
 def rule(rows):
