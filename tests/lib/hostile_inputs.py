@@ -117,6 +117,73 @@ SCANS = {
 }
 
 
+# ---- the lines of `sbom`
+
+
+def manifests():
+    """The first lines of the scans, each once, with the name of its first scan."""
+    names = {}
+    for name, texts in SCANS.items():
+        names.setdefault(tuple(texts[:1]), name)
+    return {name: list(texts) for texts, name in names.items()}
+
+
+SBOMS = manifests() | {
+    "empty lines after the manifest": [compact(manifest("image", "debian", "node")), "", ""],
+    "a further line": [compact(manifest("image", "debian", "node")), "", compact(DEB)],
+}
+
+
+# ---- component lists, and the lines of their scans
+
+
+def component(name, version, **values):
+    """A package of a component list, of npm unless the values say otherwise. A property whose value is None is left out."""
+    texts = {"arch": "", "ecosystem": "npm", "kind": "npm", "path": f"app/node_modules/{name}/package.json", "source": name, "source_version": version, **values}
+    properties = [{"name": f"cvwatch:{word}", "value": text} for word, text in texts.items() if text is not None]
+    return {"name": name, "properties": properties, "type": "library", "version": version}
+
+
+def component_list(components, **members):
+    """A component list of the image `image`, with further members or others."""
+    metadata = {"component": {"name": digest("image"), "type": "container"}}
+    return {"bomFormat": "CycloneDX", "components": components, "metadata": metadata, "specVersion": "1.5", "version": 1, **members}
+
+
+def debian_component(name, version):
+    return component(name, version, arch="amd64", ecosystem="Debian:12", kind="deb", path=STATUS, source="src", source_version="2:1.0~rc1-1")
+
+
+PACKAGES = [
+    debian_component("lib1", "1.1-1"), debian_component("lib0", "1.0-1"), component("n3", "1.3.0-rc.1+build"), component("@a/b", "1.0.0"),
+    component("lib5", "1.5_rc1-r2", arch="x86_64", ecosystem="Alpine:v3.18", kind="apk", path="lib/apk/db/installed", source="origin", source_version="1.5_rc1-r2"),
+    component("P_.-3", "1!1.3.0rc2.post1", ecosystem="PyPI", kind="pypi", path="opt/P_3.dist-info/METADATA", source="p-3"),
+]
+NO_PACKAGES = [
+    None, [], "x", {}, {"name": "x", "version": "1", "type": "library", "purl": "pkg:npm/x@1"}, component("", ""), component("x", None), component(1, "1"), component("x", "1", arch=None), component("x", "1", arch=1),
+    component("x", "1", kind="gem"), component("x", "1", path=""), component("x", "1", path="/x"), component("x", "1", path="x/../y"), {**component("x", "1"), "properties": None}, {**component("x", "1"), "properties": [None, {}]},
+]
+TWICE = {**component("n3", "1.3.0-rc.1+build"), "properties": component("n3", "1.3.0-rc.1+build")["properties"] + component("other", "2")["properties"]}
+LISTS = {
+    "an empty input": [],
+    "no JSON": [b"{"],
+    "an empty line": ["", compact(DEB)],
+    "no object": ["[]", compact(DEB)],
+    "another format": [compact(component_list([], bomFormat="SPDX")), "{"],
+    "components that are no list": [compact(component_list(None))],
+    "no components": ['{"bomFormat":"CycloneDX"}', compact(DEB)],
+    "each kind of package": [compact(component_list(PACKAGES)), *map(compact, RECORDS), "", ""],
+    "components that are no packages": [compact(component_list(NO_PACKAGES + PACKAGES)), *map(compact, RECORDS)],
+    "packages and properties twice": [compact(component_list([*PACKAGES, TWICE, *reversed(PACKAGES)])), *map(compact, RECORDS)],
+    "many components and records": [compact(component_list([component(f"n{number * 7919 % 300}", f"1.{number}.0") for number in range(300)])), *map(compact, RECORDS + MANY)],
+    "an image that is no digest": [compact(component_list(PACKAGES, metadata={"component": {"name": "debian:12"}})), compact(DEB)],
+    "a bad record": [compact(component_list(PACKAGES)), compact(DEB), '{"id":"A","modified":"","affected":null}'],
+    "a record twice": [compact(component_list(PACKAGES)), compact(DEB), compact(NPM), compact(DEB)],
+    "deep JSON": [compact(component_list(PACKAGES, x=None)).replace('"x":null', '"x":' + "[" * 120 + "]" * 120), compact(DEB), "[" * 5000],
+    "escapes": [compact(component_list([component("caf\u00e9\0", "\U0001f600")])).replace("CycloneDX", "\\u0043ycloneDX"), compact(NPM)],
+}
+
+
 # ---- the lines of sessions of a service
 
 NO_REQUESTS = [

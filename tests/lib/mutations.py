@@ -12,9 +12,10 @@ PIECES = [
 TEXTS = [
     "", "0", "*", "1.0", "1.0-1", "1:1.0-1", "1.0~rc1", "1.0_rc1-r1", "1.0.0-rc.1+build", "1!1.0rc1.post2.dev3+local", "9" * 300, "no version", "Debian", "Debian:12", "Alpine:v3.18", "npm", "PyPI", "unknown", "ECOSYSTEM",
     "SEMVER", "GIT", "openssl", "lodash", "src", "n3", "p-3", "\0", "\ufeff", "caf\u00e9", "\U0001f600", "a" * 5000, "sha256:" + "a" * 64, "list", "update",
+    "CycloneDX", "cvwatch:kind", "cvwatch:path", "cvwatch:source_version", "deb", "apk", "pypi", "var/lib/dpkg/status", "a//b",
 ]
 VALUES = [None, True, 0, 1, -1, 1.5, 7, 8, 2**64, [], {}, [[]], [{}], ["x"], {"introduced": "0"}, {"introduced": "0", "fixed": "2.0"}, {"package": {"ecosystem": "npm", "name": "n3"}, "versions": ["1.0.0"]}]
-NAMES = ["id", "modified", "withdrawn", "affected", "package", "ecosystem", "name", "ranges", "type", "events", "introduced", "fixed", "last_affected", "limit", "versions", "hash", "layers", "seal", "version", "lane", "do", "", "\0"]
+NAMES = ["id", "modified", "withdrawn", "affected", "package", "ecosystem", "name", "ranges", "type", "events", "introduced", "fixed", "last_affected", "limit", "versions", "hash", "layers", "seal", "version", "lane", "do", "components", "properties", "value", "bomFormat", "metadata", "component", "", "\0"]
 
 
 # ---- of bytes
