@@ -13,8 +13,9 @@ class Image:
     """An image that was scanned. An answer without a name has its digest as the name, and that of a list may have no digest either."""
 
     def __init__(self, answer):
-        digest = answer["image"] if "name" not in answer else answer.get("image")
-        self.name = printable(answer.get("name") or (UNNAMED if digest is None else digest))
+        name = answer.get("name") or answer["image"]
+        self.name = UNNAMED if name is None else printable(name)
+        digest = answer.get("image")
         self.digest = printable(digest) if isinstance(digest, str) else ""
         # the components of a list that are no packages to cvwatch
         self.skipped = answer.get("skipped", 0)
