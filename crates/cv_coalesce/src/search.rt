@@ -23,7 +23,7 @@ pub fn has(list: &[RelPath], path: &RelPath) -> bool
     list.binary_search(path).is_ok()
 }
 
-/// Searches a sorted list for the first components of a path, so many of them. Where none of its entries stands between these
+/// Searches a sorted list for the first `depth` components of a path. Where none of its entries stands between these
 /// and the path, it has no longer front of the path.
 pub fn search_front(list: &[RelPath], path: &RelPath, depth: usize) -> Front
     requires { IsSorted path_cmp list.now }

@@ -31,7 +31,7 @@ pub enum PageOutcome {
     Rows { pages: u64, rows: Seq<Row> },
     /// No notification has this number.
     NoNotification,
-    /// There are only so many pages.
+    /// The page's number is above that of the last page.
     NoPage { pages: u64 },
 }
 

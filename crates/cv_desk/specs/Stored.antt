@@ -46,7 +46,7 @@ abbrev pub item_at : List Stored → Path → Option Item
 item_at [] path = None
 item_at (e ∷ es) path = if same_path e.path path then Some e.item else item_at es path
 
--- what reading a path gives, where at most so many bytes are taken
+-- what reading a path gives, where at most this number of bytes is taken
 abbrev pub file_read : Option Item → ℕ → FileRead
 file_read None limit = read.NotFile
 file_read (Some Dir) limit = read.NotFile

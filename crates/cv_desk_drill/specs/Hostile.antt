@@ -18,22 +18,22 @@ file_name n = codes "f" ++ eight_digits n
 abbrev pub empty_file : ℕ → Stored
 empty_file n = file (file_name n) []
 
--- so many empty files, which are numbered from 0
+-- this number of empty files, which are numbered from 0
 abbrev pub empty_files : ℕ → List Stored
 empty_files s = map empty_file (range_with_len 0 s)
 
--- the path of a directory `d` with so many above it, all of this name
+-- the path of a directory `d` with this number of directories above it, all of this name
 abbrev pub nested_text : ℕ → List ℕ
 nested_text depth = repeat depth (codes "d/") ++ codes "d"
 
 abbrev pub nested_directory : ℕ → Stored
 nested_directory depth = directory (nested_text depth)
 
--- so many directories, each in the one before
+-- this number of directories, each in the one before
 abbrev pub nested_directories : ℕ → List Stored
 nested_directories s = map nested_directory (range_with_len 0 s)
 
--- a dpkg status of so many line feeds
+-- a dpkg status of this number of line feeds
 abbrev pub line_feeds : ℕ → List Stored
 line_feeds s = status_file (repeat s (10 ∷ []))
 

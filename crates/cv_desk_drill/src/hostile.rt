@@ -22,9 +22,9 @@ const MOST_DIRECTORIES: u32 = 2_048;
 const MOST_BYTES: u32 = 33_554_433;
 
 /// A desk of hostile sizes, whose digests spell their layers, for tests. It never fails. A digest's byte 0 is a role from 4 to 6,
-/// bytes 1 to 4 are a number, the most significant byte first, and the other bytes are 0. Role 4 is a layer of so many empty
-/// files, up to 1,000,001; role 5 one of so many directories, each in the one before, up to 2,048; role 6 one whose dpkg status has
-/// so many line feeds and nothing else, up to 33,554,433. Every other digest has no layer.
+/// bytes 1 to 4 are a number, the most significant byte first, and the other bytes are 0. Role 4 is a layer of that number of empty
+/// files, up to 1,000,001; role 5 one of that number of directories, each in the one before, up to 2,048; role 6 one whose dpkg status has
+/// that number of line feeds and nothing else, up to 33,554,433. Every other digest has no layer.
 #[derive(Drop)]
 pub struct HostileDesk {
     listings: u64,
@@ -141,7 +141,7 @@ fn directory_layer(alloc: Global, s: u32) -> Result<Vec<GenEntry>, NoMemory>
     Ok(out)
 }
 
-/// The path of a directory `d` with so many above it.
+/// The path of a directory `d` with this number of directories above it.
 fn nested_text(alloc: Global, depth: u32) -> Result<String, NoMemory>
     ensures { IfOk result (λ text. string_bytes text ≡ nested_text depth) }
 {

@@ -6,7 +6,7 @@ use std::fs::{Metadata, OpenFile};
 use std::io::{self, ErrorKind};
 use std::rt::Files;
 
-/// What signals interrupt is tried so many times at most.
+/// The most tries of what signals interrupt.
 pub const MOST_TRIES: u32 = 100;
 
 /// What the system says of a path, with no link followed at its end. It is asked again while signals interrupt it.

@@ -16,7 +16,7 @@ use std::fs::{self, DirEntry, Metadata, ReadDir};
 use std::io::{self, ErrorKind};
 use std::rt::Files;
 
-/// A walk ends after so many entries: one more than a layer may have.
+/// The number of entries after which a walk ends: one more than a layer may have.
 const MOST_ENTRIES: usize = MAX_ENTRIES + 1;
 
 /// Lists the entries below a layer's folder in the order of their paths, or says that there is no such folder.

@@ -40,7 +40,7 @@ escape_within (x ∷ xs) =
     let whole = length-append (escape_byte x) (escape xs) in
     omega (arith, one, more, whole)
 
--- at most so many bytes are written for a value
+-- at most this number of bytes is written for a value
 abbrev mutual
   most : Data → ℕ
   most null = 4
@@ -213,7 +213,7 @@ report_within i =
     let digits = lane_within i in
     omega (arith, hash, digits)
 
--- lines of so many bytes at most
+-- lines of at most this number of bytes
 lines_within : (line : ℕ → List ℕ) (k a n : ℕ) → ((i : ℕ) → length (line i) ≤ k) → length (lines_text (map line (range_with_len a n))) ≤ n * (k + 1)
 lines_within line k a zero h = omega arith
 lines_within line k a (suc n) h =
@@ -253,7 +253,7 @@ end_within = omega arith
 list_within : most list_data ≤ 200
 list_within = let digits = digits_within 0 (omega arith) in omega (arith, digits)
 
--- the lines for so many images and records
+-- the lines for these numbers of images and records
 lines_short : (offset images records : ℕ) → images ≤ 1000 → records ≤ 10000 → length (lines_text (script_lines offset images records)) ≤ 2 ^ 26
 unfolding script_lines
 lines_short offset images records few many =

@@ -70,7 +70,7 @@ record_data update j =
     (member (codes "id") (string (record_id j))
     (member (codes "modified") (string (codes "2024-01-01T00:00:00Z")) no_members)))
 
--- the records of an update, of so many
+-- the records of an update, of which this is the number
 abbrev pub records : Update → ℕ → List Data
 records update count = map (record_data update) (filter (is_kept update) (numbers count))
 

@@ -23,7 +23,7 @@ register_lines offset images = map (λ i. json_text (register_data offset i)) (n
 abbrev pub report_lines : ℕ → List (List ℕ)
 report_lines images = map (λ i. json_text (report_data i)) (numbers images)
 
--- the lines in order, for so many images and records. An empty round is run, so that each image is indexed before the first
+-- the lines in order, for these numbers of images and records. An empty round is run, so that each image is indexed before the first
 -- update
 unfoldable pub script_lines : ℕ → ℕ → ℕ → List (List ℕ)
 script_lines offset images records =

@@ -118,7 +118,7 @@ sums_text t =
 unfoldable pub line_of : Totals → List ℕ → List ℕ
 line_of t hash = counts_text t ++ (codes ", " ++ (sums_text t ++ (codes ", sha256 " ++ hash)))
 
--- the summary of objects, with so many images
+-- the summary of objects, with this number of images
 unfoldable pub summary_of : ℕ → List Data → List ℕ
 summary_of images values = line_of (totals_of values) (sum_text (last_reports images values))
 

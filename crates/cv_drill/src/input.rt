@@ -21,7 +21,7 @@ pub fn script(alloc: Global, seed: u32) -> Result<Seq<u8>, NoMemory>
     Ok(Seq::of(text.into_bytes()))
 }
 
-/// The lines for so many images and records.
+/// The lines for these numbers of images and records.
 #[tactic(auto, using(crate::proofs::Lists::lines_joined), unfolding(crate::specs::Script::script_lines))]
 fn script_text(alloc: Global, offset: u32, images: u32, records: u32) -> Result<String, NoMemory>
     requires at_most_1000_images { images ≤ 1000 }

@@ -21,7 +21,7 @@ pub fn summary(alloc: Global, seed: u32, transcript: &[u8]) -> Result<Text, NoMe
     summary_of(alloc, IMAGES, values.as_slice())
 }
 
-/// The summary of objects, with so many images.
+/// The summary of objects, with this number of images.
 #[tactic(auto, unfolding(crate::specs::Summary::summary_of))]
 fn summary_of(alloc: Global, images: u32, values: &[Value]) -> Result<Text, NoMemory>
     ensures { IfOk result (λ text. text ≡ summary_of images (map view values.now)) }

@@ -40,7 +40,7 @@ impl Update {
     }
 }
 
-/// The request that updates the feed, of so many records.
+/// The request that updates the feed, of this number of records.
 pub fn update_value(alloc: Global, update: Update, count: u32) -> Result<Value, NoMemory>
     ensures { IfOk result (λ value. view value ≡ update_data update count) }
 {

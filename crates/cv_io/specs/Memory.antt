@@ -11,7 +11,7 @@ pub record Pieces : Type 0 where
 -- a source in memory
 pub record Supply : Type 0 where
   pub remaining : List ℕ
-  -- at most so many bytes are given by one read
+  -- the most bytes that one read gives
   pub piece : ℕ
   pub fails : List ℕ
   pub calls : ℕ
@@ -20,7 +20,7 @@ pub record Supply : Type 0 where
 -- a sink in memory
 pub record Store : Type 0 where
   pub contents : List ℕ
-  -- at most so many bytes are taken by one write
+  -- the most bytes that one write takes
   pub piece : ℕ
   pub fails : List ℕ
   pub calls : ℕ

@@ -6,7 +6,7 @@ use crate::fault::IoFault;
 use cv_seq::{NoMemory, Seq};
 use thiserror::Error;
 
-/// Why a line was not given. The reader is spent then.
+/// Why a line was not given. After it the reader gives no more lines.
 #[derive(Clone, Copy, Debug, PartialEq, Eq, Error)]
 pub enum LineError {
     #[error("the input could not be read")]

@@ -13,7 +13,7 @@ use crate::sink::Sink;
 use crate::source::Source;
 use std::io::{self, ErrorKind, Read, Write};
 
-/// A call that signals interrupt is made so many times at most.
+/// The most times that a call is made which signals interrupt.
 const MOST_TRIES: u32 = 100;
 
 /// Reads from a reader of std, as standard input. The remaining bytes are those that the reader's contract knows: of

@@ -12,7 +12,7 @@ size rest = from_be_bytes w64 (take 8 rest)
 abbrev pub counts : ℕ → List ℕ → Bool
 counts gate rest = (gate == 1) && nat_lt (8 + size rest) (length rest)
 
--- the first records of a file, at most so many
+-- the first records of a file, at most this number
 abbrev pub first_records : ℕ → List ℕ → List (List ℕ)
 first_records zero file = []
 first_records (suc more) [] = []

@@ -132,7 +132,7 @@ fn block_of(alloc: Global, bytes: &[u8]) -> Result<Vec<u8>, NoMemory>
     Ok(block)
 }
 
-/// Reads so many bytes from a place on.
+/// Reads `len` bytes from a place on.
 fn read_bytes<J: Disk>(alloc: Global, disk: &mut J, at: u64, len: u64) -> Result<Seq<u8>, KeepError>
     requires inside { IfSome (J.contents disk.old) (λ b. at + len ≤ length b) }
     ensures read { IfSome (J.contents disk.old) (λ b. IfOk result (λ bytes. bytes ≡ take len (drop at b))) }

@@ -9,7 +9,7 @@ use serde_json::Value;
 use std::alloc::Global;
 
 /// Makes the texts that the entries of a record keep: ecosystems, names of packages and versions. The record's own `id` and
-/// `modified` are made anew.
+/// `modified` are copied.
 pub trait Texts {
     /// The text that is kept for this one.
     fn text(&mut self, alloc: Global, text: &str) -> Result<Text, NoMemory>

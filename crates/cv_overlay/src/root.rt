@@ -91,7 +91,7 @@ impl Root {
     }
 }
 
-/// An empty list with room for so many entries.
+/// An empty list with room for this number of entries.
 fn room_for(alloc: Global, count: usize) -> Result<Vec<TreeEntry>, NoMemory>
     ensures empty { IfOk result (λ room. room.items ≡ []) }
     ensures len { IfOk result (λ room. vec_len room ≡ 0) }

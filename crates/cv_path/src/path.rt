@@ -157,7 +157,7 @@ impl RelPath {
         count_components(self.text().as_bytes())
     }
 
-    /// The order of this path and of the first components of the other one, so many of them.
+    /// The order of this path and of the first `depth` components of the other one.
     pub fn compare_front(&self, other: &RelPath, depth: usize) -> Ordering
         ensures { result ≡ path_cmp self.now (take depth other.now) }
     {

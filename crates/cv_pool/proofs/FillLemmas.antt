@@ -57,7 +57,7 @@ owners_dealt-append : (h : ℕ → ℕ) (os ns : List Owner) → owners_dealt h 
 owners_dealt-append h [] ns = omega arith
 owners_dealt-append h (o ∷ os) ns = let e = owners_dealt-append h os ns in omega arith
 
--- so many empty lists
+-- this number of empty lists
 abbrev empty_lists : ℕ → List (List ℕ)
 empty_lists zero = []
 empty_lists (suc m) = [] ∷ empty_lists m

@@ -12,7 +12,7 @@ below (suc n) = below n ++ n ∷ []
 abbrev pub dealt_to : ℕ → ℕ → ℕ → List ℕ
 dealt_to jobs hands index = filter (λ k. k % hands == index) (below jobs)
 
--- the jobs that are dealt to so many hands, from an index on
+-- the jobs that are dealt to this number of hands, from an index on
 abbrev pub deal : ℕ → ℕ → ℕ → ℕ → List (List ℕ)
 deal jobs hands from zero = []
 deal jobs hands from (suc n) = dealt_to jobs hands from ∷ deal jobs hands (from + 1) n

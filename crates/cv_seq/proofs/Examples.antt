@@ -7,7 +7,7 @@ use Rattle.cv_seq.specs.Cause.{Rose}
 first : Rose 0 1
 first = omega arith
 
--- a count at its last value may stay there
+-- a saturated count may stay there
 last : Rose (2 ^ 64 - 1) (2 ^ 64 - 1)
 last = omega arith
 

@@ -5,7 +5,7 @@ ghost use Rattle.cv_serve_crew.specs.code.Team.{AreLater, ArePreparedFrom, EachD
 use cv_seq::NoMemory;
 use std::thread::{Threads, join_mut};
 
-/// Work that threads do beside each other, each with a number, a hand, a seat and a desk of its own.
+/// Work that threads do concurrently, each with a number, a hand, a seat and a desk of its own.
 pub trait Crew<H, S, K> {
     /// What has to hold before.
     ghost prepared: { Self → ℕ → H → S → K → Type 0 };
@@ -30,7 +30,7 @@ pub trait Crew<H, S, K> {
         ensures failed { failed desk.old ≤ failed desk.new };
 }
 
-/// Does the work of all numbers from one on, beside each other, as far as all slices go. The last one has no thread of its own, and
+/// Does the work of all numbers from one on concurrently, as far as all slices go. The last one has no thread of its own, and
 /// none has if the crew is idle.
 #[cycle(crew)]
 #[tactic(auto, using(crate::proofs::Later::later_same))]

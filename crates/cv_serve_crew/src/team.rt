@@ -5,7 +5,7 @@ ghost use Rattle.cv_serve_crew.specs.code.Team.{ArePrepared, EachDid};
 use cv_seq::NoMemory;
 use std::thread::{Threads, join_mut};
 
-/// Work that threads do beside each other, each at a seat and a part of its own.
+/// Work that threads do concurrently, each at a seat and a part of its own.
 pub trait Team<S, P> {
     /// What has to hold before.
     ghost prepared: { Self → S → P → Type 0 };
@@ -22,7 +22,7 @@ pub trait Team<S, P> {
         ensures { OnOk result (did self.now seat.old seat.new part.old part.new) };
 }
 
-/// Does the work of all places, beside each other, as far as both slices go. Idle places have no thread of their own, and neither has
+/// Does the work of all places concurrently, as far as both slices go. Idle places have no thread of their own, and neither has
 /// the last place.
 pub fn run_team<S: Send, P: Send, T: Team<S, P> + Sync, W: Threads + Sync>(
     rt: &W,

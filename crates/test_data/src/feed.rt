@@ -9,9 +9,9 @@ use std::alloc::Global;
 pub struct FeedRecords {
     /// How many there are.
     pub count: u64,
-    /// One of so many is new at each revision, and none if this is 0. The others are as they were at first.
+    /// One of this number is new at each revision, and none if it is 0. The others are as they were at first.
     pub every: u64,
-    /// One of so many affects version 1.2 of its package, and none if this is 0.
+    /// One of this number affects version 1.2 of its package, and none if it is 0.
     pub affecting: u64,
 }
 

@@ -24,7 +24,7 @@ abbrev pub files_to_read : Option (List ListEntry) → ℕ
 files_to_read None = 0
 files_to_read (Some entries) = count_by is_to_read entries
 
--- so many reads were made for entries that were loaded so
+-- this number of reads was made for entries that were loaded so
 pub record FitsReads (loaded : List TreeEntry) (reads : ℕ) : Type 0 where
   pub at_least : count_by is_package_file loaded ≤ reads
   pub at_most : reads ≤ count_by is_package_file loaded + count_by is_package_other loaded

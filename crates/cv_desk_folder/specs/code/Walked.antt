@@ -43,7 +43,7 @@ failure_after last (Ok found) = last
 failure_after last (Err (error.Failed failure)) = Some failure
 failure_after last (Err error.NoMemory) = last
 
--- at most so many bytes were read
+-- at most this number of bytes was read
 abbrev pub IsWithin : ℕ → FileRead → Type 0
 IsWithin limit (Bytes bytes) = length bytes ≤ limit
 IsWithin limit TooLarge = Unit {0}

@@ -1,4 +1,4 @@
--- Work at the places of two slices beside each other.
+-- Concurrent work at the places of two slices.
 use Rattle.std.specs.Prelude.{⊤, ℕ, ◌+◌, ◌≤◌, List, [], ◌∷◌}
 
 -- each place can be worked at

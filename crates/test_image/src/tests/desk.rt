@@ -133,7 +133,7 @@ fn a_desk_has_passed_once_all_its_listings_reached_the_goal(rt: HostRuntime) -> 
     Ok(())
 }
 
-/// Whether two desks with these goals have passed after so many listings of the first and then of the second, at most two each.
+/// Whether two desks with these goals have passed after these numbers of listings of the first and then of the second, at most two each.
 fn passed(alloc: Global, goals: (u64, u64), listings: (u8, u8)) -> Result<(bool, bool), Fail> {
     let (mut first, mut second) = GateDesk::pair(
         alloc,

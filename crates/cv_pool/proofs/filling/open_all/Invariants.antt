@@ -2,6 +2,6 @@ use Rattle.std.proofs.Common.{◌≡◌, length}
 use Rattle.cv_pool.specs.code.Filling.{AreOwners}
 use Rattle.cv_pool.proofs.filling.open_all.Given as goal
 
--- so many deques were made, all empty
+-- this number of deques was made, all empty
 abbrev pub invariant-loop : goal.invariant-loop
 invariant-loop l = AreOwners 0 9 0 l.owners.items × (length l.owners.items ≡ l.counter)
