@@ -1,5 +1,5 @@
 ghost use Rattle.std.specs.Prelude.{◌≡◌, ℕ, true, false, List, Option};
-ghost use Rattle.std.specs.List.{All, list_any};
+ghost use Rattle.std.specs.List.{AllByRecursion, list_any};
 ghost use Rattle.std.specs.List.Sorted.{IsStrictlySortedBy};
 ghost use Rattle.cv_base.specs.declared.package.Package.{Package};
 ghost use Rattle.cv_base.specs.declared.package.PackageName.{PackageName};
@@ -16,7 +16,7 @@ ghost use Rattle.cv_match.specs.Keys.{keys_of};
 /// at run time.
 pub fn names_law()
     ensures sorted { (shape : Shape) → IsStrictlySortedBy text_cmp (layer_names shape) }
-    ensures listed { (shapes : List Shape) (seals : List (Option (List ℕ))) (found : List Package) → coalesced shapes seals ≡ Good found → All (λ p. some_layer_has shapes (key_name p) ≡ true) found }
-    ensures unlisted { (shapes : List Shape) (seals : List (Option (List ℕ))) (found : List Package) (keys : List PackageName) → coalesced shapes seals ≡ Good found → list_any (has_name_of keys) shapes ≡ false → All (λ p. has_key_of keys p ≡ false) found }
-    ensures keys { (p : Package) → All (λ key. key.name ≡ key_name p) (keys_of p) }
+    ensures listed { (shapes : List Shape) (seals : List (Option (List ℕ))) (found : List Package) → coalesced shapes seals ≡ Good found → AllByRecursion (λ p. some_layer_has shapes (key_name p) ≡ true) found }
+    ensures unlisted { (shapes : List Shape) (seals : List (Option (List ℕ))) (found : List Package) (keys : List PackageName) → coalesced shapes seals ≡ Good found → list_any (has_name_of keys) shapes ≡ false → AllByRecursion (λ p. has_key_of keys p ≡ false) found }
+    ensures keys { (p : Package) → AllByRecursion (λ key. key.name ≡ key_name p) (keys_of p) }
 {}

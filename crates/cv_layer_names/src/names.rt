@@ -84,6 +84,7 @@ fn all_names(alloc: Global, files: &[FileFound]) -> Result<Vec<Text>, NoMemory>
 }
 
 /// The names of the packages of a file, in its order.
+#[tactic(auto, using(crate::proofs::FileNames::deb_names, crate::proofs::FileNames::apk_names))]
 fn file_names(alloc: Global, file: &FileFound) -> Result<Vec<Text>, NoMemory>
     ensures { IfOk result (λ names. names.items ≡ file_names file.now) }
 {

@@ -1,0 +1,3 @@
+pub mod FileNames
+pub mod Keyed
+pub mod Listed
