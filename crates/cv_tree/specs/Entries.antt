@@ -1,9 +1,11 @@
 -- A map as the list of its entries, each a key and its value, in ascending order of the keys (defined by this project).
 -- The words for one change are those of std's ordered maps. Two keys are the same if they compare equal.
-use Rattle.std.specs.Prelude.{ℕ, List, map, Option, None, Some, ◌+◌, [], ◌∷◌, ◌++◌}
+use Rattle.std.specs.Prelude.{ℕ, Bool, List, map, Option, None, Some, if◌then◌else◌, ◌+◌, [], ◌∷◌, ◌++◌}
 use Rattle.std.specs.BTreeMap.{insert_entry, is_at}
+use Rattle.std.specs.List.{list_any}
 use Rattle.std.specs.List.Sorted.{IsStrictlySortedBy}
 use Rattle.std.specs.Map.{keys_of, lookup, remove_entry}
+use Rattle.std.specs.Ordering.{is_eq}
 use Rattle.std.specs.declared.cmp.Ordering.{Ordering}
 
 -- each key is below those after it
@@ -45,3 +47,19 @@ rows_of f (e ∷ es) = f e.0 e.1 ++ rows_of f es
 abbrev pub costs_of : {K V : Type 0} → (K → V → ℕ) → List (K × V) → ℕ
 costs_of f [] = 0
 costs_of f (e ∷ es) = f e.0 e.1 + costs_of f es
+
+-- the key is one of these
+abbrev pub is_among : {K : Type 0} → (K → K → Ordering) → List K → K → Bool
+is_among cmp keys k = list_any (λ x. is_eq (cmp k x)) keys
+
+-- what a value becomes if only those at these keys change
+abbrev pub made_at : {K V : Type 0} → (K → K → Ordering) → List K → (K → V → V) → K → V → V
+made_at cmp keys f k v = if is_among cmp keys k then f k v else v
+
+-- the rows that a value adds if only those at these keys add some
+abbrev pub added_at : {K V R : Type 0} → (K → K → Ordering) → List K → (K → V → List R) → K → V → List R
+added_at cmp keys f k v = if is_among cmp keys k then f k v else []
+
+-- what a value costs if only those at these keys cost something
+abbrev pub cost_at : {K V : Type 0} → (K → K → Ordering) → List K → (K → V → ℕ) → K → V → ℕ
+cost_at cmp keys f k v = if is_among cmp keys k then f k v else 0

@@ -10,7 +10,7 @@ use std::alloc::Global;
 use std::cmp::Ordering;
 
 /// The same branch with a value at a key, if the keys ascend.
-pub fn set<K: Ord + Copy, V: Share + Drop>(
+pub fn set<K: Ord + Share + Drop, V: Share + Drop>(
     alloc: Global,
     branch: &Branch<K, V>,
     key: K,
@@ -24,27 +24,30 @@ pub fn set<K: Ord + Copy, V: Share + Drop>(
     };
     match key.cmp(&fork.key) {
         Ordering::Less => {
+            let here = fork.key.share()?;
             let old = fork.value.share()?;
             let right = fork.right.share()?;
             let left = set(alloc, &fork.left, key, value)?;
-            Branch::joined(alloc, left, fork.key, old, right)
+            Branch::joined(alloc, left, here, old, right)
         }
         Ordering::Equal => {
+            let here = fork.key.share()?;
             let left = fork.left.share()?;
             let right = fork.right.share()?;
-            Branch::of(alloc, left, fork.key, value, right)
+            Branch::of(alloc, left, here, value, right)
         }
         Ordering::Greater => {
+            let here = fork.key.share()?;
             let old = fork.value.share()?;
             let left = fork.left.share()?;
             let right = set(alloc, &fork.right, key, value)?;
-            Branch::joined(alloc, left, fork.key, old, right)
+            Branch::joined(alloc, left, here, old, right)
         }
     }
 }
 
 /// The same branch without a key, if the keys ascend.
-pub fn without<K: Ord + Copy, V: Share + Drop>(
+pub fn without<K: Ord + Share + Drop, V: Share + Drop>(
     alloc: Global,
     branch: &Branch<K, V>,
     key: &K,
@@ -57,26 +60,28 @@ pub fn without<K: Ord + Copy, V: Share + Drop>(
     };
     match key.cmp(&fork.key) {
         Ordering::Less => {
+            let here = fork.key.share()?;
             let old = fork.value.share()?;
             let right = fork.right.share()?;
             let left = without(alloc, &fork.left, key)?;
-            Branch::joined(alloc, left, fork.key, old, right)
+            Branch::joined(alloc, left, here, old, right)
         }
         Ordering::Equal => {
             let left = fork.left.share()?;
             appended(alloc, left, &fork.right)
         }
         Ordering::Greater => {
+            let here = fork.key.share()?;
             let old = fork.value.share()?;
             let left = fork.left.share()?;
             let right = without(alloc, &fork.right, key)?;
-            Branch::joined(alloc, left, fork.key, old, right)
+            Branch::joined(alloc, left, here, old, right)
         }
     }
 }
 
 /// The entries of two branches in a row.
-fn appended<K: Copy, V: Share + Drop>(
+fn appended<K: Share + Drop, V: Share + Drop>(
     alloc: Global,
     left: Branch<K, V>,
     right: &Branch<K, V>,
@@ -88,13 +93,14 @@ fn appended<K: Copy, V: Share + Drop>(
     let Some((key, value)) = first(right) else {
         return Ok(left);
     };
+    let key = key.share()?;
     let value = value.share()?;
     let rest = without_first(alloc, right)?;
-    Branch::joined(alloc, left, *key, value, rest)
+    Branch::joined(alloc, left, key, value, rest)
 }
 
 /// The same branch without its leftmost entry, if it has one.
-fn without_first<K: Copy, V: Share + Drop>(
+fn without_first<K: Share + Drop, V: Share + Drop>(
     alloc: Global,
     branch: &Branch<K, V>,
 ) -> Result<Branch<K, V>, NoMemory>
@@ -107,8 +113,9 @@ fn without_first<K: Copy, V: Share + Drop>(
     if fork.left.fork().is_none() {
         return fork.right.share();
     }
+    let key = fork.key.share()?;
     let value = fork.value.share()?;
     let right = fork.right.share()?;
     let left = without_first(alloc, &fork.left)?;
-    Branch::joined(alloc, left, fork.key, value, right)
+    Branch::joined(alloc, left, key, value, right)
 }

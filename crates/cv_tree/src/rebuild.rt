@@ -1,5 +1,7 @@
 ghost use Rattle.std.specs.Prelude.{◌≡◌, ◌+◌, ◌≤◌, ◌∷◌, ◌++◌, max, unwrap_or, IfOk, OnOk};
-ghost use Rattle.cv_tree.specs.Entries.{costs_of, remade_entries, rows_of};
+ghost use Rattle.std.specs.List.Sorted.{IsStrictlySortedBy};
+ghost use Rattle.cv_tree.specs.Entries.{IsAscending, added_at, cost_at, costs_of, made_at, remade_entries, rows_of};
+ghost use Rattle.cv_tree.specs.code.Keys.{IsAround};
 ghost use Rattle.cv_tree.specs.Nodes.{shape_of};
 ghost use Rattle.cv_tree.specs.Shapes.{AreWithin};
 
@@ -11,7 +13,7 @@ use std::alloc::Global;
 
 /// The same branch with the values that a maker gives, or None if each stays as it is. A branch of which nothing changes
 /// is shared.
-pub fn remade<K: Copy, V: Share + Drop, M: Remake<K, V>>(
+pub fn remade<K: Share + Drop, V: Share + Drop, M: Remake<K, V>>(
     alloc: Global,
     branch: &Branch<K, V>,
     maker: &M,
@@ -27,13 +29,13 @@ pub fn remade<K: Copy, V: Share + Drop, M: Remake<K, V>>(
         return Ok(None);
     };
     let left = remade(alloc, &fork.left, maker, rows, tally)?;
-    let value = maker.remake(alloc, fork.key, &fork.value, rows, tally)?;
+    let value = maker.remake(alloc, &fork.key, &fork.value, rows, tally)?;
     let right = remade(alloc, &fork.right, maker, rows, tally)?;
     rebuilt(alloc, fork, left, value, right)
 }
 
 /// A node with new parts, where there are some, or None if there are none.
-fn rebuilt<K: Copy, V: Share + Drop>(
+fn rebuilt<K: Share + Drop, V: Share + Drop>(
     alloc: Global,
     fork: &Fork<K, V>,
     left: Option<Branch<K, V>>,
@@ -47,10 +49,11 @@ fn rebuilt<K: Copy, V: Share + Drop>(
     if left.is_none() && value.is_none() && right.is_none() {
         return Ok(None);
     }
+    let key = fork.key.share()?;
     let left = new_or_shared(left, &fork.left)?;
     let value = new_or_shared(value, &fork.value)?;
     let right = new_or_shared(right, &fork.right)?;
-    Ok(Some(Branch::of(alloc, left, fork.key, value, right)?))
+    Ok(Some(Branch::of(alloc, left, key, value, right)?))
 }
 
 fn new_or_shared<T: Share>(new: Option<T>, old: &T) -> Result<T, NoMemory>
@@ -59,5 +62,49 @@ fn new_or_shared<T: Share>(new: Option<T>, old: &T) -> Result<T, NoMemory>
     match new {
         Some(new) => Ok(new),
         None => old.share(),
+    }
+}
+
+/// The same at some keys alone, which come in ascending order, if the keys of the branch ascend.
+pub fn remade_at<K: Ord + Share + Drop, V: Share + Drop, M: Remake<K, V>>(
+    alloc: Global,
+    branch: &Branch<K, V>,
+    keys: &[K],
+    maker: &M,
+    rows: &mut Vec<M::Row>,
+    tally: &mut M::Tally,
+) -> Result<Option<Branch<K, V>>, NoMemory>
+    requires entries { IsAscending K.cmp branch.now.entries }
+    requires keys { IsStrictlySortedBy K.cmp keys.now }
+    ensures value { IfOk result (λ new. (unwrap_or new branch.now).entries ≡ remade_entries (made_at K.cmp keys.now (M.made maker.now)) branch.now.entries) }
+    ensures height { IfOk result (λ new. (unwrap_or new branch.now).height ≡ branch.now.height) }
+    ensures rows { OnOk result (rows.new.items ≡ rows.old.items ++ rows_of (added_at K.cmp keys.now (M.added maker.now)) branch.now.entries) }
+    ensures counted { M.costs tally.new ≤ M.costs tally.old + costs_of (cost_at K.cmp keys.now (M.cost maker.now)) branch.now.entries }
+{
+    if keys.is_empty() {
+        return Ok(None);
+    }
+    let Some(fork) = branch.fork() else {
+        return Ok(None);
+    };
+    let (before, here, after) = around(keys, &fork.key);
+    let left = remade_at(alloc, &fork.left, before, maker, rows, tally)?;
+    let value = if here {
+        maker.remake(alloc, &fork.key, &fork.value, rows, tally)?
+    } else {
+        None
+    };
+    let right = remade_at(alloc, &fork.right, after, maker, rows, tally)?;
+    rebuilt(alloc, fork, left, value, right)
+}
+
+/// The keys below one, whether it is among them, and the keys above it.
+fn around<'a, K: Ord>(keys: &'a [K], key: &K) -> (&'a [K], bool, &'a [K])
+    requires { IsStrictlySortedBy K.cmp keys.now }
+    ensures { IsAround K.cmp keys.now key.now result.0.now result.1 result.2.now }
+{
+    match keys.binary_search(key) {
+        Ok(at) => (&keys[..at], true, &keys[at + 1..]),
+        Err(at) => (&keys[..at], false, &keys[at..]),
     }
 }

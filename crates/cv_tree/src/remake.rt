@@ -25,12 +25,12 @@ pub trait Remake<K, V> {
     fn remake(
         &self,
         alloc: Global,
-        key: K,
+        key: &K,
         old: &V,
         rows: &mut Vec<Self::Row>,
         tally: &mut Self::Tally,
     ) -> Result<Option<V>, NoMemory>
-        ensures value { IfOk result (λ new. unwrap_or new old.now ≡ made self.now key old.now) }
-        ensures rows { OnOk result (rows.new.items ≡ rows.old.items ++ added self.now key old.now) }
-        ensures counted { costs tally.new ≤ costs tally.old + cost self.now key old.now };
+        ensures value { IfOk result (λ new. unwrap_or new old.now ≡ made self.now key.now old.now) }
+        ensures rows { OnOk result (rows.new.items ≡ rows.old.items ++ added self.now key.now old.now) }
+        ensures counted { costs tally.new ≤ costs tally.old + cost self.now key.now old.now };
 }

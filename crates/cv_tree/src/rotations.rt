@@ -7,7 +7,7 @@ use crate::share::Share;
 use cv_base::NoMemory;
 use std::alloc::Global;
 
-impl<K: Copy, V: Share + Drop> Branch<K, V> {
+impl<K: Share + Drop, V: Share + Drop> Branch<K, V> {
     /// The entries of two branches, with one between them. If the heights of the branches differ by two, rotations balance them.
     pub fn joined(
         alloc: Global,
@@ -31,7 +31,7 @@ impl<K: Copy, V: Share + Drop> Branch<K, V> {
 }
 
 /// The same with a left branch that is two higher: its top goes up, or the node right below the top, if that side is the higher.
-fn turned_right<K: Copy, V: Share + Drop>(
+fn turned_right<K: Share + Drop, V: Share + Drop>(
     alloc: Global,
     left: &Branch<K, V>,
     key: K,
@@ -49,11 +49,17 @@ fn turned_right<K: Copy, V: Share + Drop>(
         return turned_twice_right(alloc, top, key, value, right);
     }
     let lower = Branch::of(alloc, top.right.share()?, key, value, right)?;
-    Branch::of(alloc, top.left.share()?, top.key, top.value.share()?, lower)
+    Branch::of(
+        alloc,
+        top.left.share()?,
+        top.key.share()?,
+        top.value.share()?,
+        lower,
+    )
 }
 
 /// The same where the node right below the top of the left branch goes up, between both.
-fn turned_twice_right<K: Copy, V: Share + Drop>(
+fn turned_twice_right<K: Share + Drop, V: Share + Drop>(
     alloc: Global,
     top: &Fork<K, V>,
     key: K,
@@ -72,16 +78,22 @@ fn turned_twice_right<K: Copy, V: Share + Drop>(
     let before = Branch::of(
         alloc,
         outer,
-        top.key,
+        top.key.share()?,
         top.value.share()?,
         middle.left.share()?,
     )?;
     let after = Branch::of(alloc, middle.right.share()?, key, value, right)?;
-    Branch::of(alloc, before, middle.key, middle.value.share()?, after)
+    Branch::of(
+        alloc,
+        before,
+        middle.key.share()?,
+        middle.value.share()?,
+        after,
+    )
 }
 
 /// The same with a right branch that is two higher: its top goes up, or the node left below the top, if that side is the higher.
-fn turned_left<K: Copy, V: Share + Drop>(
+fn turned_left<K: Share + Drop, V: Share + Drop>(
     alloc: Global,
     left: Branch<K, V>,
     key: K,
@@ -102,14 +114,14 @@ fn turned_left<K: Copy, V: Share + Drop>(
     Branch::of(
         alloc,
         lower,
-        top.key,
+        top.key.share()?,
         top.value.share()?,
         top.right.share()?,
     )
 }
 
 /// The same where the node left below the top of the right branch goes up, between both.
-fn turned_twice_left<K: Copy, V: Share + Drop>(
+fn turned_twice_left<K: Share + Drop, V: Share + Drop>(
     alloc: Global,
     left: Branch<K, V>,
     key: K,
@@ -129,9 +141,15 @@ fn turned_twice_left<K: Copy, V: Share + Drop>(
     let after = Branch::of(
         alloc,
         middle.right.share()?,
-        top.key,
+        top.key.share()?,
         top.value.share()?,
         outer,
     )?;
-    Branch::of(alloc, before, middle.key, middle.value.share()?, after)
+    Branch::of(
+        alloc,
+        before,
+        middle.key.share()?,
+        middle.value.share()?,
+        after,
+    )
 }

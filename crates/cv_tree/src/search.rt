@@ -4,6 +4,7 @@ ghost use Rattle.std.specs.Option.{option_map};
 ghost use Rattle.cv_tree.specs.Entries.{IsAscending, at, first_entry};
 
 use crate::branch::Branch;
+use crate::share::Share;
 use cv_base::NoMemory;
 use std::cmp::Ordering;
 
@@ -32,19 +33,22 @@ pub fn get<'a, K: Ord, V>(branch: &'a Branch<K, V>, key: &K) -> Option<&'a V>
 }
 
 /// Appends the keys, from left to right.
-pub fn push_keys<K: Copy, V>(branch: &Branch<K, V>, keys: &mut Vec<K>) -> Result<(), NoMemory>
+pub fn push_keys<K: Share + Drop, V>(
+    branch: &Branch<K, V>,
+    keys: &mut Vec<K>,
+) -> Result<(), NoMemory>
     ensures { OnOk result (keys.new.items ≡ keys.old.items ++ keys_of branch.now.entries) }
 {
     let Some(fork) = branch.fork() else {
         return Ok(());
     };
     push_keys(&fork.left, keys)?;
-    keys.push(fork.key)?;
+    keys.push(fork.key.share()?)?;
     push_keys(&fork.right, keys)
 }
 
 /// Appends the keys, each with its value, from left to right.
-pub fn push_entries<'a, K: Copy, V>(
+pub fn push_entries<'a, K: Share + Drop, V>(
     branch: &'a Branch<K, V>,
     entries: &mut Vec<(K, &'a V)>,
 ) -> Result<(), NoMemory>
@@ -54,6 +58,6 @@ pub fn push_entries<'a, K: Copy, V>(
         return Ok(());
     };
     push_entries(&fork.left, entries)?;
-    entries.push((fork.key, &fork.value))?;
+    entries.push((fork.key.share()?, &fork.value))?;
     push_entries(&fork.right, entries)
 }

@@ -1,6 +1,6 @@
 ghost use Rattle.std.specs.Prelude.{◌≡◌, IfOk};
 
-use cv_base::{Digest, NoMemory, Text};
+use cv_base::{Digest, NoMemory, PackageName, Text};
 use std::alloc::Global;
 use std::marker::Model;
 use std::sync::Arc;
@@ -32,6 +32,12 @@ impl Share for Digest {
 
 impl Share for Text {
     fn share(&self) -> Result<Text, NoMemory> {
+        Ok(self.clone()?)
+    }
+}
+
+impl Share for PackageName {
+    fn share(&self) -> Result<PackageName, NoMemory> {
         Ok(self.clone()?)
     }
 }

@@ -1,11 +1,12 @@
 ghost use Rattle.std.specs.Prelude.{◌≡◌, ◌+◌, ◌≤◌, [], ◌++◌, length, map, is_none, is_some, if◌then◌else◌, IfOk, OnOk};
 ghost use Rattle.std.specs.Map.{keys_of};
 ghost use Rattle.std.specs.Option.{option_map};
-ghost use Rattle.cv_tree.specs.Entries.{IsAscending, at, costs_of, first_entry, remade_entries, rows_of, with_entry, without_key};
+ghost use Rattle.std.specs.List.Sorted.{IsStrictlySortedBy};
+ghost use Rattle.cv_tree.specs.Entries.{IsAscending, added_at, at, cost_at, costs_of, first_entry, made_at, remade_entries, rows_of, with_entry, without_key};
 ghost use Rattle.cv_tree.specs.Heights.{IsHeightOf};
 
 use crate::branch::Branch;
-use crate::rebuild::remade;
+use crate::rebuild::{remade, remade_at};
 use crate::remake::Remake;
 use crate::share::Share;
 use crate::{change, search};
@@ -115,7 +116,7 @@ impl<K: Ord, V> Share for Tree<K, V> {
     }
 }
 
-impl<K: Ord + Copy, V> Tree<K, V> {
+impl<K: Ord + Share + Drop, V> Tree<K, V> {
     /// The keys, in ascending order.
     pub fn keys(&self, alloc: Global) -> Result<Vec<K>, NoMemory>
         ensures { IfOk result (λ keys. keys.items ≡ keys_of self.now) }
@@ -135,7 +136,7 @@ impl<K: Ord + Copy, V> Tree<K, V> {
     }
 }
 
-impl<K: Ord + Copy, V: Share + Drop> Tree<K, V> {
+impl<K: Ord + Share + Drop, V: Share + Drop> Tree<K, V> {
     /// The map with a value at a key. It replaces the value that stands there, whose key stays.
     pub fn set(&self, alloc: Global, key: K, value: V) -> Result<Tree<K, V>, NoMemory>
         ensures { IfOk result (λ t. t ≡ with_entry K.cmp self.now key value) }
@@ -171,6 +172,30 @@ impl<K: Ord + Copy, V: Share + Drop> Tree<K, V> {
         ensures counted { M.costs tally.new ≤ M.costs tally.old + costs_of (M.cost maker.now) self.now }
     {
         match remade(alloc, &self.root, maker, rows, tally)? {
+            None => self.share(),
+            Some(root) => Ok(Tree {
+                root,
+                count: self.count,
+            }),
+        }
+    }
+
+    /// The same at some keys alone, which come in ascending order. Keys without a value are ignored. It visits the
+    /// nodes on the ways down to these keys, and shares all other ones.
+    pub fn remake_at<M: Remake<K, V>>(
+        &self,
+        alloc: Global,
+        keys: &[K],
+        maker: &M,
+        rows: &mut Vec<M::Row>,
+        tally: &mut M::Tally,
+    ) -> Result<Tree<K, V>, NoMemory>
+        requires ascending { IsStrictlySortedBy K.cmp keys.now }
+        ensures value { IfOk result (λ t. t ≡ remade_entries (made_at K.cmp keys.now (M.made maker.now)) self.now) }
+        ensures rows { OnOk result (rows.new.items ≡ rows.old.items ++ rows_of (added_at K.cmp keys.now (M.added maker.now)) self.now) }
+        ensures counted { M.costs tally.new ≤ M.costs tally.old + costs_of (cost_at K.cmp keys.now (M.cost maker.now)) self.now }
+    {
+        match remade_at(alloc, &self.root, keys, maker, rows, tally)? {
             None => self.share(),
             Some(root) => Ok(Tree {
                 root,

@@ -92,12 +92,12 @@ impl Remake<u64, u64> for Doubled {
     fn remake(
         &self,
         _alloc: Global,
-        key: u64,
+        key: &u64,
         old: &u64,
         rows: &mut Vec<u64>,
         tally: &mut u64,
     ) -> Result<Option<u64>, NoMemory> {
-        rows.push(key)?;
+        rows.push(*key)?;
         *tally = tally.saturating_add(1);
         if *old % 2 != 0 {
             return Ok(None);
