@@ -4,6 +4,7 @@ pub mod EntryLemmas
 mod Examples
 pub mod ForkLemmas
 pub mod HeightLemmas
+pub mod KeyLemmas
 pub mod RemadeLemmas
 pub mod TreeLemmas
 pub mod ValueLemmas
