@@ -1,15 +1,17 @@
 -- Chosen keys in ascending order, cut at one key: which of them may stand left of it and which right of it.
-use Rattle.std.specs.Prelude.{◌≡◌, ℕ, ◌+◌, ◌-◌, ◌<◌, ◌≤◌, Bool, true, false, List, [], ◌∷◌, ◌++◌, length, drop, take, Result, Ok, Err, refl}
+use Rattle.std.specs.Prelude.{◌≡◌, ℕ, ◌+◌, ◌-◌, ◌<◌, ◌≤◌, Bool, true, false, List, [], ◌∷◌, ◌++◌, length, drop, take, Result, Ok, Err, MatchResult, refl}
 use Rattle.std.specs.Cmp.{IsTotalOrder, alike_right}
-use Rattle.std.specs.List.{AllByRecursion, AllWithin, HoldsAt, list_any, slice_index_or}
-use Rattle.std.specs.List.Sorted.{IsPartitionPoint, IsStrictlySortedBy}
-use Rattle.std.specs.Ordering.{is_eq}
+use Rattle.std.specs.List.{AllByRecursion, AllWithin, list_any}
+use Rattle.std.specs.List.Sorted.{IsBinarySearchResult, IsSearchInRange, IsSortedBy, IsStrictlySortedBy}
+use Rattle.std.specs.Ordering.{is_eq, is_lt}
 use Rattle.std.specs.declared.cmp.Ordering.{Ordering}
 use Rattle.std.specs.declared.cmp.Ordering.TheVariants.{Less, Equal, Greater}
-use Rattle.std.proofs.Common.{absurd, ap, arith, subst, sym, ◌∙◌}
-use Rattle.std.proofs.lemmas.List.{length-drop, take-append-drop}
+use Rattle.std.proofs.Common.{add-one, ap, arith, get_or, suc, sym, zero, ◌∙◌}
+use Rattle.std.proofs.lemmas.List.{drop_more, length-drop, take-append-drop}
 use Rattle.std.proofs.lemmas.List.Folds.{list_any-append}
+use Rattle.std.proofs.lemmas.List.Sorted.{searchable_from_sorted}
 use Rattle.std.proofs.Math.Seq.{take-length}
+use Rattle.cv_seq.proofs.Orders.{turned}
 use Rattle.cv_tree.specs.Entries.{is_among}
 use Rattle.cv_tree.specs.code.Keys.{IsAround}
 use Rattle.cv_tree.proofs.EntryLemmas.{returned}
@@ -133,3 +135,41 @@ dropped P (x ∷ xs) (suc n) h = dropped P xs n (λ k d l u. h (suc k) d (omega 
 -- the keys from an index on, as a slice has them
 from_index : {K : Type 0} (xs : List K) (n : ℕ) → take (length xs - n) (drop n xs) ≡ drop n xs
 from_index {K} xs n = ap (λ (m : ℕ). take m (drop n xs)) (sym (length-drop n xs)) ∙ take-length (drop n xs)
+
+item : {K : Type 0} (xs : List K) (i : ℕ) → i < length xs → K
+item [] i h = absurd (omega (arith, h))
+item (x ∷ xs) i h = x
+
+turned_all : {K : Type 0} {cmp : K → K → Ordering} → IsTotalOrder cmp → (key : K) (ys : List K) → AllByRecursion (λ y. cmp y key ≡ Greater) ys → AllByRecursion (λ y. cmp key y ≡ Less) ys
+turned_all o key [] h = tt
+turned_all o key (y ∷ ys) h = (turned o y key h.0, turned_all o key ys h.1)
+
+-- each key is above the one before it
+next_up : {K : Type 0} {cmp : K → K → Ordering} → IsTotalOrder cmp → (xs : List K) → IsStrictlySortedBy cmp xs → (k : ℕ) (d : K) → suc k < length xs
+    → cmp (get_or xs (suc k) d) (get_or xs k d) ≡ Greater
+unfolding IsStrictlySortedBy
+next_up o [] h k d l = absurd (omega (arith, l))
+next_up o (x ∷ []) h k d l = absurd (omega (arith, l))
+next_up o (x ∷ y ∷ ys) h zero d l = returned o x y h.0.0
+next_up o (x ∷ y ∷ ys) h (suc k) d l = next_up o (y ∷ ys) h.1 k d (omega (arith, l))
+
+neighbours : {K : Type 0} {cmp : K → K → Ordering} → IsTotalOrder cmp → (xs : List K) → IsStrictlySortedBy cmp xs → (k : ℕ) (d : K) → k + 1 < length xs
+    → is_lt (cmp (get_or xs (k + 1) d) (get_or xs k d)) ≡ false
+neighbours o xs h k d l = rw (add-one k, next_up o xs h k d (omega (arith, l))) refl
+
+-- what a binary search answers
+pub around_search : {K : Type 0} {cmp : K → K → Ordering} → IsTotalOrder cmp → (xs : List K) (key : K) (r : Result ℕ ℕ) → IsStrictlySortedBy cmp xs
+    → IsSearchInRange r (length xs) → IsBinarySearchResult (λ y. cmp y key) xs r
+    → MatchResult r (λ i. IsAround cmp xs key (take i xs) true (take (length xs - (i + 1)) (drop (i + 1) xs))) (λ i. IsAround cmp xs key (take i xs) false (take (length xs - i) (drop i xs)))
+around_search {K} {cmp} o xs key (Ok i) h bound found =
+    let d = item xs i bound in
+    let parts : take i xs ++ get_or xs i d ∷ drop (i + 1) xs ≡ xs = rw (drop_more xs i d bound) at (take-append-drop i xs) in
+    let whole = around_found o (take i xs) (get_or xs i d) (drop (i + 1) xs) key (rw parts h) (found d) in
+    rw (from_index xs (i + 1)) (rw parts at whole)
+around_search {K} {cmp} o xs key (Err i) h bound found =
+    let sorted : IsSortedBy (λ (a b : K). is_lt (cmp a b)) xs = λ k d low l. neighbours o xs h k d l in
+    let point = found (searchable_from_sorted o (λ (x : K). x) xs key sorted) in
+    let below = taken (λ y. cmp y key ≡ Less) xs i point.0 bound in
+    let above = turned_all o key (drop i xs) (dropped (λ y. cmp y key ≡ Greater) xs i point.1) in
+    let whole = around_gap o (take i xs) (drop i xs) key (rw (take-append-drop i xs) h) below above in
+    rw (from_index xs i) (rw (take-append-drop i xs) at whole)
