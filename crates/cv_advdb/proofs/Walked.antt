@@ -152,7 +152,7 @@ pub turned_equal : (x y : Advisory) → id_cmp x y ≡ Equal → id_cmp y x ≡ 
 turned_equal x y h = id_total.antisymm y x ∙ ap ordering_reverse h
 
 -- the rest of a sorted list is sorted
-rest_sorted : (x : Advisory) (xs ls : List Advisory) → xs ≡ x ∷ ls → IsStrictlySortedBy id_cmp xs → IsStrictlySortedBy id_cmp ls
+pub rest_sorted : (x : Advisory) (xs ls : List Advisory) → xs ≡ x ∷ ls → IsStrictlySortedBy id_cmp xs → IsStrictlySortedBy id_cmp ls
 unfolding IsStrictlySortedBy
 rest_sorted x xs ls e s = let t : IsStrictlySortedBy id_cmp (x ∷ ls) = subst (IsStrictlySortedBy id_cmp) e s in t.1
 

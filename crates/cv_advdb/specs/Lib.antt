@@ -1,3 +1,4 @@
 pub mod Feeds
+pub mod Patch
 pub mod Touched
 pub mod code

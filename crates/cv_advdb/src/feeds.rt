@@ -1,19 +1,22 @@
-ghost use Rattle.std.specs.Prelude.{◌≡◌, ◌↔◌, [], false, IfOk, IfErr, IfSome, IsErrOf, IsTrue, OnOk, OnErr};
+ghost use Rattle.std.specs.Prelude.{◌≡◌, ◌↔◌, ◌≤◌, [], false, length, IfOk, IfErr, IfSome, IsErrOf, IsTrue, OnOk, OnErr};
 ghost use Rattle.std.specs.BTreeMap.{insert_entry};
 ghost use Rattle.std.specs.List.{slice_get};
 ghost use Rattle.std.specs.List.Sorted.{IsStrictlySortedBy};
 ghost use Rattle.std.specs.Map.{keys_of};
 ghost use Rattle.std.specs.Option.{option_map};
 ghost use Rattle.cv_base.specs.declared.package.Package.{Package};
+ghost use Rattle.cv_base.specs.declared.limits.TheConstants.{MAX_ADVISORIES};
 ghost use Rattle.cv_match.specs.Findings.{found_in, text_cmp};
 ghost use Rattle.cv_match.specs.Prepared.{prepared_for};
-ghost use Rattle.cv_advdb.specs.Feeds.{AreSorted, by_id, id_cmp, is_full, listed_under, records_of, replaced};
+ghost use Rattle.cv_advdb.specs.Feeds.{AreSorted, by_id, has_feed, id_cmp, is_full, listed_under, records_of, replaced};
+ghost use Rattle.cv_advdb.specs.Patch.{CountsTooMany, patch_count, patched, patched_records};
 ghost use Rattle.cv_advdb.specs.Touched.{IsTouched, is_touched};
 
 use crate::difference::touched_keys;
-use crate::error::AdvError;
+use crate::error::{AdvError, PatchError};
 use crate::record::StoredRecord;
 use crate::stock::Stock;
+use crate::touch::Touched;
 use cv_base::{Advisory, NoMemory, PackageKind, PackageName, Seq, Text};
 use cv_match::ReadyAdvisory;
 use std::alloc::Global;
@@ -36,13 +39,6 @@ impl Model for Feeds {
     ghost view = { λ f. record { feeds = f.feeds.entries; limit = f.limit } };
 
     ghost invariant = { λ f. AreSorted f.feeds.entries };
-}
-
-/// The names, as advisories have them, of the packages that a replacement may concern, sorted by ecosystem and then by name, each
-/// once.
-#[derive(Debug, PartialEq, Eq, Drop)]
-pub struct Touched {
-    pub keys: Seq<PackageName>,
 }
 
 /// A record of a feed, and the same record as it is prepared for a kind of package.
@@ -85,6 +81,34 @@ impl Feeds {
         let stock = Stock::of(alloc, records.into_vec())?;
         let touched = self.touched_by(alloc, &feed, &stock)?;
         self.put(feed, stock)?;
+        Ok(touched)
+    }
+
+    /// Patches a feed: removes the records of some ids and those of which the patch has new ones of the same id, adds the new
+    /// ones, and returns the keys under which a record was added, removed or changed. An id to remove of which there is no record
+    /// is passed over, and one that has a new record has it afterwards. Of new records that have one id the last one stays.
+    /// `NoFeed` is tested first. `TooManyRecords` comes if the feed would have more than 200,000 records, and says how many.
+    pub fn patch(
+        &mut self,
+        alloc: Global,
+        feed: &Text,
+        records: Seq<Advisory>,
+        remove: &[Text],
+    ) -> Result<Touched, PatchError>
+        ensures value { IfOk result (λ _. self.new ≡ patched self.old feed.now records remove.now) }
+        ensures touched { IfOk result (λ touched. IsTouched (records_of feed.now self.old.feeds) (patched_records (records_of feed.now self.old.feeds) records remove.now) touched.keys) }
+        ensures room { IfOk result (λ _. patch_count self.old feed.now records remove.now ≤ MAX_ADVISORIES) }
+        ensures no_feed { IsErrOf result PatchError.NoFeed ↔ has_feed feed.now self.old.feeds ≡ false }
+        ensures too_many { IfErr result (CountsTooMany (patch_count self.old feed.now records remove.now)) }
+        ensures err { IfErr result (λ _. self.new ≡ self.old) }
+        ensures untouched { IfOk result (λ touched. (p : Package) → is_touched touched.keys p ≡ false → found_in self.new.feeds p ≡ found_in self.old.feeds p) }
+    {
+        let Some(stock) = self.feeds.get(feed) else {
+            return Err(PatchError::NoFeed);
+        };
+        let stock = stock.patched(alloc, records, remove)?;
+        let touched = self.touched_by(alloc, feed, &stock)?;
+        self.put_copied(feed, stock)?;
         Ok(touched)
     }
 
@@ -149,6 +173,16 @@ impl Feeds {
     {
         let keys = touched_keys(alloc, self.records_of(feed), stock.records())?;
         Ok(Touched { keys })
+    }
+
+    /// Replaces the records of a feed, or adds the feed, under a copy of the name.
+    fn put_copied(&mut self, feed: &Text, stock: Stock) -> Result<(), NoMemory>
+        requires { IsStrictlySortedBy id_cmp stock }
+        ensures value { OnOk result (self.new ≡ record { feeds = insert_entry text_cmp self.old.feeds feed.now stock; limit = self.old.limit }) }
+        ensures err { OnErr result (self.new ≡ self.old) }
+    {
+        let name = feed.clone()?;
+        self.put(name, stock)
     }
 
     /// Replaces the records of a feed, or adds the feed.

@@ -14,11 +14,16 @@ mod feeds;
 mod index;
 mod laws;
 mod list;
+mod lookup;
 mod names;
+mod patch;
 mod record;
 mod same;
 mod stock;
+mod touch;
 
-pub use error::AdvError;
-pub use feeds::{Feeds, Listed, Touched};
+pub use error::{AdvError, PatchError};
+pub use feeds::{Feeds, Listed};
 pub use laws::touched_laws;
+pub use lookup::is_touched;
+pub use touch::Touched;

@@ -1,12 +1,17 @@
-ghost use Rattle.std.specs.Prelude.{◌≡◌, IfOk, filter};
+ghost use Rattle.std.specs.Prelude.{◌≡◌, ◌≤◌, IfOk, IfErr, filter, length};
 ghost use Rattle.std.specs.List.Sorted.{IsStrictlySortedBy};
+ghost use Rattle.cv_base.specs.declared.limits.TheConstants.{MAX_ADVISORIES};
 ghost use Rattle.cv_match.specs.Keys.{is_named};
 ghost use Rattle.cv_advdb.specs.Feeds.{by_id, id_cmp};
+ghost use Rattle.cv_advdb.specs.Patch.{CountsTooMany, patched_records};
+ghost use Rattle.cv_advdb.specs.declared.error.PatchError.TheVariants.{NoFeed};
 
+use crate::error::PatchError;
 use crate::index::index_records;
 use crate::list::RecordList;
+use crate::patch::{merge, patch_ids, split_by};
 use crate::record::{StoredRecord, in_id_order};
-use cv_base::{Advisory, NoMemory, PackageName};
+use cv_base::{Advisory, MAX_ADVISORIES, NoMemory, PackageName, Seq, Text};
 use std::alloc::{AllocError, Global};
 use std::collections::BTreeMap;
 use std::marker::Model;
@@ -79,7 +84,52 @@ impl Stock {
         ensures { IfOk result (λ stock. stock ≡ by_id records.items) }
     {
         let sorted = in_id_order(alloc, records)?;
-        let indexed = IndexedRecords::of(alloc, sorted)?;
+        Stock::sorted(alloc, sorted)
+    }
+
+    /// The records after a patch, but not more than a feed may have.
+    pub fn patched(
+        &self,
+        alloc: Global,
+        records: Seq<Advisory>,
+        remove: &[Text],
+    ) -> Result<Stock, PatchError>
+        ensures value { IfOk result (λ stock. stock ≡ patched_records self.now records remove.now) }
+        ensures room { IfOk result (λ _. length (patched_records self.now records remove.now) ≤ MAX_ADVISORIES) }
+        ensures too_many { IfErr result (CountsTooMany (length (patched_records self.now records remove.now))) }
+        ensures stands { IfErr result (λ e. ¬ (e ≡ NoFeed)) }
+    {
+        let all = self.merged(alloc, records, remove)?;
+        if all.len() > MAX_ADVISORIES {
+            return Err(PatchError::TooManyRecords {
+                would: all.len() as u64,
+            });
+        }
+        Ok(Stock::sorted(alloc, all)?)
+    }
+
+    /// The records after a patch, in the order of their ids.
+    fn merged(
+        &self,
+        alloc: Global,
+        records: Seq<Advisory>,
+        remove: &[Text],
+    ) -> Result<Vec<StoredRecord>, NoMemory>
+        ensures value { IfOk result (λ all. all.items ≡ patched_records self.now records remove.now) }
+        ensures sorted { IfOk result (λ all. IsStrictlySortedBy id_cmp all.items) }
+    {
+        let ids = patch_ids(alloc, records.as_slice(), remove)?;
+        let news = in_id_order(alloc, records.into_vec())?;
+        let (others, _) = split_by(alloc, self.records(), &ids)?;
+        merge(alloc, &others, &news)
+    }
+
+    /// Indexes sorted records.
+    fn sorted(alloc: Global, records: Vec<StoredRecord>) -> Result<Stock, NoMemory>
+        requires { IsStrictlySortedBy id_cmp records.items }
+        ensures { IfOk result (λ stock. stock ≡ records.items) }
+    {
+        let indexed = IndexedRecords::of(alloc, records)?;
         Ok(Stock {
             inner: Arc::new(alloc, indexed)?,
         })

@@ -1,4 +1,5 @@
 pub mod Pairs
 pub mod Parts
+pub mod Rematch
 pub mod Rows
 pub mod code

@@ -49,7 +49,7 @@ fn match_each<L: Ledger>(
 }
 
 /// Adds the findings of a package.
-fn match_package<L: Ledger>(
+pub fn match_package<L: Ledger>(
     alloc: Global,
     out: &mut Vec<Finding>,
     package: &Package,
