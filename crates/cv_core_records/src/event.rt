@@ -18,6 +18,7 @@ pub enum Act {
     Fault(Digest),
     Memory(Digest),
     Update(Text),
+    Patch(Text),
     Ack(u64),
 }
 

@@ -38,13 +38,23 @@ pub enum Reply {
     Requeued,
     /// The layer is not the worker's.
     NotClaimed,
-    /// The feed has the new records. `rows` is how many rows the update raises; if it raises none, there is no notification.
+    /// The feed has the new records. `rows` is how many rows the update or the patch raises; if it raises none, there is no notification.
     Updated {
         generation: u64,
         rows: u64,
     },
     /// There are as many feeds as there may be.
     TooManyFeeds,
+    /// There is no feed of that name to patch.
+    NoFeed,
+    /// The patch is of another generation of the feed than that of its last update, which is `kept`.
+    StaleBase {
+        kept: u64,
+    },
+    /// With the patch the feed would have `would` records, which is more than it may have.
+    TooManyRecords {
+        would: u64,
+    },
     /// The notification is gone.
     Acked,
     /// There is no notification of that number.
@@ -78,6 +88,9 @@ impl Clone for Reply {
                 rows: *rows,
             },
             Reply::TooManyFeeds => Reply::TooManyFeeds,
+            Reply::NoFeed => Reply::NoFeed,
+            Reply::StaleBase { kept } => Reply::StaleBase { kept: *kept },
+            Reply::TooManyRecords { would } => Reply::TooManyRecords { would: *would },
             Reply::Acked => Reply::Acked,
             Reply::NoNotification => Reply::NoNotification,
         })
