@@ -30,6 +30,7 @@ act_name (act.Indexed layer worker) = name.Indexed layer
 act_name (act.Fault layer worker) = name.Fault layer
 act_name (act.Memory layer worker) = name.Memory layer
 act_name (act.Update feed records) = name.Update feed
+act_name (act.Patch feed base records remove) = name.Patch feed
 act_name (act.Ack number) = name.Ack number
 
 -- the entry of an event with this number

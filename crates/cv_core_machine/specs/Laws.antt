@@ -5,12 +5,16 @@ use Rattle.std.specs.List.Sorted.{IsStrictlySortedBy}
 use Rattle.std.specs.Map.{keys_of}
 use Rattle.std.specs.Option.{is_some}
 use Rattle.std.specs.Ordering.{nat_cmp}
+use Rattle.cv_base.specs.Texts.{same}
+use Rattle.cv_base.specs.declared.advisory.Advisory.{Advisory}
 use Rattle.cv_base.specs.declared.finding.Row.{Row}
 use Rattle.cv_match.specs.Findings.{text_cmp}
+use Rattle.cv_advdb.specs.Feeds.{by_id}
 use Rattle.cv_core_records.specs.declared.reply.Reply.{Reply}
 use Rattle.cv_core_records.specs.declared.reply.Reply.TheVariants as reply
 use Rattle.cv_core_machine.specs.Layers.{is_claimed_as, is_named}
-use Rattle.cv_core_machine.specs.State.{Notifications, State, value_at}
+use Rattle.cv_core_machine.specs.State.{Feeds, Notifications, State, value_at}
+use Rattle.cv_core_machine.specs.Step.{feed_patched}
 use Rattle.cv_core_machine.specs.declared.event.MachineEvent.{MachineEvent}
 use Rattle.cv_core_machine.specs.declared.event.MachineEvent.TheVariants as act
 use Rattle.cv_core_machine.specs.declared.status.Status.{Status}
@@ -25,6 +29,9 @@ changes_nothing reply.Taken = true
 changes_nothing reply.Unwanted = true
 changes_nothing reply.NotClaimed = true
 changes_nothing reply.TooManyFeeds = true
+changes_nothing reply.NoFeed = true
+changes_nothing (reply.StaleBase kept) = true
+changes_nothing (reply.TooManyRecords would) = true
 changes_nothing reply.NoNotification = true
 changes_nothing _ = false
 
@@ -33,7 +40,7 @@ abbrev pub IsGenerationAfter : ℕ → Reply → ℕ → Type 0
 IsGenerationAfter before (reply.Updated generation rows) now = (now ≡ before + 1) × (generation ≡ now)
 IsGenerationAfter before _ now = now ≡ before
 
--- the reply of an update that was made
+-- the reply of an update or a patch that was made
 abbrev pub is_updated : Reply → Bool
 is_updated (reply.Updated generation rows) = true
 is_updated _ = false
@@ -49,6 +56,18 @@ abbrev pub acknowledges : ℕ → MachineEvent → Bool
 acknowledges number (act.Ack other) = other == number
 acknowledges number _ = false
 
+-- an event updates or patches the feed of this name
+abbrev pub is_of_feed : List ℕ → MachineEvent → Bool
+is_of_feed feed (act.Update other records) = same other feed
+is_of_feed feed (act.Patch other base records remove) = same other feed
+is_of_feed feed _ = false
+
+-- the records that a feed has after an event of it that is replied to with Updated
+abbrev pub records_after : Feeds → MachineEvent → List Advisory
+records_after feeds (act.Update feed records) = by_id records
+records_after feeds (act.Patch feed base records remove) = feed_patched feeds feed records remove
+records_after feeds _ = []
+
 -- the rows that a notification has, and none where there is no notification, as there are no rows
 abbrev pub rows_if_any : List Row → Option (List Row)
 rows_if_any [] = None
@@ -62,6 +81,11 @@ HaveRows notifications = AllByRecursion (λ (notification : ℕ × List Row). 0 
 abbrev pub is_claimed : Option Status → Bool
 is_claimed None = false
 is_claimed (Some status) = is_claimed_as status
+
+-- exactly the feeds that stand have a generation, and none of them is above that of the machine
+pub record HaveGenerations (state : State) : Type 0 where
+  pub feeds : keys_of state.since ≡ keys_of state.feeds
+  pub numbers : AllByRecursion (λ (feed : List ℕ × ℕ). feed.1 ≤ state.generation) state.since
 
 -- a state is consistent: each list is in ascending order of its keys, no notification has a number above the generation,
 -- there are no more images and feeds than may be, and a layer is in the table exactly if a registered image names it or it is

@@ -3,6 +3,7 @@ pub mod Board
 pub mod History
 pub mod Laws
 pub mod Layers
+pub mod Matching
 pub mod Parts
 pub mod Rows
 pub mod Scans

@@ -1,19 +1,21 @@
 -- The events of the machine (defined by this project): what the state is after an event, and what is replied. A reply that
 -- is given with the state as it was changes nothing.
-use Rattle.std.specs.Prelude.{ℕ, ◌+◌, Bool, ◌&&◌, ◌||◌, not, nat_lt, if◌then◌else◌, List, [], ◌∷◌, length, filter, Option, Some, None}
+use Rattle.std.specs.Prelude.{ℕ, ◌+◌, ◌==◌, Bool, ◌&&◌, ◌||◌, not, nat_lt, if◌then◌else◌, List, [], ◌∷◌, length, filter, Option, Some, None}
 use Rattle.std.specs.Cmp.Lexicographic.{pointwise}
 use Rattle.std.specs.Option.{is_some, option_eq}
 use Rattle.cv_base.specs.Texts.{has_text, same}
 use Rattle.cv_base.specs.declared.advisory.Advisory.{Advisory}
 use Rattle.cv_base.specs.declared.finding.Row.{Row}
+use Rattle.cv_base.specs.declared.limits.TheConstants.{MAX_ADVISORIES}
 use Rattle.cv_base.specs.declared.manifest.Manifest.{Manifest}
-use Rattle.cv_advdb.specs.Feeds.{by_id, is_full as is_full_table}
+use Rattle.cv_advdb.specs.Feeds.{by_id, has_feed, is_full as is_full_table, records_of}
+use Rattle.cv_advdb.specs.Patch.{patched_records}
 use Rattle.cv_core_records.specs.declared.reply.Reply.{Reply}
 use Rattle.cv_core_records.specs.declared.reply.Reply.TheVariants as reply
 use Rattle.cv_core_machine.specs.Layers.{is_claimed_as, is_claimed_by, is_named}
 use Rattle.cv_core_machine.specs.Rows.{rows_of}
 use Rattle.cv_core_machine.specs.Scans.{Trees}
-use Rattle.cv_core_machine.specs.State.{Feeds, Images, Layers, Notifications, State, notification_at, value_at, with_notification, with_value, without_notification, without_value}
+use Rattle.cv_core_machine.specs.State.{Feeds, Images, Layers, Notifications, State, feed_generation, notification_at, value_at, with_notification, with_value, without_notification, without_value}
 use Rattle.cv_core_machine.specs.declared.event.MachineEvent.{MachineEvent}
 use Rattle.cv_core_machine.specs.declared.event.MachineEvent.TheVariants as act
 use Rattle.cv_core_machine.specs.declared.image.Image.{Image}
@@ -93,11 +95,13 @@ abbrev pub notified : Notifications → ℕ → List Row → Notifications
 notified notifications number [] = notifications
 notified notifications number (row ∷ rows) = with_notification notifications number (row ∷ rows)
 
--- Updated: these are the feeds, the generation is one more, and there is a notification of it with these rows, if there are any
-abbrev pub updated : State → Feeds → List Row → State × Reply
-updated state feeds rows = (
+-- Updated, of a feed: these are the feeds, the generation is one more and that of this feed, and there is a notification of it
+-- with these rows, if there are any
+abbrev pub updated : State → List ℕ → Feeds → List Row → State × Reply
+updated state feed feeds rows = (
   record state {
     feeds = feeds;
+    since = with_value state.since feed (state.generation + 1);
     generation = state.generation + 1;
     notifications = notified state.notifications (state.generation + 1) rows;
   },
@@ -112,12 +116,33 @@ is_full state feed = is_full_table (record { feeds = state.feeds; limit = state.
 -- Updated: the feed has these records in place of those before
 abbrev pub update_with : List Row → State → List ℕ → List Advisory → State × Reply
 update_with rows state feed records =
-    if is_full state feed then (state, reply.TooManyFeeds) else updated state (with_value state.feeds feed (by_id records)) rows
+    if is_full state feed then (state, reply.TooManyFeeds) else updated state feed (with_value state.feeds feed (by_id records)) rows
 
 -- Update of a feed, which notifies of the rows of all images that are indexed
 abbrev pub update : Trees → State → List ℕ → List Advisory → State × Reply
 update trees state feed records =
     update_with (rows_of trees state (with_value state.feeds feed (by_id records))) state feed records
+
+-- the records that a feed has after a patch: its own, without those that the patch removes or has records for, and those of the
+-- patch
+abbrev pub feed_patched : Feeds → List ℕ → List Advisory → List (List ℕ) → List Advisory
+feed_patched feeds feed records remove = patched_records (records_of feed feeds) records remove
+
+-- Patch of a feed on a generation that notifies of these rows: NoFeed if the feed does not stand, or else StaleBase if the feed has
+-- another generation, or else TooManyRecords if the feed would have more records than it may have, or else Updated: the feed has
+-- the records that the patch leaves it
+abbrev pub patch_with : List Row → State → List ℕ → ℕ → List Advisory → List (List ℕ) → State × Reply
+patch_with rows state feed base records remove =
+    let after = feed_patched state.feeds feed records remove in
+    if not (has_feed feed state.feeds) then (state, reply.NoFeed) else
+    (if not (base == feed_generation state feed) then (state, reply.StaleBase (feed_generation state feed)) else
+    (if nat_lt MAX_ADVISORIES (length after) then (state, reply.TooManyRecords (length after)) else
+    updated state feed (with_value state.feeds feed after) rows))
+
+-- Patch of a feed, which notifies of the rows of all images that are indexed
+abbrev pub patch : Trees → State → List ℕ → ℕ → List Advisory → List (List ℕ) → State × Reply
+patch trees state feed base records remove =
+    patch_with (rows_of trees state (with_value state.feeds feed (feed_patched state.feeds feed records remove))) state feed base records remove
 
 -- Ack, by the notification of this number: NoNotification if there is none, or else Acked: it goes
 abbrev pub ack_at : Option (List Row) → State → ℕ → State × Reply
@@ -137,4 +162,5 @@ step trees state (act.Indexed layer worker) = finish state layer worker status.I
 step trees state (act.Fault layer worker) = finish state layer worker status.Queued reply.Requeued
 step trees state (act.Memory layer worker) = finish state layer worker status.Queued reply.Requeued
 step trees state (act.Update feed records) = update trees state feed records
+step trees state (act.Patch feed base records remove) = patch trees state feed base records remove
 step trees state (act.Ack number) = ack state number

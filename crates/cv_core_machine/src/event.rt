@@ -18,6 +18,9 @@ pub enum MachineEvent {
     Memory(Digest, u32),
     /// Gives the feed of this name these records in place of those that it had.
     Update(Text, Seq<Advisory>),
+    /// Patches the feed of this name, of which the client knows this generation: it gets these records, each in place of one
+    /// of the same id, and the records of these ids go.
+    Patch(Text, u64, Seq<Advisory>, Seq<Text>),
     /// Acknowledges the notification of this number.
     Ack(u64),
 }

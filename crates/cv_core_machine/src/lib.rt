@@ -17,7 +17,8 @@ mod status;
 pub use event::MachineEvent;
 pub use image::Image;
 pub use laws::{
-    board_law, entered_law, generation_law, notification_laws, scan_law, step_laws, waiting_law,
+    board_law, entered_law, feed_laws, generation_law, notification_laws, scan_law, step_laws,
+    waiting_law,
 };
 pub use limits::{Limits, MAX_FEEDS, MAX_IMAGES};
 pub use status::Status;

@@ -1,5 +1,5 @@
 /// The most images that the service registers.
-pub const MAX_IMAGES: u32 = 4096;
+pub const MAX_IMAGES: u32 = 20_000;
 
 /// The most feeds that the service has.
 pub const MAX_FEEDS: u32 = 64;
