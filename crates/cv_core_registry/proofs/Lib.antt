@@ -3,3 +3,4 @@ mod Examples
 pub mod ListLemmas
 pub mod TableLemmas
 pub mod UserLemmas
+pub mod WaitingLemmas

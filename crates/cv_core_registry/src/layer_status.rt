@@ -1,5 +1,5 @@
 ghost use Rattle.std.specs.Prelude.{◌≡◌};
-ghost use Rattle.cv_core_machine.specs.Layers.{is_claimed_as, is_queued_as};
+ghost use Rattle.cv_core_machine.specs.Layers.{is_queued_as};
 
 use cv_base::NoMemory;
 use cv_core_machine::Status;
@@ -37,16 +37,6 @@ impl LayerStatus {
         match self.status {
             Status::Queued => true,
             Status::Claimed(_) | Status::Indexed => false,
-        }
-    }
-
-    /// Whether a worker has claimed the layer.
-    pub fn is_claimed(self) -> bool
-        ensures { result ≡ is_claimed_as self }
-    {
-        match self.status {
-            Status::Claimed(_) => true,
-            Status::Queued | Status::Indexed => false,
         }
     }
 }

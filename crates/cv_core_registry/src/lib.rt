@@ -10,6 +10,7 @@
 
 mod images;
 mod layer_status;
+mod layer_table;
 mod layers;
 mod parts;
 mod registry;

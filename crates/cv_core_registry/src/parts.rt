@@ -3,8 +3,8 @@ ghost use Rattle.cv_core_machine.specs.State.{with_value, without_value};
 ghost use Rattle.cv_core_registry.specs.Registrations.{IsRegular};
 ghost use Rattle.cv_core_registry.specs.code.Users.{IsKept};
 
-use crate::layer_status::LayerStatus;
-use crate::registry::{Images, Layers, Registry};
+use crate::layer_table::LayerTable;
+use crate::registry::{Images, Registry};
 use crate::users::Users;
 use cv_base::{Digest, NoMemory};
 use cv_core_machine::Status;
@@ -14,7 +14,7 @@ use std::alloc::Global;
 
 impl Registry {
     /// A registry of these parts.
-    pub(crate) fn of(images: Images, layers: Layers, users: Users, limit: u32) -> Registry
+    pub(crate) fn of(images: Images, layers: LayerTable, users: Users, limit: u32) -> Registry
         requires { IsKept images layers users limit }
         ensures { result ≡ record { images = images; layers = layers; limit = limit } }
     {
@@ -45,7 +45,7 @@ impl Registry {
     {
         let images = self.images.share()?;
         let users = self.users.share()?;
-        let layers = self.layers.set(alloc, *layer, LayerStatus::of(status))?;
+        let layers = self.layers.set(alloc, *layer, status)?;
         Ok(Registry::of(images, layers, users, self.limit))
     }
 

@@ -1,10 +1,10 @@
-ghost use Rattle.std.specs.Prelude.{◌≡◌, [], map, IfOk};
+ghost use Rattle.std.specs.Prelude.{◌≡◌, [], IfOk};
 ghost use Rattle.std.specs.Option.{option_map};
 ghost use Rattle.cv_core_machine.specs.Layers.{first_pending, is_indexed_as, queued};
 ghost use Rattle.cv_core_machine.specs.State.{value_at};
 ghost use Rattle.cv_core_registry.specs.Registrations.{IsRegular, users_of};
 
-use crate::layer_status::LayerStatus;
+use crate::layer_table::LayerTable;
 use crate::users::Users;
 use cv_base::{Digest, NoMemory};
 use cv_core_machine::{Image, Status};
@@ -15,14 +15,11 @@ use std::marker::Model;
 /// The images by hash, each with its layers and their seals.
 pub type Images = Tree<Digest, Shared<Image>>;
 
-/// The status of each layer that a registered image names or that is claimed.
-pub type Layers = Tree<Digest, LayerStatus>;
-
 /// What is registered. Contracts see the images with their layers and seals, the layers with their status, and how many images
 /// there may be. Beside them it keeps for each layer the set of the images that name it.
 pub struct Registry {
     pub(crate) images: Images,
-    pub(crate) layers: Layers,
+    pub(crate) layers: LayerTable,
     pub(crate) users: Users,
     pub(crate) limit: u32,
 }
@@ -57,7 +54,7 @@ impl Registry {
     {
         Registry {
             images: Tree::new(),
-            layers: Tree::new(),
+            layers: LayerTable::new(),
             users: Tree::new(),
             limit,
         }
@@ -89,8 +86,7 @@ impl Registry {
     pub fn status(&self, layer: &Digest) -> Option<Status>
         ensures { result ≡ value_at self.now.layers layer.now }
     {
-        let layer_status = self.layers.get(layer)?;
-        Some(layer_status.status)
+        self.layers.get(layer)
     }
 
     /// Whether a layer is indexed.
@@ -115,12 +111,11 @@ impl Registry {
         None
     }
 
-    /// The layers that wait for a worker, in ascending order.
+    /// The layers that wait for a worker, in ascending order. The time is linear in their number, whatever else is registered.
     pub fn queued(&self, alloc: Global) -> Result<Vec<Digest>, NoMemory>
         ensures { IfOk result (λ layers. layers.items ≡ queued self.now.layers) }
     {
-        let entries = self.layers.entries(alloc)?;
-        queued_among(alloc, &entries)
+        self.layers.queued(alloc)
     }
 
     /// The images that name a layer, in ascending order. The set of a layer is found in time logarithmic in the number of layers,
@@ -136,19 +131,6 @@ impl Registry {
             }
         }
     }
-}
-
-/// The layers that wait for a worker among the entries of a table.
-fn queued_among(alloc: Global, entries: &[(Digest, &LayerStatus)]) -> Result<Vec<Digest>, NoMemory>
-    ensures { IfOk result (λ layers. layers.items ≡ queued (map (λ e. (e.0, e.1.now)) entries.now)) }
-{
-    let mut queued = Vec::new(alloc);
-    for entry in entries {
-        if entry.1.is_queued() {
-            queued.push(entry.0)?;
-        }
-    }
-    Ok(queued)
 }
 
 /// A copy is equal to its source and shares all of it. It takes no memory, and fails only if the number of owners of a part is

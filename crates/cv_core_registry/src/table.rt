@@ -4,8 +4,7 @@ ghost use Rattle.cv_core_machine.specs.State.{value_at};
 ghost use Rattle.cv_core_machine.specs.Step.{entered};
 ghost use Rattle.cv_core_registry.specs.code.Tables.{without_unused};
 
-use crate::layer_status::LayerStatus;
-use crate::registry::Layers;
+use crate::layer_table::LayerTable;
 use crate::users::{Users, is_used};
 use cv_base::{Digest, NoMemory};
 use cv_core_machine::Status;
@@ -13,7 +12,7 @@ use cv_tree::Share;
 use std::alloc::Global;
 
 /// The table with those of these layers that it does not have, as queued.
-pub fn entered(alloc: Global, table: &Layers, layers: &[Digest]) -> Result<Layers, NoMemory>
+pub fn entered(alloc: Global, table: &LayerTable, layers: &[Digest]) -> Result<LayerTable, NoMemory>
     ensures { IfOk result (λ after. after ≡ entered table.now layers.now) }
 {
     let [layer, rest @ ..] = layers else {
@@ -22,17 +21,17 @@ pub fn entered(alloc: Global, table: &Layers, layers: &[Digest]) -> Result<Layer
     if is_known(table, layer) {
         return entered(alloc, table, rest);
     }
-    let next = table.set(alloc, *layer, LayerStatus::of(Status::Queued))?;
+    let next = table.set(alloc, *layer, Status::Queued)?;
     entered(alloc, &next, rest)
 }
 
 /// The table without those of these layers that no image uses and that are not claimed.
 pub fn without_unused(
     alloc: Global,
-    table: &Layers,
+    table: &LayerTable,
     layers: &[Digest],
     users: &Users,
-) -> Result<Layers, NoMemory>
+) -> Result<LayerTable, NoMemory>
     ensures { IfOk result (λ after. after ≡ without_unused table.now layers.now users.now) }
 {
     let [layer, rest @ ..] = layers else {
@@ -45,17 +44,17 @@ pub fn without_unused(
     without_unused(alloc, &next, rest, users)
 }
 
-fn is_known(table: &Layers, layer: &Digest) -> bool
+fn is_known(table: &LayerTable, layer: &Digest) -> bool
     ensures { result ≡ is_some (value_at table.now layer.now) }
 {
     table.contains(layer)
 }
 
-fn is_claimed(table: &Layers, layer: &Digest) -> bool
+fn is_claimed(table: &LayerTable, layer: &Digest) -> bool
     ensures { result ≡ is_claimed (value_at table.now layer.now) }
 {
     match table.get(layer) {
-        None => false,
-        Some(layer_status) => layer_status.is_claimed(),
+        Some(Status::Claimed(_)) => true,
+        _ => false,
     }
 }
