@@ -13,11 +13,11 @@ use Rattle.cv_osv.specs.Records.{records_of}
 use Rattle.cv_request.specs.Fault.{listing, refusing}
 use Rattle.cv_request.specs.Line.{json_or}
 use Rattle.cv_request.specs.Manifest.{digest_or, manifest_of}
-use Rattle.cv_request.specs.Member.{feed_or, lane_or, number_or}
+use Rattle.cv_request.specs.Member.{feed_or, lane_or, number_or, texts_or}
 use Rattle.cv_request.specs.declared.error.RequestFault.{RequestFault}
 use Rattle.cv_request.specs.declared.error.RequestFault.TheVariants.{BadRequest}
 use Rattle.cv_request.specs.declared.error.RequestWhat.{RequestWhat}
-use Rattle.cv_request.specs.declared.error.RequestWhat.TheVariants.{NotObject, BadDo, BadImage, BadManifest, BadAdvisories, BadNumber, BadSize, BadPage}
+use Rattle.cv_request.specs.declared.error.RequestWhat.TheVariants.{NotObject, BadDo, BadImage, BadManifest, BadBase, BadRemove, BadAdvisories, BadNumber, BadSize, BadPage}
 use Rattle.cv_request.specs.declared.limits.TheConstants.{MAX_PAGE_ROWS}
 use Rattle.cv_request.specs.declared.request.Act.{Act}
 use Rattle.cv_request.specs.declared.request.Act.TheVariants as act
@@ -46,6 +46,15 @@ update_of d = do
   records ← records_or (get (codes "advisories") d)
   Ok (act.Update feed records)
 
+-- a feed to change, if it has the generation `base`: ids of records to remove, and records to put in
+unfoldable pub patch_of : Data → Result Act RequestFault
+patch_of d = do
+  feed ← refusing (feed_or (get (codes "feed") d))
+  base ← refusing (number_or 0 (2 ^ 64 - 1) BadBase (get (codes "base") d))
+  remove ← refusing (texts_or BadRemove (get (codes "remove") d))
+  records ← records_or (get (codes "advisories") d)
+  Ok (act.Patch feed base records remove)
+
 -- the notification that a request is about
 abbrev pub notification_of : Data → Result ℕ RequestWhat
 notification_of d = number_or 0 (2 ^ 64 - 1) BadNumber (get (codes "number") d)
@@ -64,11 +73,12 @@ act_of name d =
     if same name (codes "register") then refusing (register_of d)
     else (if same name (codes "drop") then refusing (image_of d >>= λ image. Ok (act.DropImage image))
     else (if same name (codes "update") then update_of d
+    else (if same name (codes "patch") then patch_of d
     else (if same name (codes "report") then refusing (image_of d >>= λ image. Ok (act.Report image))
     else (if same name (codes "page") then refusing (page_of d)
     else (if same name (codes "list") then Ok act.List
     else (if same name (codes "ack") then refusing (notification_of d >>= λ number. Ok (act.Ack number))
-    else Err (BadRequest BadDo)))))))
+    else Err (BadRequest BadDo))))))))
 
 -- a request
 unfoldable pub request_of : Data → Result Request RequestFault

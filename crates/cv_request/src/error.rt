@@ -37,6 +37,10 @@ pub enum RequestWhat {
     BadSeal(u32),
     #[error("`feed` is not the name of a feed")]
     BadFeed,
+    #[error("`base` is not the generation of a feed")]
+    BadBase,
+    #[error("`remove` is not a list of texts")]
+    BadRemove,
     #[error("`advisories` is not a list")]
     BadAdvisories,
     #[error("`number` is not the number of a notification")]

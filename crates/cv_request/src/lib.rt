@@ -3,6 +3,7 @@
 //! ```text
 //! {"do":"register","manifest":{"hash":"sha256:11..","layers":[{"hash":"sha256:aa..","seal":"sha256:5e..","uri":".."}]}}
 //! {"do":"update","feed":"debian","advisories":[{"id":"DSA-5417-1","modified":"2023-05-31T00:00:00Z"}]}
+//! {"do":"patch","feed":"debian","base":7,"remove":["DSA-5416-1"],"advisories":[{"id":"DSA-5417-1","modified":"2023-06-01T00:00:00Z"}]}
 //! {"lane":1,"do":"report","image":"sha256:11.."}
 //! {"lane":1,"do":"page","number":1,"size":100,"page":1}
 //! ```

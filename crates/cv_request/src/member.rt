@@ -1,15 +1,19 @@
 //! Members of a request. A member with the value null is present.
-ghost use Rattle.std.specs.Prelude.{◌≡◌, ◌<◌, ◌≤◌, Some, IfOk};
+ghost use Rattle.std.specs.Prelude.{◌≡◌, ◌<◌, ◌≤◌, ◌++◌, [], ◌∷◌, Some, IfOk, OnOk};
 ghost use Rattle.std.specs.List.{list_all};
-ghost use Rattle.std.specs.Option.{option_map};
-ghost use Rattle.serde_json.specs.View.{view};
+ghost use Rattle.std.specs.Option.{ok_or, option_map};
+ghost use Rattle.serde_json.specs.Find.{as_str};
+ghost use Rattle.serde_json.specs.View.{items_view, view};
 ghost use Rattle.cv_base.specs.Answer.{MatchesUnlessOutOfMemory};
-ghost use Rattle.cv_osv.specs.Json.{text_or};
-ghost use Rattle.cv_request.specs.Member.{feed_or, is_feed_byte, is_feed_name, lane_or, number_or};
+ghost use Rattle.cv_osv.specs.Json.{each, text_or};
+ghost use Rattle.cv_request.specs.Fault.{fault_of, refusing};
+ghost use Rattle.cv_request.specs.Member.{feed_or, is_feed_byte, is_feed_name, lane_or, number_or, texts_or};
 
-use crate::error::RequestWhat;
+use crate::error::{RequestError, RequestWhat};
 use crate::limits::{MAX_FEED_NAME_LEN, MAX_LANES};
+use cv_base::{NoMemory, Seq, Text};
 use serde_json::Value;
+use std::alloc::Global;
 
 pub(crate) fn text_or(found: Option<&Value>, bad: RequestWhat) -> Result<&str, RequestWhat>
     ensures { MatchesUnlessOutOfMemory (λ what. Some what) (λ text. text.now) result (text_or bad (option_map (λ v. view v.now) found.entry)) }
@@ -71,4 +75,44 @@ fn is_feed_byte(byte: u8) -> bool
     ensures { result ≡ is_feed_byte byte }
 {
     matches!(byte, b'a'..=b'z' | b'0'..=b'9' | b'.' | b'_' | b'-')
+}
+
+/// The texts of a list, which is empty if the member is absent.
+pub(crate) fn texts_or(
+    alloc: Global,
+    found: Option<&Value>,
+    bad: RequestWhat,
+) -> Result<Seq<Text>, RequestError>
+    ensures { MatchesUnlessOutOfMemory fault_of (λ texts. texts) result (refusing (texts_or bad (option_map (λ v. view v.now) found.entry))) }
+{
+    let Some(value) = found else {
+        return Ok(Seq::of(Vec::new(alloc)));
+    };
+    let Some(items) = value.as_array() else {
+        return Err(RequestError::BadRequest(bad));
+    };
+    read_texts(alloc, items.as_slice(), bad)
+}
+
+/// The texts that the items of a list are.
+fn read_texts(alloc: Global, items: &[Value], bad: RequestWhat) -> Result<Seq<Text>, RequestError>
+    ensures { MatchesUnlessOutOfMemory fault_of (λ texts. texts) result (refusing (each (λ item. ok_or (as_str item) bad) (items_view items.now))) }
+{
+    let mut texts = Vec::new(alloc);
+    let mut remaining = items;
+    while let [item, rest @ ..] = remaining {
+        let Some(text) = item.as_str() else {
+            return Err(RequestError::BadRequest(bad));
+        };
+        push_text(alloc, &mut texts, text)?;
+        remaining = rest;
+    }
+    Ok(Seq::of(texts))
+}
+
+fn push_text(alloc: Global, texts: &mut Vec<Text>, text: &str) -> Result<(), NoMemory>
+    ensures { OnOk result (texts.new.items ≡ texts.old.items ++ text.now ∷ []) }
+{
+    texts.push(Text::of(alloc, text)?)?;
+    Ok(())
 }

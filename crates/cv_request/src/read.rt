@@ -5,13 +5,13 @@ ghost use Rattle.cv_base.specs.Answer.{MatchesUnlessOutOfMemory};
 ghost use Rattle.cv_osv.specs.Records.{HasDistinctIds};
 ghost use Rattle.cv_request.specs.Fault.{fault_of, refusing};
 ghost use Rattle.cv_request.specs.Limits.{IsWithinLimits};
-ghost use Rattle.cv_request.specs.Request.{act_of, image_of, notification_of, page_of, records_or, register_of, request_line, request_of, update_of};
+ghost use Rattle.cv_request.specs.Request.{act_of, image_of, notification_of, page_of, patch_of, records_or, register_of, request_line, request_of, update_of};
 
 use crate::error::{RequestError, RequestWhat};
 use crate::limits::{MAX_LANES, MAX_PAGE_ROWS};
 use crate::line::read_json;
 use crate::manifest::{digest_or, object_or, read_manifest};
-use crate::member::{feed_or, lane_or, number_or, text_or};
+use crate::member::{feed_or, lane_or, number_or, text_or, texts_or};
 use crate::request::{Act, Request};
 use cv_base::{Advisory, Digest, MAX_ADVISORIES, Seq, Text};
 use cv_osv::read_records;
@@ -20,8 +20,8 @@ use std::alloc::Global;
 
 /// Reads a line as a request: a JSON object whose member `lane` is the number of a lane, or absent for lane 0, and whose
 /// member `do` names a command. The commands and their members are `register` with `manifest`; `drop` and `report` with
-/// `image`; `update` with `feed` and `advisories`; `page` with `number`, `size` and `page`; `list`; and `ack` with
-/// `number`. Other members are ignored. The first fault is the answer: the line as JSON, the object, `lane`, `do`, and
+/// `image`; `update` with `feed` and `advisories`; `patch` with `feed`, `base`, `remove` and `advisories`; `page` with `number`,
+/// `size` and `page`; `list`; and `ack` with `number`. `remove` may be absent. Other members are ignored. The first fault is the answer: the line as JSON, the object, `lane`, `do`, and
 /// then the members in this order.
 pub fn read_request(alloc: Global, line: &[u8]) -> Result<Request, RequestError>
     ensures value { MatchesUnlessOutOfMemory fault_of (λ request. request) result (request_line line.now) }
@@ -55,6 +55,7 @@ fn act_of(alloc: Global, name: &str, value: &Value) -> Result<Act, RequestError>
         "register" => register_of(alloc, value),
         "drop" => Ok(Act::DropImage(image_of(value)?)),
         "update" => update_of(alloc, value),
+        "patch" => patch_of(alloc, value),
         "report" => Ok(Act::Report(image_of(value)?)),
         "page" => Ok(page_of(value)?),
         "list" => Ok(Act::List),
@@ -89,6 +90,24 @@ fn update_of(alloc: Global, value: &Value) -> Result<Act, RequestError>
     Ok(Act::Update {
         feed: Text::of(alloc, feed)?,
         records,
+    })
+}
+
+#[tactic(auto, unfolding(crate::specs::Request::patch_of))]
+fn patch_of(alloc: Global, value: &Value) -> Result<Act, RequestError>
+    ensures value { MatchesUnlessOutOfMemory fault_of (λ act. act) result (patch_of (view value.now)) }
+    ensures limits { IfOk result IsWithinLimits }
+{
+    let name = feed_or(value.get("feed"))?;
+    let base = number_or(value.get("base"), 0, u64::MAX, RequestWhat::BadBase)?;
+    let remove = texts_or(alloc, value.get("remove"), RequestWhat::BadRemove)?;
+    let records = records_or(alloc, value.get("advisories"))?;
+    let feed = Text::of(alloc, name)?;
+    Ok(Act::Patch {
+        feed,
+        base,
+        records,
+        remove,
     })
 }
 

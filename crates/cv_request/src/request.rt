@@ -8,11 +8,26 @@ pub enum Act {
     /// To drop the image of this hash.
     DropImage(Digest),
     /// To replace all records of a feed.
-    Update { feed: Text, records: Seq<Advisory> },
+    Update {
+        feed: Text,
+        records: Seq<Advisory>,
+    },
+    /// To change a feed that has this generation: the records whose ids are in `remove` or among the new records go, and the new
+    /// records come.
+    Patch {
+        feed: Text,
+        base: u64,
+        records: Seq<Advisory>,
+        remove: Seq<Text>,
+    },
     /// To report the findings of the image of this hash.
     Report(Digest),
     /// To show a page of a notification: its number, the rows of a page, and the page, numbered from 1.
-    Page { number: u64, size: u32, page: u64 },
+    Page {
+        number: u64,
+        size: u32,
+        page: u64,
+    },
     /// To list the notifications.
     List,
     /// To acknowledge the notification of this number.

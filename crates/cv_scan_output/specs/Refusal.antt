@@ -7,7 +7,7 @@ use Rattle.cv_osv.specs.declared.record_error.RecordWhat.TheVariants as record_w
 use Rattle.cv_request.specs.declared.error.RequestError.{RequestError}
 use Rattle.cv_request.specs.declared.error.RequestError.TheVariants.{BadJson, BadRequest, BadAdvisory, DuplicateId, TooManyAdvisories, NoMemory}
 use Rattle.cv_request.specs.declared.error.RequestWhat.{RequestWhat}
-use Rattle.cv_request.specs.declared.error.RequestWhat.TheVariants.{NotObject, BadLane, BadDo, BadImage, BadManifest, BadHash, BadLayers, NoLayers, TooManyLayers, BadLayer, BadSeal, BadFeed, BadAdvisories, BadNumber, BadSize, BadPage}
+use Rattle.cv_request.specs.declared.error.RequestWhat.TheVariants.{NotObject, BadLane, BadDo, BadImage, BadManifest, BadHash, BadLayers, NoLayers, TooManyLayers, BadLayer, BadSeal, BadFeed, BadBase, BadRemove, BadAdvisories, BadNumber, BadSize, BadPage}
 use Rattle.cv_scan_output.specs.Line.{line_text}
 
 -- the JSON value of a refused line
@@ -51,6 +51,8 @@ bad_request_data line TooManyLayers = named_data line (codes "too_many_layers")
 bad_request_data line (BadLayer index) = bad_layer_data line index (codes "bad_layer")
 bad_request_data line (BadSeal index) = bad_layer_data line index (codes "bad_seal")
 bad_request_data line BadFeed = named_data line (codes "bad_feed")
+bad_request_data line BadBase = named_data line (codes "bad_base")
+bad_request_data line BadRemove = named_data line (codes "bad_remove")
 bad_request_data line BadAdvisories = named_data line (codes "bad_advisories")
 bad_request_data line BadNumber = named_data line (codes "bad_number")
 bad_request_data line BadSize = named_data line (codes "bad_size")

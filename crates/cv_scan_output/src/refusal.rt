@@ -70,6 +70,8 @@ fn bad_request_value(alloc: Global, line: u64, what: RequestWhat) -> Result<Valu
         RequestWhat::BadLayer(index) => item_value(alloc, line, "bad_request", index, "bad_layer"),
         RequestWhat::BadSeal(index) => item_value(alloc, line, "bad_request", index, "bad_seal"),
         RequestWhat::BadFeed => named_value(alloc, line, "bad_feed"),
+        RequestWhat::BadBase => named_value(alloc, line, "bad_base"),
+        RequestWhat::BadRemove => named_value(alloc, line, "bad_remove"),
         RequestWhat::BadAdvisories => named_value(alloc, line, "bad_advisories"),
         RequestWhat::BadNumber => named_value(alloc, line, "bad_number"),
         RequestWhat::BadSize => named_value(alloc, line, "bad_size"),
