@@ -38,6 +38,7 @@ request_fault : (act : RequestAct) → NoFault (event_of act)
 request_fault (request.Register manifest) = refl
 request_fault (request.DropImage image) = refl
 request_fault (request.Update feed records) = refl
+request_fault (request.Patch feed base records remove) = refl
 request_fault (request.Report image) = tt
 request_fault (request.Page number size page) = tt
 request_fault request.List = tt
@@ -85,6 +86,7 @@ module _ (workers : ℕ) where
   unfit worker (name.Fault layer) le below fits = fits
   unfit worker (name.Memory layer) le below fits = fits
   unfit worker (name.Update feed) le below fits = fits
+  unfit worker (name.Patch feed) le below fits = fits
   unfit worker (name.Ack number) le below fits = fits
 
   all_idle : (worker : ℕ) → workers ≤ worker → (events : List EventEntry) → AllByRecursion (λ event. ClaimsBelow workers event.by event.act) events

@@ -68,6 +68,7 @@ first_claims workers worker (event ∷ events) below head rest is fits = by_sour
   of_claim (name.Fault layer) other key low fit = absurd fit
   of_claim (name.Memory layer) other key low fit = absurd fit
   of_claim (name.Update feed) other key low fit = absurd fit
+  of_claim (name.Patch feed) other key low fit = absurd fit
   of_claim (name.Ack number) other key low fit = absurd fit
 
   first_of : List EventEntry → EventEntry
@@ -138,6 +139,7 @@ request_fault : (requested : RequestAct) (act : MachineEvent) → event_of reque
 request_fault (request.Register manifest) act is = sym (ap (λ a. is_fault (act_name a)) (same_Some (whole.Register manifest) act is))
 request_fault (request.DropImage image) act is = sym (ap (λ a. is_fault (act_name a)) (same_Some (whole.DropImage image) act is))
 request_fault (request.Update feed records) act is = sym (ap (λ a. is_fault (act_name a)) (same_Some (whole.Update feed records) act is))
+request_fault (request.Patch feed base records remove) act is = sym (ap (λ a. is_fault (act_name a)) (same_Some (whole.Patch feed base records remove) act is))
 request_fault (request.Report image) act is = absurd (cc is)
 request_fault (request.Page number size page) act is = absurd (cc is)
 request_fault request.List act is = absurd (cc is)
@@ -176,6 +178,7 @@ not_back (name.Indexed layer) h k = refl
 not_back (name.Fault layer) h k = h
 not_back (name.Memory layer) h k = k
 not_back (name.Update feed) h k = refl
+not_back (name.Patch feed) h k = refl
 not_back (name.Ack number) h k = refl
 
 free_parts : (xs ys : List Entry) → AreFree (xs ++ ys) → AreFree xs × AreFree ys

@@ -91,6 +91,9 @@ no_work layer reply.Requeued is = refl
 no_work layer reply.NotClaimed is = refl
 no_work layer (reply.Updated generation rows) is = refl
 no_work layer reply.TooManyFeeds is = refl
+no_work layer reply.NoFeed is = refl
+no_work layer (reply.StaleBase kept) is = refl
+no_work layer (reply.TooManyRecords would) is = refl
 no_work layer reply.Acked is = refl
 no_work layer reply.NoNotification is = refl
 
@@ -110,6 +113,9 @@ grant_work layer reply.Requeued is = absurd cc
 grant_work layer reply.NotClaimed is = absurd cc
 grant_work layer (reply.Updated generation rows) is = absurd cc
 grant_work layer reply.TooManyFeeds is = absurd cc
+grant_work layer reply.NoFeed is = absurd cc
+grant_work layer (reply.StaleBase kept) is = absurd cc
+grant_work layer (reply.TooManyRecords would) is = absurd cc
 grant_work layer reply.Acked is = absurd cc
 grant_work layer reply.NoNotification is = absurd cc
 
@@ -146,6 +152,7 @@ ends_claim worker layer (whole.Indexed other by) event ends is = rw is (refl, re
 ends_claim worker layer (whole.Fault other by) event ends is = rw is (refl, refl, refl, refl)
 ends_claim worker layer (whole.Memory other by) event ends is = rw is (refl, refl, refl, refl)
 ends_claim worker layer (whole.Update feed records) event ends is = absurd ends.fits
+ends_claim worker layer (whole.Patch feed base records remove) event ends is = absurd ends.fits
 ends_claim worker layer (whole.Ack number) event ends is = absurd ends.fits
 
 -- a claim was granted, and its worker said what became of the layer

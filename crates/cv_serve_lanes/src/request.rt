@@ -66,6 +66,17 @@ fn event_in<D: Desk>(act: Act) -> Result<Event<D>, Query>
         Act::Register(manifest) => Ok(Event::Register(manifest)),
         Act::DropImage(image) => Ok(Event::DropImage(image)),
         Act::Update { feed, records } => Ok(Event::Update(feed, records)),
+        Act::Patch {
+            feed,
+            base,
+            records,
+            remove,
+        } => Ok(Event::Patch {
+            feed,
+            base,
+            records,
+            remove,
+        }),
         Act::Report(image) => Err(Query::Report(image)),
         Act::Page { number, size, page } => Err(Query::Page { number, size, page }),
         Act::List => Err(Query::List),

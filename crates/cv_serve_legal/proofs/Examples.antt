@@ -697,6 +697,7 @@ first_claim : (act : Act) (claims : List (List ℕ)) → FitsWork None act → (
 first_claim (name.Register digest) claims fits none = fits
 first_claim (name.DropImage digest) claims fits none = fits
 first_claim (name.Update feed) claims fits none = fits
+first_claim (name.Patch feed) claims fits none = fits
 first_claim (name.Claim digest) claims fits none = by_same (same digest digest) (same_self digest) (none digest) where
   by_same : (b : Bool) → b ≡ true → length (cond b (digest ∷ filter (same digest) claims) (filter (same digest) claims)) ≡ 0 → ⊥
   by_same true is long = omega (arith, long)

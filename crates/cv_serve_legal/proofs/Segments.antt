@@ -118,6 +118,7 @@ lane_claims : (workers lane line : ℕ) (act : RequestAct) → NoClaim workers (
 lane_claims workers lane line (request.Register manifest) = (refl, tt)
 lane_claims workers lane line (request.DropImage image) = (refl, tt)
 lane_claims workers lane line (request.Update feed records) = (refl, tt)
+lane_claims workers lane line (request.Patch feed base records remove) = (refl, tt)
 lane_claims workers lane line (request.Report image) = tt
 lane_claims workers lane line (request.Page number size page) = tt
 lane_claims workers lane line request.List = tt

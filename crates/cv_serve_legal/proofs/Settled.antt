@@ -157,6 +157,7 @@ not_registered image trees before after (entry.Event event ∷ entries) h =
       by_source (by.Worker worker) (name.Fault layer) is = refl
       by_source (by.Worker worker) (name.Memory layer) is = refl
       by_source (by.Worker worker) (name.Update feed) is = refl
+      by_source (by.Worker worker) (name.Patch feed) is = refl
       by_source (by.Worker worker) (name.Ack number) is = refl
 
 -- a round without lines registers no image

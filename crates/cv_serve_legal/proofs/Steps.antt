@@ -19,7 +19,7 @@ use Rattle.cv_core_machine.specs.Layers.{is_claimed_by, is_named}
 use Rattle.cv_core_machine.specs.Rows.{rows_of}
 use Rattle.cv_core_machine.specs.Scans.{Trees}
 use Rattle.cv_core_machine.specs.State.{Feeds, Images, State, notification_at, value_at, with_value, without_value}
-use Rattle.cv_core_machine.specs.Step.{ack_at, claim_at, drop_at, entered, finish, image_of, is_full, register_at, remaining, step, update, updated}
+use Rattle.cv_core_machine.specs.Step.{ack_at, claim_at, drop_at, entered, finish, image_of, patch, register_at, remaining, step, update}
 use Rattle.cv_core_machine.specs.declared.event.MachineEvent.{MachineEvent}
 use Rattle.cv_core_machine.specs.declared.event.MachineEvent.TheVariants as act
 use Rattle.cv_core_machine.specs.declared.image.Image.{Image}
@@ -56,18 +56,23 @@ finish_images s layer worker next said = by_tests (is_claimed_by worker (value_a
   by_tests true false = refl
   by_tests false named = refl
 
--- what an update leaves
-pub update_leaves : (trees : Trees) (s : State) (feed : List ℕ) (records : List Advisory)
-    → ((update trees s feed records).0.images ≡ s.images) × ((update trees s feed records).0.layers ≡ s.layers)
-update_leaves trees s feed records = by_room (is_full s feed) where
-  feeds : Feeds
-  feeds = with_value s.feeds feed (by_id records)
+-- what leaves the images and the table
+abbrev Leaves : State → State × Reply → Type 0
+Leaves s after = (after.0.images ≡ s.images) × (after.0.layers ≡ s.layers)
 
-  by_room : (b : Bool)
-      → ((either b (s, reply.TooManyFeeds) (updated s feeds (rows_of trees s feeds))).0.images ≡ s.images)
-      × ((either b (s, reply.TooManyFeeds) (updated s feeds (rows_of trees s feeds))).0.layers ≡ s.layers)
-  by_room true = (refl, refl)
-  by_room false = (refl, refl)
+-- what is one of two that leave them
+one_leaves : (b : Bool) (s : State) (first second : State × Reply) → Leaves s first → Leaves s second → Leaves s (either b first second)
+one_leaves true s first second yes no = yes
+one_leaves false s first second yes no = no
+
+-- what an update leaves
+pub update_leaves : (trees : Trees) (s : State) (feed : List ℕ) (records : List Advisory) → Leaves s (update trees s feed records)
+update_leaves trees s feed records = one_leaves _ s _ _ (refl, refl) (refl, refl)
+
+-- what a patch leaves
+pub patch_leaves : (trees : Trees) (s : State) (feed : List ℕ) (base : ℕ) (records : List Advisory) (remove : List (List ℕ)) → Leaves s (patch trees s feed base records remove)
+patch_leaves trees s feed base records remove =
+    one_leaves _ s _ _ (refl, refl) (one_leaves _ s _ _ (refl, refl) (one_leaves _ s _ _ (refl, refl) (refl, refl)))
 
 pub ack_leaves : (found : Option (List Row)) (s : State) (number : ℕ) → ((ack_at found s number).0.images ≡ s.images) × ((ack_at found s number).0.layers ≡ s.layers)
 ack_leaves None s number = (refl, refl)
@@ -116,6 +121,8 @@ image_stood trees s (act.Memory layer worker) image registered h other stands =
     ap (λ images. value_at images image) (sym (finish_images s layer worker status.Queued reply.Requeued)) ∙ stands
 image_stood trees s (act.Update feed records) image registered h other stands =
     ap (λ images. value_at images image) (sym (update_leaves trees s feed records).0) ∙ stands
+image_stood trees s (act.Patch feed base records remove) image registered h other stands =
+    ap (λ images. value_at images image) (sym (patch_leaves trees s feed base records remove).0) ∙ stands
 image_stood trees s (act.Ack number) image registered h other stands =
     ap (λ images. value_at images image) (sym (ack_leaves (notification_at s.notifications number) s number).0) ∙ stands
 
@@ -226,6 +233,9 @@ layer_rises trees s (act.Fault layer worker) q h kept before after = absurd (cc 
 layer_rises trees s (act.Memory layer worker) q h kept before after = absurd (cc kept)
 layer_rises trees s (act.Update feed records) q h kept before after =
     rises_same (value_at s.layers q) (value_at (update trees s feed records).0.layers q) (ap (λ table. value_at table q) (update_leaves trees s feed records).1)
+layer_rises trees s (act.Patch feed base records remove) q h kept before after =
+    rises_same (value_at s.layers q) (value_at (patch trees s feed base records remove).0.layers q)
+    (ap (λ table. value_at table q) (patch_leaves trees s feed base records remove).1)
 layer_rises trees s (act.Ack number) q h kept before after =
     rises_same (value_at s.layers q) (value_at (ack_at (notification_at s.notifications number) s number).0.layers q)
     (ap (λ table. value_at table q) (ack_leaves (notification_at s.notifications number) s number).1)

@@ -50,6 +50,7 @@ claim_now trees s (act.Indexed other worker) layer later h named some = inr some
 claim_now trees s (act.Fault other worker) layer later h named some = inr some
 claim_now trees s (act.Memory other worker) layer later h named some = inr some
 claim_now trees s (act.Update feed records) layer later h named some = inr some
+claim_now trees s (act.Patch feed base records remove) layer later h named some = inr some
 claim_now trees s (act.Ack number) layer later h named some = inr some
 claim_now trees s (act.Claim other worker) layer later h named some = by_test (same layer other) refl some where
   by_test : (b : Bool) → same layer other ≡ b → 0 < length (cond b (other ∷ filter (same layer) later) (filter (same layer) later))

@@ -37,7 +37,7 @@ use Rattle.cv_serve_legal.specs.Parts.{event_by, events_by}
 use Rattle.cv_serve_legal.specs.Replay.{IsEvent, Moment, Replays, event_of, moment_after, requested_at, submitted, worker_event}
 use Rattle.cv_serve_legal.specs.Turns.{FitsWork, Works, work_after}
 use Rattle.cv_serve_legal.specs.declared.parsed_line.Requested.{Requested}
-use Rattle.cv_serve_legal.proofs.Steps.{ack_leaves, update_leaves}
+use Rattle.cv_serve_legal.proofs.Steps.{ack_leaves, patch_leaves, update_leaves}
 
 -- no layer is Claimed
 abbrev pub NoneClaimed : Layers → Type 0
@@ -62,12 +62,14 @@ is_of_lane (act.Indexed layer worker) = false
 is_of_lane (act.Fault layer worker) = false
 is_of_lane (act.Memory layer worker) = false
 is_of_lane (act.Update feed records) = true
+is_of_lane (act.Patch feed base records remove) = true
 is_of_lane (act.Ack number) = true
 
 event_is_of_lane : (requested : RequestAct) (a : MachineEvent) → event_of requested ≡ Some a → is_of_lane a ≡ true
 event_is_of_lane (request.Register manifest) a is = sym (ap (λ x. is_of_lane x) (same_Some (act.Register manifest) a is))
 event_is_of_lane (request.DropImage image) a is = sym (ap (λ x. is_of_lane x) (same_Some (act.DropImage image) a is))
 event_is_of_lane (request.Update feed records) a is = sym (ap (λ x. is_of_lane x) (same_Some (act.Update feed records) a is))
+event_is_of_lane (request.Patch feed base records remove) a is = sym (ap (λ x. is_of_lane x) (same_Some (act.Patch feed base records remove) a is))
 event_is_of_lane (request.Report image) a is = absurd (cc is)
 event_is_of_lane (request.Page number size page) a is = absurd (cc is)
 event_is_of_lane request.List a is = absurd (cc is)
@@ -120,6 +122,8 @@ lane_claimed trees s (act.Indexed layer other) q worker h lane is = absurd (cc l
 lane_claimed trees s (act.Fault layer other) q worker h lane is = absurd (cc lane)
 lane_claimed trees s (act.Memory layer other) q worker h lane is = absurd (cc lane)
 lane_claimed trees s (act.Update feed records) q worker h lane is = ap (λ table. value_at table q) (sym (update_leaves trees s feed records).1) ∙ is
+lane_claimed trees s (act.Patch feed base records remove) q worker h lane is =
+    ap (λ table. value_at table q) (sym (patch_leaves trees s feed base records remove).1) ∙ is
 lane_claimed trees s (act.Ack number) q worker h lane is =
     ap (λ table. value_at table q) (sym (ack_leaves (notification_at s.notifications number) s number).1) ∙ is
 
@@ -242,6 +246,7 @@ worker_at_work trees s (act.Memory layer other) worker work h at source fits =
     (ap worker_of (same_Some (act.Memory layer worker) (act.Memory layer other) source))
     (finish_at_work s layer worker status.Queued reply.Requeued work h at refl ((is_busy (work worker) layer).2 fits))
 worker_at_work trees s (act.Update feed records) worker work h at source fits = absurd (cc source)
+worker_at_work trees s (act.Patch feed base records remove) worker work h at source fits = absurd (cc source)
 worker_at_work trees s (act.Ack number) worker work h at source fits = absurd (cc source)
 
 -- each worker ends its work, from the layer at which it works

@@ -43,6 +43,7 @@ abbrev pub event_of : RequestAct → Option MachineEvent
 event_of (request.Register manifest) = Some (whole.Register manifest)
 event_of (request.DropImage image) = Some (whole.DropImage image)
 event_of (request.Update feed records) = Some (whole.Update feed records)
+event_of (request.Patch feed base records remove) = Some (whole.Patch feed base records remove)
 event_of (request.Report image) = None
 event_of (request.Page number size page) = None
 event_of request.List = None
@@ -53,6 +54,7 @@ abbrev pub read_of : RequestAct → Option Read
 read_of (request.Register manifest) = None
 read_of (request.DropImage image) = None
 read_of (request.Update feed records) = None
+read_of (request.Patch feed base records remove) = None
 read_of (request.Report image) = Some (reads.Report image)
 read_of (request.Page number size page) = Some (reads.Page number size page)
 read_of request.List = Some reads.Heads

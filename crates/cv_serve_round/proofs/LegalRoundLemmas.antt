@@ -104,6 +104,7 @@ no_claim : (act : RequestAct) (event : MachineEvent) → event_of act ≡ Some e
 no_claim (request.Register manifest) event is = let one : whole.Register manifest ≡ event = cc is in ap (λ e. claim_in (act_name e)) (sym one)
 no_claim (request.DropImage image) event is = let one : whole.DropImage image ≡ event = cc is in ap (λ e. claim_in (act_name e)) (sym one)
 no_claim (request.Update feed records) event is = let one : whole.Update feed records ≡ event = cc is in ap (λ e. claim_in (act_name e)) (sym one)
+no_claim (request.Patch feed base records remove) event is = let one : whole.Patch feed base records remove ≡ event = cc is in ap (λ e. claim_in (act_name e)) (sym one)
 no_claim (request.Report image) event is = absurd (cc is)
 no_claim (request.Page number size page) event is = absurd (cc is)
 no_claim request.List event is = absurd (cc is)
@@ -128,6 +129,7 @@ below_lane workers lane line (name.Indexed layer) is = tt
 below_lane workers lane line (name.Fault layer) is = tt
 below_lane workers lane line (name.Memory layer) is = tt
 below_lane workers lane line (name.Update feed) is = tt
+below_lane workers lane line (name.Patch feed) is = tt
 below_lane workers lane line (name.Ack number) is = tt
 
 below_worker : (workers worker : ℕ) (act : Act) → worker < workers → ClaimsBelow workers (by.Worker worker) act
@@ -138,6 +140,7 @@ below_worker workers worker (name.Indexed layer) few = tt
 below_worker workers worker (name.Fault layer) few = tt
 below_worker workers worker (name.Memory layer) few = tt
 below_worker workers worker (name.Update feed) few = tt
+below_worker workers worker (name.Patch feed) few = tt
 below_worker workers worker (name.Ack number) few = tt
 
 lane_below : (workers : ℕ) (tree : DeskTrees) (limits : Limits) (list : List Submission) (asks : List Requested) (steps : List Step) → AllZip (Answers tree limits list) asks steps
