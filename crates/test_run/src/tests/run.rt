@@ -1,4 +1,5 @@
 mod failures;
+mod patches;
 mod services;
 mod usages;
 mod writes;
@@ -83,6 +84,17 @@ fn a_service_prints_its_transcript(rt: HostRuntime) -> Result<(), NoMemory> {
         let want = (Status::Done, *output);
         let is_same = runs_to(&rt, rt.alloc(), arguments, input, &CALM, want)?;
         assert!(rt; is_same, "{arguments:?} {input}");
+    }
+    Ok(())
+}
+
+#[test]
+fn a_patch_changes_the_feed_that_it_knows(rt: HostRuntime) -> Result<(), NoMemory> {
+    for (input, output) in &patches::CASES {
+        let arguments = ["serve", "--workers", "1"];
+        let want = (Status::Done, *output);
+        let is_same = runs_to(&rt, rt.alloc(), &arguments, input, &CALM, want)?;
+        assert!(rt; is_same, "{input}");
     }
     Ok(())
 }
