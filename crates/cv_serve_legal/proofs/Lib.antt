@@ -7,6 +7,7 @@ mod Generations
 pub mod History
 pub mod Joined
 pub mod Order
+mod PatchExamples
 mod Pending
 pub mod Segments
 pub mod Serving

@@ -1,15 +1,16 @@
 -- What an event leaves of an image that is registered before and after it, and of the layers of that image.
-use Rattle.std.specs.Prelude.{◌≡◌, ℕ, ◌≤◌, Bool, true, false, ◌||◌, cond, nat_lt, List, length, Option, Some, None, refl}
+use Rattle.std.specs.Prelude.{◌≡◌, ℕ, ◌≤◌, Bool, true, false, ◌==◌, ◌||◌, not, cond, nat_lt, List, length, Option, Some, None, refl}
 use Rattle.std.specs.BTreeMap.{is_at}
 use Rattle.std.specs.Option.{is_some, option_or}
 use Rattle.std.proofs.Common.{ap, arith, subst, sym, ◌∙◌}
 use Rattle.cv_base.specs.Texts.{has_text, same}
 use Rattle.cv_base.specs.declared.advisory.Advisory.{Advisory}
 use Rattle.cv_base.specs.declared.finding.Row.{Row}
+use Rattle.cv_base.specs.declared.limits.TheConstants.{MAX_ADVISORIES}
 use Rattle.cv_base.specs.declared.manifest.Manifest.{Manifest}
 use Rattle.cv_base.proofs.Same.{same_is, same_self}
 use Rattle.cv_match.specs.Findings.{text_cmp}
-use Rattle.cv_advdb.specs.Feeds.{by_id}
+use Rattle.cv_advdb.specs.Feeds.{by_id, has_feed}
 use Rattle.cv_core_records.specs.declared.event.Act.TheVariants as name
 use Rattle.cv_core_records.specs.declared.reply.Reply.{Reply}
 use Rattle.cv_core_records.specs.declared.reply.Reply.TheVariants as reply
@@ -18,8 +19,8 @@ use Rattle.cv_core_machine.specs.Laws.{IsConsistent, is_claimed}
 use Rattle.cv_core_machine.specs.Layers.{is_claimed_by, is_named}
 use Rattle.cv_core_machine.specs.Rows.{rows_of}
 use Rattle.cv_core_machine.specs.Scans.{Trees}
-use Rattle.cv_core_machine.specs.State.{Feeds, Images, State, notification_at, value_at, with_value, without_value}
-use Rattle.cv_core_machine.specs.Step.{ack_at, claim_at, drop_at, entered, finish, image_of, patch, register_at, remaining, step, update}
+use Rattle.cv_core_machine.specs.State.{Feeds, Images, State, feed_generation, notification_at, value_at, with_value, without_value}
+use Rattle.cv_core_machine.specs.Step.{ack_at, claim_at, drop_at, entered, feed_patched, finish, image_of, is_full, patch, register_at, remaining, step, update, updated}
 use Rattle.cv_core_machine.specs.declared.event.MachineEvent.{MachineEvent}
 use Rattle.cv_core_machine.specs.declared.event.MachineEvent.TheVariants as act
 use Rattle.cv_core_machine.specs.declared.image.Image.{Image}
@@ -60,19 +61,32 @@ finish_images s layer worker next said = by_tests (is_claimed_by worker (value_a
 abbrev Leaves : State → State × Reply → Type 0
 Leaves s after = (after.0.images ≡ s.images) × (after.0.layers ≡ s.layers)
 
--- what is one of two that leave them
-one_leaves : (b : Bool) (s : State) (first second : State × Reply) → Leaves s first → Leaves s second → Leaves s (either b first second)
-one_leaves true s first second yes no = yes
-one_leaves false s first second yes no = no
-
 -- what an update leaves
 pub update_leaves : (trees : Trees) (s : State) (feed : List ℕ) (records : List Advisory) → Leaves s (update trees s feed records)
-update_leaves trees s feed records = one_leaves _ s _ _ (refl, refl) (refl, refl)
+update_leaves trees s feed records = by_room (is_full s feed) where
+  feeds : Feeds
+  feeds = with_value s.feeds feed (by_id records)
+
+  by_room : (b : Bool) → Leaves s (either b (s, reply.TooManyFeeds) (updated s feed feeds (rows_of trees s feeds)))
+  by_room true = (refl, refl)
+  by_room false = (refl, refl)
 
 -- what a patch leaves
 pub patch_leaves : (trees : Trees) (s : State) (feed : List ℕ) (base : ℕ) (records : List Advisory) (remove : List (List ℕ)) → Leaves s (patch trees s feed base records remove)
 patch_leaves trees s feed base records remove =
-    one_leaves _ s _ _ (refl, refl) (one_leaves _ s _ _ (refl, refl) (one_leaves _ s _ _ (refl, refl) (refl, refl)))
+    by_tests (not (has_feed feed s.feeds)) (not (base == feed_generation s feed)) (nat_lt MAX_ADVISORIES (length patched)) where
+      patched : List Advisory
+      patched = feed_patched s.feeds feed records remove
+
+      feeds : Feeds
+      feeds = with_value s.feeds feed patched
+
+      by_tests : (missing stale many : Bool)
+          → Leaves s (either missing (s, reply.NoFeed) (either stale (s, reply.StaleBase (feed_generation s feed)) (either many (s, reply.TooManyRecords (length patched)) (updated s feed feeds (rows_of trees s feeds)))))
+      by_tests true stale many = (refl, refl)
+      by_tests false true many = (refl, refl)
+      by_tests false false true = (refl, refl)
+      by_tests false false false = (refl, refl)
 
 pub ack_leaves : (found : Option (List Row)) (s : State) (number : ℕ) → ((ack_at found s number).0.images ≡ s.images) × ((ack_at found s number).0.layers ≡ s.layers)
 ack_leaves None s number = (refl, refl)
