@@ -74,6 +74,23 @@ pub same_below : {K V : Type 0} {cmp : K → K → Ordering} → IsTotalOrder cm
 unfolding IsStrictlySortedBy
 same_below o k e rs h a = same_below_keys o k e.0 rs h a.0
 
+-- what holds of all keys below an entry, and of all keys above it, holds of the keys before it, and of those after it
+pub all_left : {K V : Type 0} (cmp : K → K → Ordering) (P : K → Type 0) (ls : List (K × V)) (e : K × V) (rs : List (K × V)) → IsAscending cmp (ls ++ e ∷ rs)
+    → ((k : K) → cmp k e.0 ≡ Less → P k) → AllByRecursion (λ x. P x.0) ls
+all_left cmp P [] e rs h p = tt
+all_left cmp P (x ∷ xs) e rs h p = (p x.0 (first_below cmp x xs e rs h), all_left cmp P xs e rs (later cmp x (xs ++ e ∷ rs) h) p)
+
+all_above : {K V : Type 0} (cmp : K → K → Ordering) (P : K → Type 0) (m : K) (xs : List (K × V)) → AllByRecursion (λ y. cmp m y ≡ Less) (keys_of xs)
+    → ((k : K) → cmp m k ≡ Less → P k) → AllByRecursion (λ x. P x.0) xs
+all_above cmp P m [] h p = tt
+all_above cmp P m (x ∷ xs) h p = (p x.0 h.0, all_above cmp P m xs h.1 p)
+
+pub all_right : {K V : Type 0} (cmp : K → K → Ordering) (P : K → Type 0) (ls : List (K × V)) (e : K × V) (rs : List (K × V)) → IsAscending cmp (ls ++ e ∷ rs)
+    → ((k : K) → cmp e.0 k ≡ Less → P k) → AllByRecursion (λ x. P x.0) rs
+unfolding IsStrictlySortedBy
+all_right cmp P [] e rs h p = all_above cmp P e.0 rs h.0 p
+all_right cmp P (x ∷ xs) e rs h p = all_right cmp P xs e rs h.1 p
+
 -- A look-up.
 
 at_later : {K V : Type 0} (cmp : K → K → Ordering) (k : K) (x : K × V) (xs : List (K × V)) → cmp k x.0 ≡ Greater → at cmp (x ∷ xs) k ≡ at cmp xs k

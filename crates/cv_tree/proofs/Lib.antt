@@ -1,4 +1,5 @@
 pub mod ChangeLemmas
+pub mod ChosenLemmas
 pub mod CountLemmas
 pub mod EntryLemmas
 mod Examples

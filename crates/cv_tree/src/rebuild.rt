@@ -1,7 +1,7 @@
-ghost use Rattle.std.specs.Prelude.{◌≡◌, ◌+◌, ◌≤◌, ◌∷◌, ◌++◌, max, unwrap_or, IfOk, OnOk};
+ghost use Rattle.std.specs.Prelude.{◌≡◌, ◌+◌, ◌≤◌, [], ◌∷◌, ◌++◌, max, unwrap_or, if◌then◌else◌, IfOk, OnOk};
 ghost use Rattle.std.specs.List.Sorted.{IsStrictlySortedBy};
-ghost use Rattle.cv_tree.specs.Entries.{IsAscending, added_at, cost_at, costs_of, made_at, remade_entries, rows_of};
-ghost use Rattle.cv_tree.specs.code.Keys.{IsAround};
+ghost use Rattle.cv_tree.specs.Entries.{added_at, cost_at, costs_of, made_at, remade_entries, rows_of};
+ghost use Rattle.cv_tree.specs.code.Keys.{AreAscending, IsAround};
 ghost use Rattle.cv_tree.specs.Nodes.{shape_of};
 ghost use Rattle.cv_tree.specs.Shapes.{AreWithin};
 
@@ -65,7 +65,7 @@ fn new_or_shared<T: Share>(new: Option<T>, old: &T) -> Result<T, NoMemory>
     }
 }
 
-/// The same at some keys alone, which come in ascending order, if the keys of the branch ascend.
+/// The same at some keys alone, if both these and the keys of the branch ascend.
 pub fn remade_at<K: Ord + Share + Drop, V: Share + Drop, M: Remake<K, V>>(
     alloc: Global,
     branch: &Branch<K, V>,
@@ -74,12 +74,10 @@ pub fn remade_at<K: Ord + Share + Drop, V: Share + Drop, M: Remake<K, V>>(
     rows: &mut Vec<M::Row>,
     tally: &mut M::Tally,
 ) -> Result<Option<Branch<K, V>>, NoMemory>
-    requires entries { IsAscending K.cmp branch.now.entries }
-    requires keys { IsStrictlySortedBy K.cmp keys.now }
-    ensures value { IfOk result (λ new. (unwrap_or new branch.now).entries ≡ remade_entries (made_at K.cmp keys.now (M.made maker.now)) branch.now.entries) }
+    ensures value { AreAscending K.cmp keys.now branch.now.entries → IfOk result (λ new. (unwrap_or new branch.now).entries ≡ remade_entries (made_at K.cmp keys.now (M.made maker.now)) branch.now.entries) }
     ensures height { IfOk result (λ new. (unwrap_or new branch.now).height ≡ branch.now.height) }
-    ensures rows { OnOk result (rows.new.items ≡ rows.old.items ++ rows_of (added_at K.cmp keys.now (M.added maker.now)) branch.now.entries) }
-    ensures counted { M.costs tally.new ≤ M.costs tally.old + costs_of (cost_at K.cmp keys.now (M.cost maker.now)) branch.now.entries }
+    ensures rows { AreAscending K.cmp keys.now branch.now.entries → OnOk result (rows.new.items ≡ rows.old.items ++ rows_of (added_at K.cmp keys.now (M.added maker.now)) branch.now.entries) }
+    ensures counted { AreAscending K.cmp keys.now branch.now.entries → M.costs tally.new ≤ M.costs tally.old + costs_of (cost_at K.cmp keys.now (M.cost maker.now)) branch.now.entries }
 {
     if keys.is_empty() {
         return Ok(None);
@@ -89,19 +87,33 @@ pub fn remade_at<K: Ord + Share + Drop, V: Share + Drop, M: Remake<K, V>>(
     };
     let (before, here, after) = around(keys, &fork.key);
     let left = remade_at(alloc, &fork.left, before, maker, rows, tally)?;
-    let value = if here {
-        maker.remake(alloc, &fork.key, &fork.value, rows, tally)?
-    } else {
-        None
-    };
+    let value = remade_value(alloc, fork, here, maker, rows, tally)?;
     let right = remade_at(alloc, &fork.right, after, maker, rows, tally)?;
     rebuilt(alloc, fork, left, value, right)
 }
 
-/// The keys below one, whether it is among them, and the keys above it.
+/// The value that a maker gives at a chosen node, or None if the value stays as it is.
+fn remade_value<K, V, M: Remake<K, V>>(
+    alloc: Global,
+    fork: &Fork<K, V>,
+    chosen: bool,
+    maker: &M,
+    rows: &mut Vec<M::Row>,
+    tally: &mut M::Tally,
+) -> Result<Option<V>, NoMemory>
+    ensures value { IfOk result (λ new. unwrap_or new fork.now.value ≡ (if chosen then M.made maker.now fork.now.key fork.now.value else fork.now.value)) }
+    ensures rows { OnOk result (rows.new.items ≡ rows.old.items ++ (if chosen then M.added maker.now fork.now.key fork.now.value else [])) }
+    ensures counted { M.costs tally.new ≤ M.costs tally.old + (if chosen then M.cost maker.now fork.now.key fork.now.value else 0) }
+{
+    if !chosen {
+        return Ok(None);
+    }
+    maker.remake(alloc, &fork.key, &fork.value, rows, tally)
+}
+
+/// The keys below one, whether it is among them, and the keys above it, if the keys ascend.
 fn around<'a, K: Ord>(keys: &'a [K], key: &K) -> (&'a [K], bool, &'a [K])
-    requires { IsStrictlySortedBy K.cmp keys.now }
-    ensures { IsAround K.cmp keys.now key.now result.0.now result.1 result.2.now }
+    ensures { IsStrictlySortedBy K.cmp keys.now → IsAround K.cmp keys.now key.now result.0.now result.1 result.2.now }
 {
     match keys.binary_search(key) {
         Ok(at) => (&keys[..at], true, &keys[at + 1..]),

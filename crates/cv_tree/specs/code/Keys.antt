@@ -3,7 +3,12 @@ use Rattle.std.specs.Prelude.{◌≡◌, Bool, List}
 use Rattle.std.specs.List.Sorted.{IsStrictlySortedBy}
 use Rattle.std.specs.declared.cmp.Ordering.{Ordering}
 use Rattle.std.specs.declared.cmp.Ordering.TheVariants.{Less, Greater}
-use Rattle.cv_tree.specs.Entries.{is_among}
+use Rattle.cv_tree.specs.Entries.{IsAscending, is_among}
+
+-- the chosen keys ascend, and those of the entries
+pub record AreAscending {K V : Type 0} (cmp : K → K → Ordering) (keys : List K) (es : List (K × V)) : Type 0 where
+  pub chosen : IsStrictlySortedBy cmp keys
+  pub entries : IsAscending cmp es
 
 -- which of the keys may stand left of a key, whether it is one of them, and which may stand right of it
 pub record IsAround {K : Type 0} (cmp : K → K → Ordering) (keys : List K) (key : K) (before : List K) (here : Bool) (after : List K) : Type 0 where
