@@ -1,9 +1,7 @@
 -- The keys of a package have its name. So an image whose layers do not have the names of keys has no package of these keys.
 use Rattle.std.specs.Prelude.{◌≡◌, ℕ, Bool, true, false, cond, ◌||◌, List, [], ◌∷◌, Option, Some}
-use Rattle.std.specs.List.{All, AllByRecursion, list_any}
+use Rattle.std.specs.List.{AllByRecursion, list_any}
 use Rattle.std.proofs.Common.{ap, refl, sym, ◌∙◌}
-use Rattle.std.proofs.lemmas.List.Elements.{All-weaker}
-use Rattle.std.proofs.lemmas.List.Folds.{list_any_none}
 use Rattle.cv_base.specs.Texts.{has_text, same}
 use Rattle.cv_base.specs.declared.«package».Package.{Package}
 use Rattle.cv_base.specs.declared.«package».PackageName.{PackageName}

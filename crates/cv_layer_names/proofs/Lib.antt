@@ -1,3 +1,4 @@
+mod Examples
 pub mod FileNames
 pub mod Keyed
 pub mod Listed
