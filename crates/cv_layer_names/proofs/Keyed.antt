@@ -76,7 +76,8 @@ none_of : (keys : List PackageName) (n : List ℕ) → names_key keys n ≡ fals
 none_of keys n h [] e = refl
 none_of keys n h (key ∷ own) e = rw (not_among n key e.0 keys h) (none_of keys n h own e.1)
 
-unlisted_each : (keys : List PackageName) (shapes : List Shape) → list_any (has_name_of keys) shapes ≡ false → (found : List Package)
+-- a package whose name some layer has is without the keys, if no layer has the name of a key
+pub unlisted_each : (keys : List PackageName) (shapes : List Shape) → list_any (has_name_of keys) shapes ≡ false → (found : List Package)
     → AllByRecursion (λ p. some_layer_has shapes (key_name p) ≡ true) found → AllByRecursion (λ p. has_key_of keys p ≡ false) found
 unlisted_each keys shapes h [] k = tt
 unlisted_each keys shapes h (p ∷ ps) k =
