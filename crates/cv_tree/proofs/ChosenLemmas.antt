@@ -1,8 +1,7 @@
 -- Values made anew at chosen keys alone, with their rows and costs: which of the keys count, and what the other entries are.
-use Rattle.std.specs.Prelude.{◌≡◌, ℕ, ◌+◌, ◌≤◌, Bool, true, false, cond, List, [], ◌∷◌, ◌++◌, refl}
+use Rattle.std.specs.Prelude.{◌≡◌, ℕ, ◌+◌, ◌≤◌, Bool, true, false, cond, List, [], ◌∷◌, ◌++◌, Result, OnOk, refl}
 use Rattle.std.specs.List.{AllByRecursion}
 use Rattle.std.specs.declared.cmp.Ordering.{Ordering}
-use Rattle.std.specs.declared.cmp.Ordering.TheVariants.{Less}
 use Rattle.std.proofs.Common.{ap, arith, length, subst, sym, ◌∙◌, ◌==◌}
 use Rattle.std.proofs.lemmas.Bool.{eqb-true}
 use Rattle.std.proofs.lemmas.List.{append-nil}
@@ -11,7 +10,7 @@ use Rattle.cv_tree.specs.Nodes.{shape_of}
 use Rattle.cv_tree.specs.code.Keys.{IsAround}
 use Rattle.cv_tree.specs.declared.branch.Fork.{Fork}
 use Rattle.cv_tree.proofs.EntryLemmas.{all_left, all_right}
-use Rattle.cv_tree.proofs.RemadeLemmas.{costs_between}
+use Rattle.cv_tree.proofs.RemadeLemmas.{costs_between, rows_between}
 
 -- Keys that are the same as far as the entries go.
 
@@ -122,6 +121,31 @@ none_chosen cmp f keys es h = rw (no_keys keys h) (sym (made_at_no_keys cmp f es
 pub no_rows_chosen : {K V R : Type 0} (cmp : K → K → Ordering) (f : K → V → List R) (keys : List K) (es : List (K × V)) (old : List R) → (length keys == 0) ≡ true
     → old ≡ old ++ rows_of (added_at cmp keys f) es
 no_rows_chosen cmp f keys es old h = rw (no_keys keys h, added_at_no_keys cmp f es) (sym (append-nil old))
+
+pub made_left : {K V : Type 0} (cmp : K → K → Ordering) (f : K → V → V) (keys : List K) (es : List (K × V)) (fork : Fork K V) (before : List K) (here : Bool) (after : List K)
+    (ls : List (K × V)) → es ≡ (shape_of fork).entries → IsAscending cmp es → IsAround cmp keys fork.key before here after
+    → ls ≡ remade_entries (made_at cmp before f) fork.left.entries → ls ≡ remade_entries (made_at cmp keys f) fork.left.entries
+made_left cmp f keys es fork before here after ls e h around new = new ∙ sym (made_alike cmp f keys before fork.left.entries (left_alike cmp keys es fork before here after e h around))
+
+pub made_right : {K V : Type 0} (cmp : K → K → Ordering) (f : K → V → V) (keys : List K) (es : List (K × V)) (fork : Fork K V) (before : List K) (here : Bool) (after : List K)
+    (rs : List (K × V)) → es ≡ (shape_of fork).entries → IsAscending cmp es → IsAround cmp keys fork.key before here after
+    → rs ≡ remade_entries (made_at cmp after f) fork.right.entries → rs ≡ remade_entries (made_at cmp keys f) fork.right.entries
+made_right cmp f keys es fork before here after rs e h around new = new ∙ sym (made_alike cmp f keys after fork.right.entries (right_alike cmp keys es fork before here after e h around))
+
+pub made_here : {K V : Type 0} (cmp : K → K → Ordering) (f : K → V → V) (keys : List K) (fork : Fork K V) (before : List K) (here : Bool) (after : List K) (w : V)
+    → IsAround cmp keys fork.key before here after → w ≡ cond here (f fork.key fork.value) fork.value → w ≡ made_at cmp keys f fork.key fork.value
+made_here {K} {V} cmp f keys fork before here after w around new = new ∙ ap (λ (b : Bool). cond b (f fork.key fork.value) fork.value) around.middle
+
+-- the rows of the three parts of a node
+pub rows_chosen : {K V R X E : Type 0} (cmp : K → K → Ordering) (f : K → V → List R) (keys : List K) (es : List (K × V)) (fork : Fork K V) (before : List K) (here : Bool) (after : List K)
+    (r : Result X E) (old one two all : List R) → es ≡ (shape_of fork).entries → IsAscending cmp es → IsAround cmp keys fork.key before here after
+    → one ≡ old ++ rows_of (added_at cmp before f) fork.left.entries → two ≡ one ++ cond here (f fork.key fork.value) [] → all ≡ two ++ rows_of (added_at cmp after f) fork.right.entries
+    → OnOk r (all ≡ old ++ rows_of (added_at cmp keys f) es)
+rows_chosen {K} {V} {R} cmp f keys es fork before here after r old one two all e h around a b c =
+    rows_between (added_at cmp keys f) es fork r old one two all e
+    (a ∙ ap (λ (rows : List R). old ++ rows) (sym (added_alike cmp f keys before fork.left.entries (left_alike cmp keys es fork before here after e h around))))
+    (b ∙ ap (λ (x : Bool). one ++ cond x (f fork.key fork.value) []) around.middle)
+    (c ∙ ap (λ (rows : List R). two ++ rows) (sym (added_alike cmp f keys after fork.right.entries (right_alike cmp keys es fork before here after e h around))))
 
 -- what the three parts of a node cost
 pub costs_chosen : {K V : Type 0} (cmp : K → K → Ordering) (f : K → V → ℕ) (keys : List K) (es : List (K × V)) (fork : Fork K V) (before : List K) (here : Bool) (after : List K)

@@ -1,8 +1,8 @@
 use Rattle.std.proofs.Common.{arith, sym, ◌∙◌}
-use Rattle.cv_tree.specs.Entries.{added_at, made_at}
-use Rattle.cv_tree.proofs.ChosenLemmas.{added_alike, costs_chosen, left_alike, made_alike, no_rows_chosen, none_chosen, right_alike}
+use Rattle.cv_tree.specs.Entries.{made_at}
+use Rattle.cv_tree.proofs.ChosenLemmas.{costs_chosen, made_here, made_left, made_right, no_rows_chosen, none_chosen, rows_chosen}
 use Rattle.cv_tree.proofs.ForkLemmas.{left_ascends, right_ascends}
-use Rattle.cv_tree.proofs.RemadeLemmas.{remade_between, rows_between}
+use Rattle.cv_tree.proofs.RemadeLemmas.{remade_between}
 use Rattle.cv_tree.proofs.rebuild.+remade_at.Goals as goal
 
 pub returns-then-is_empty-clause-value : goal.returns-then-is_empty-clause-value
@@ -50,22 +50,19 @@ returns-clause-counted g t c = λ h.
 pub returns-clause-value : goal.returns-clause-value
 returns-clause-value g t c = λ h.
     let es = c.args.branch.now.entries in let f = c.in-Some.fork.now in let e = c.in-Some.ensures.entries in
-    let around = c.around-here.ensures h.chosen in let made = g.M.Remake.made c.args.maker.now in
+    let keys = c.args.keys.now in let around = c.around-here.ensures h.chosen in let made = g.M.Remake.made c.args.maker.now in
     let left = c.in_ok-left.ensures.value (record { chosen = around.before_ascends; entries = left_ascends g.K.Ord.cmp es f e h.entries }) in
     let right = c.in_ok-right.ensures.value (record { chosen = around.after_ascends; entries = right_ascends g.K.Ord.cmp es f e h.entries }) in
-    remade_between (made_at g.K.Ord.cmp c.args.keys.now made) c.args.branch.now f c.in_ok-left.left c.in_ok-value.value c.in_ok-right.right _ e
-    (left ∙ sym (made_alike g.K.Ord.cmp made c.args.keys.now _ f.left.entries (left_alike g.K.Ord.cmp c.args.keys.now es f _ _ _ e h.entries around)))
-    (rw (← around.middle) c.in_ok-value.ensures.value)
-    (right ∙ sym (made_alike g.K.Ord.cmp made c.args.keys.now _ f.right.entries (right_alike g.K.Ord.cmp c.args.keys.now es f _ _ _ e h.entries around)))
+    remade_between (made_at g.K.Ord.cmp keys made) c.args.branch.now f c.in_ok-left.left c.in_ok-value.value c.in_ok-right.right _ e
+    (made_left g.K.Ord.cmp made keys es f _ _ _ _ e h.entries around left)
+    (made_here g.K.Ord.cmp made keys f _ _ _ _ around c.in_ok-value.ensures.value)
+    (made_right g.K.Ord.cmp made keys es f _ _ _ _ e h.entries around right)
     c.rebuilt.ensures.entries
 
 pub returns-clause-rows : goal.returns-clause-rows
 returns-clause-rows g t c = λ h.
     let es = c.args.branch.now.entries in let f = c.in-Some.fork.now in let e = c.in-Some.ensures.entries in
-    let around = c.around-here.ensures h.chosen in let added = g.M.Remake.added c.args.maker.now in
+    let keys = c.args.keys.now in let around = c.around-here.ensures h.chosen in let added = g.M.Remake.added c.args.maker.now in
     let left = c.in_ok-left.ensures.rows (record { chosen = around.before_ascends; entries = left_ascends g.K.Ord.cmp es f e h.entries }) in
     let right = c.in_ok-right.ensures.rows (record { chosen = around.after_ascends; entries = right_ascends g.K.Ord.cmp es f e h.entries }) in
-    rows_between (added_at g.K.Ord.cmp c.args.keys.now added) es f _ c.args.rows.now.items c.remade_at.new.rows.items c.remade_value.new.rows.items c.remade_at-2.new.rows.items e
-    (rw (added_alike g.K.Ord.cmp added c.args.keys.now _ f.left.entries (left_alike g.K.Ord.cmp c.args.keys.now es f _ _ _ e h.entries around)) left)
-    (rw (← around.middle) c.in_ok-value.ensures.rows)
-    (rw (added_alike g.K.Ord.cmp added c.args.keys.now _ f.right.entries (right_alike g.K.Ord.cmp c.args.keys.now es f _ _ _ e h.entries around)) right)
+    rows_chosen g.K.Ord.cmp added keys es f c.around-here.result.0.now c.around-here.result.1 c.around-here.result.2.now c.rebuilt.result c.args.rows.now.items c.remade_at.new.rows.items c.remade_value.new.rows.items c.remade_at-2.new.rows.items e h.entries around left c.in_ok-value.ensures.rows right
