@@ -19,14 +19,14 @@ use Rattle.cv_base.proofs.Same.{same_is}
 use Rattle.cv_match.specs.Findings.{text_cmp}
 use Rattle.cv_core_records.specs.declared.reply.Reply.{Reply}
 use Rattle.cv_core_records.specs.declared.reply.Reply.TheVariants as reply
-use Rattle.cv_advdb.specs.Feeds.{by_id}
+use Rattle.cv_advdb.specs.Feeds.{by_id, has_feed}
 use Rattle.cv_core_machine.specs.History.{state_after}
 use Rattle.cv_core_machine.specs.Laws.{IsConsistent, is_claimed}
 use Rattle.cv_core_machine.specs.Layers.{is_claimed_as, is_claimed_by, is_named}
 use Rattle.cv_core_machine.specs.Rows.{rows_of}
 use Rattle.cv_core_machine.specs.Scans.{Trees}
 use Rattle.cv_core_machine.specs.State.{Feeds, Images, Layers, Notifications, State, notification_at, opening, value_at, with_value, without_value}
-use Rattle.cv_core_machine.specs.Step.{ack_at, claim_at, drop_at, entered, finish, image_of, is_full, notified, register_at, remaining, step, update, updated}
+use Rattle.cv_core_machine.specs.Step.{ack_at, claim_at, drop_at, entered, feed_patched, finish, image_of, is_full, notified, patch, register_at, remaining, step, update, updated}
 use Rattle.cv_core_machine.specs.declared.event.MachineEvent.{MachineEvent}
 use Rattle.cv_core_machine.specs.declared.event.MachineEvent.TheVariants as act
 use Rattle.cv_core_machine.specs.declared.image.Image.{Image}
@@ -34,11 +34,9 @@ use Rattle.cv_core_machine.specs.declared.limits.Limits.{Limits}
 use Rattle.cv_core_machine.specs.declared.status.Status.{Status}
 use Rattle.cv_core_machine.specs.declared.status.Status.TheVariants as status
 use Rattle.cv_core_machine.proofs.Entries.{all_cut, all_last, any_cut, any_put, length_cut, length_found, length_put, lookup_cut, sorted_cut, sorted_filter, sorted_last, sorted_put}
+pub use Rattle.cv_core_machine.proofs.FeedEvents.{either}
+use Rattle.cv_core_machine.proofs.FeedEvents.{patch_ends, update_ends}
 use Rattle.cv_core_machine.proofs.LayerTables.{entered_claimed, entered_some, entered_sorted, remaining_found, staying, staying_right, value_put}
-
--- one of two ends of an event
-abbrev pub either : Bool → State × Reply → State × Reply → State × Reply
-either b x y = cond b x y
 
 -- the table is right: a layer is in it exactly if an image names it or it is Claimed
 abbrev pub IsRight : Images → Layers → Type 0
@@ -216,9 +214,9 @@ put_within_limit s feed records h room = by_found (is_some (value_at s.feeds fee
       let below : length s.feeds < s.limits.feeds = leb-false _ _ is in
       omega (arith, grown, below)
 
-pub updated_consistent : (s : State) (feeds : Feeds) (rows : List Row) → IsConsistent s → IsStrictlySortedBy text_cmp (keys_of feeds) → length feeds ≤ s.limits.feeds
-    → IsConsistent (updated s feeds rows).0
-updated_consistent s feeds rows h sorted few = record {
+pub updated_consistent : (s : State) (feed : List ℕ) (feeds : Feeds) (rows : List Row) → IsConsistent s → IsStrictlySortedBy text_cmp (keys_of feeds) → length feeds ≤ s.limits.feeds
+    → IsConsistent (updated s feed feeds rows).0
+updated_consistent s feed feeds rows h sorted few = record {
   images = h.images;
   layers = h.layers;
   feeds = sorted;
@@ -230,13 +228,29 @@ updated_consistent s feeds rows h sorted few = record {
 }
 
 pub update_consistent : (trees : Trees) (s : State) (feed : List ℕ) (records : List Advisory) → IsConsistent s → IsConsistent (update trees s feed records).0
-update_consistent trees s feed records h = by_room (is_full s feed) refl where
-  by_room : (b : Bool) → is_full s feed ≡ b
-      → IsConsistent (either b (s, reply.TooManyFeeds) (updated s (with_value s.feeds feed (by_id records)) (rows_of trees s (with_value s.feeds feed (by_id records))))).0
-  by_room true full = h
-  by_room false room =
-      updated_consistent s (with_value s.feeds feed (by_id records)) (rows_of trees s (with_value s.feeds feed (by_id records))) h
-      (sorted_put nat_list_cmp_total s.feeds feed (by_id records) h.feeds) (put_within_limit s feed (by_id records) h room)
+update_consistent trees s feed records h =
+    update_ends (λ end. IsConsistent end.0) (rows_of trees s (with_value s.feeds feed (by_id records))) s feed records (λ answer refused. h)
+    (λ room.
+    updated_consistent s feed (with_value s.feeds feed (by_id records)) (rows_of trees s (with_value s.feeds feed (by_id records))) h
+    (sorted_put nat_list_cmp_total s.feeds feed (by_id records) h.feeds) (put_within_limit s feed (by_id records) h room))
+
+-- Patch
+
+-- a feed that stands is no further one
+pub stood_within_limit : (s : State) (feed : List ℕ) (records : List Advisory) → IsConsistent s → has_feed feed s.feeds ≡ true
+    → length (with_value s.feeds feed records) ≤ s.limits.feeds
+stood_within_limit s feed records h stands =
+    let same_length : length (with_value s.feeds feed records) ≡ length s.feeds = length_found nat_list_cmp_total s.feeds feed records h.feeds stands in
+    omega (arith, same_length, h.feeds_within_limit)
+
+pub patch_consistent : (trees : Trees) (s : State) (feed : List ℕ) (base : ℕ) (records : List Advisory) (remove : List (List ℕ)) → IsConsistent s
+    → IsConsistent (patch trees s feed base records remove).0
+patch_consistent trees s feed base records remove h =
+    let after : List Advisory = feed_patched s.feeds feed records remove in
+    patch_ends (λ end. IsConsistent end.0) (rows_of trees s (with_value s.feeds feed after)) s feed base records remove (λ answer refused. h)
+    (λ stands.
+    updated_consistent s feed (with_value s.feeds feed after) (rows_of trees s (with_value s.feeds feed after)) h
+    (sorted_put nat_list_cmp_total s.feeds feed after h.feeds) (stood_within_limit s feed after h stands))
 
 -- Ack
 
@@ -261,6 +275,7 @@ step_consistent trees s (act.Indexed layer worker) h = finish_consistent s layer
 step_consistent trees s (act.Fault layer worker) h = finish_consistent s layer worker status.Queued reply.Requeued h
 step_consistent trees s (act.Memory layer worker) h = finish_consistent s layer worker status.Queued reply.Requeued h
 step_consistent trees s (act.Update feed records) h = update_consistent trees s feed records h
+step_consistent trees s (act.Patch feed base records remove) h = patch_consistent trees s feed base records remove h
 step_consistent trees s (act.Ack number) h = ack_consistent (notification_at s.notifications number) s number h
 
 pub opening_consistent : (limits : Limits) → IsConsistent (opening limits)

@@ -1,10 +1,12 @@
 -- The definitions, computed on small states: each event with each of its replies, a report, pages and rows.
 use Rattle.std.specs.Prelude.{◌≡◌, ℕ, List, [], ◌∷◌, codes, map, Option, Some, None, refl}
 use Rattle.cv_base.specs.Path.{components}
+use Rattle.cv_base.specs.declared.advisory.Advisory.{Advisory}
 use Rattle.cv_base.specs.declared.finding.Finding.{Finding}
 use Rattle.cv_base.specs.declared.finding.Reason.TheVariants.{Added, Changed, Removed}
 use Rattle.cv_base.specs.declared.finding.Row.{Row}
 use Rattle.cv_base.specs.declared.manifest.Manifest.{Manifest}
+use Rattle.cv_base.specs.declared.«package».PackageName.{PackageName}
 use Rattle.cv_desk.specs.Stored.{Dir, File}
 use Rattle.cv_match.specs.Affects.{affects, fixed}
 use Rattle.cv_match.specs.Findings.{findings}
@@ -21,10 +23,11 @@ use Rattle.cv_findings.specs.Rows.{rows_of}
 use Rattle.cv_core_machine.specs.Answer.{report_of, waiting_for}
 use Rattle.cv_core_machine.specs.History.{replies, state_after}
 use Rattle.cv_core_machine.specs.Layers.{queued}
+use Rattle.cv_core_machine.specs.Matching.{fresh_pairs, touched_pairs}
 use Rattle.cv_core_machine.specs.Scans.{Trees}
 use Rattle.cv_core_machine.specs.State.{State, opening}
 use Rattle.cv_core_machine.specs.Step.{update_with}
-use Rattle.cv_core_machine.specs.declared.event.MachineEvent.TheVariants.{Ack, Claim, DropImage, Fault, Indexed, Memory, Register, Update}
+use Rattle.cv_core_machine.specs.declared.event.MachineEvent.TheVariants.{Ack, Claim, DropImage, Fault, Indexed, Memory, Patch, Register, Update}
 use Rattle.cv_core_machine.specs.declared.status.Status.TheVariants as status
 use Rattle.cv_packages.proofs.Examples.{zlib_of}
 use Rattle.cv_scan.proofs.Examples.{listed}
@@ -179,6 +182,60 @@ notified : ((state_after trees indexed (Update (codes "p") (listed (codes "X-1")
 unfolding rows_of scan image_packages root_entries packages findings affects fixed
 notified = (refl, refl)
 
+-- Patch.
+
+-- the fourth event is a patch of a feed in generation 3 on that generation: the record that it removes goes, and an id that does not
+-- stand is skipped. The same patch again is of another generation than that of the feed, and a feed that does not stand is not made
+patched : replies trees (state_after trees indexed (Update (codes "p") [] ∷ Update (codes "p") [] ∷ Update (codes "p") (listed (codes "X-1") ∷ []) ∷ []))
+    (Patch (codes "p") 3 [] (codes "X-1" ∷ codes "Q" ∷ []) ∷ Patch (codes "p") 3 [] (codes "X-1" ∷ codes "Q" ∷ []) ∷ Patch (codes "x") 0 [] [] ∷ [])
+    ≡ reply.Updated 4 1 ∷ reply.StaleBase 4 ∷ reply.NoFeed ∷ []
+unfolding rows_of scan image_packages root_entries packages findings affects fixed
+patched = refl
+
+-- the notification of a patch has its rows
+patch_notified : (state_after trees indexed (Update (codes "p") (listed (codes "X-1") ∷ []) ∷ Patch (codes "p") 1 [] (codes "X-1" ∷ []) ∷ [])).notifications
+    ≡ (1, record { image = 2 ∷ []; reason = Added; finding = zlib (codes "X-1") None } ∷ [])
+    ∷ (2, record { image = 2 ∷ []; reason = Removed; finding = zlib (codes "X-1") None } ∷ []) ∷ []
+unfolding rows_of scan image_packages root_entries packages findings affects fixed
+patch_notified = refl
+
+-- the record with this id, which was modified at this time
+abbrev changed : List ℕ → List ℕ → Advisory
+changed id at = record (listed id) { modified = at }
+
+-- a patch keeps the records that it does not name, and has its own in place of those of the same ids
+patched_feed : (state_after no_trees small (Update (codes "p") (listed (codes "X-1") ∷ listed (codes "X-2") ∷ listed (codes "X-3") ∷ [])
+    ∷ Patch (codes "p") 1 (changed (codes "X-4") (codes "now") ∷ changed (codes "X-2") (codes "now") ∷ []) (codes "X-3" ∷ []) ∷ [])).feeds
+    ≡ (codes "p", listed (codes "X-1") ∷ changed (codes "X-2") (codes "now") ∷ changed (codes "X-4") (codes "now") ∷ []) ∷ []
+patched_feed = refl
+
+-- each feed has the generation of its last update or patch, and a refused patch leaves it
+generations : ((state_after no_trees wide (Update (codes "p") [] ∷ Patch (codes "p") 1 [] [] ∷ Patch (codes "p") 1 [] [] ∷ [])).since ≡ (codes "p", 2) ∷ [])
+    × ((state_after no_trees (opening (record { images = 1; feeds = 2 })) (Update (codes "q") [] ∷ Update (codes "p") [] ∷ Patch (codes "q") 1 [] [] ∷ [])).since
+    ≡ (codes "p", 2) ∷ (codes "q", 3) ∷ [])
+generations = (refl, refl)
+
+-- Tries.
+
+-- the name of zlib in the records
+abbrev zlib_key : PackageName
+zlib_key = record { ecosystem = codes "unknown"; name = codes "zlib" }
+
+-- one image is indexed, and its package is tried with each of two records; another key touches nothing
+touched : (touched_pairs trees indexed ((codes "p", listed (codes "X-1") ∷ listed (codes "X-2") ∷ []) ∷ []) (zlib_key ∷ []) ≡ 2)
+    × (touched_pairs trees indexed ((codes "p", listed (codes "X-1") ∷ []) ∷ []) (record { ecosystem = codes "unknown"; name = codes "bash" } ∷ []) ≡ 0)
+unfolding image_packages root_entries packages
+touched = (refl, refl)
+
+-- an image that is indexed by an event is tried whole, and one that was indexed before it is not
+fresh : (fresh_pairs trees (state_after trees wide (Update (codes "p") (listed (codes "X-1") ∷ []) ∷ Register (image 2 (a ∷ [])) ∷ Claim a 0 ∷ []))
+    (state_after trees wide (Update (codes "p") (listed (codes "X-1") ∷ []) ∷ Register (image 2 (a ∷ [])) ∷ Claim a 0 ∷ Indexed a 0 ∷ [])) ≡ 1)
+    × (fresh_pairs trees (state_after trees indexed (Update (codes "p") (listed (codes "X-1") ∷ []) ∷ []))
+    (state_after trees indexed (Update (codes "p") (listed (codes "X-1") ∷ []) ∷ Register (image 3 (a ∷ [])) ∷ [])) ≡ 1)
+    × (fresh_pairs trees indexed (state_after trees indexed (Update (codes "p") (listed (codes "X-1") ∷ []) ∷ [])) ≡ 0)
+unfolding image_packages root_entries packages
+fresh = (refl, refl, refl)
+
 -- Notifications.
 
 abbrev row : ℕ → Row
@@ -239,5 +296,5 @@ acknowledged : replies no_trees three (Ack 4 ∷ Ack 4 ∷ []) ≡ reply.Acked �
 acknowledged = refl
 
 -- the limits of images and feeds
-limits : (MAX_IMAGES ≡ 4096) × (MAX_FEEDS ≡ 64)
+limits : (MAX_IMAGES ≡ 20000) × (MAX_FEEDS ≡ 64)
 limits = (refl, refl)

@@ -30,6 +30,9 @@ one_more reply.Discarded before now more is = ap (λ n. n + length (filter is_up
 one_more reply.Requeued before now more is = ap (λ n. n + length (filter is_updated more)) is
 one_more reply.NotClaimed before now more is = ap (λ n. n + length (filter is_updated more)) is
 one_more reply.TooManyFeeds before now more is = ap (λ n. n + length (filter is_updated more)) is
+one_more reply.NoFeed before now more is = ap (λ n. n + length (filter is_updated more)) is
+one_more (reply.StaleBase kept) before now more is = ap (λ n. n + length (filter is_updated more)) is
+one_more (reply.TooManyRecords would) before now more is = ap (λ n. n + length (filter is_updated more)) is
 one_more reply.Acked before now more is = ap (λ n. n + length (filter is_updated more)) is
 one_more reply.NoNotification before now more is = ap (λ n. n + length (filter is_updated more)) is
 

@@ -21,15 +21,16 @@ use Rattle.cv_core_machine.specs.Layers.{is_claimed_by, is_named}
 use Rattle.cv_core_machine.specs.Rows.{rows_of}
 use Rattle.cv_core_machine.specs.Scans.{Trees}
 use Rattle.cv_core_machine.specs.State.{Notifications, State, notification_at, opening, value_at, with_value, without_value}
-use Rattle.cv_core_machine.specs.Step.{ack_at, claim_at, drop_at, entered, finish, image_of, is_full, notified, register_at, step, updated}
+use Rattle.cv_core_machine.specs.Step.{ack_at, claim_at, drop_at, entered, feed_patched, finish, image_of, notified, patch, register_at, step, update}
 use Rattle.cv_core_machine.specs.declared.event.MachineEvent.{MachineEvent}
 use Rattle.cv_core_machine.specs.declared.event.MachineEvent.TheVariants as act
 use Rattle.cv_core_machine.specs.declared.image.Image.{Image}
 use Rattle.cv_core_machine.specs.declared.limits.Limits.{Limits}
 use Rattle.cv_core_machine.specs.declared.status.Status.{Status}
 use Rattle.cv_core_machine.specs.declared.status.Status.TheVariants as status
-use Rattle.cv_core_machine.proofs.Consistent.{either}
 use Rattle.cv_core_machine.proofs.Entries.{lookup_cut}
+use Rattle.cv_core_machine.proofs.FeedEvents.{either, patch_ends, update_ends}
+use Rattle.cv_core_machine.proofs.FeedLemmas.{feed_cases, generation_in, not_updated}
 
 -- Events that leave the notifications.
 
@@ -64,15 +65,19 @@ finish_kept s layer worker next answer =
     either_kept (is_claimed_by worker (value_at s.layers layer)) s (either (is_named s.images layer) entry discard) (s, reply.NotClaimed)
     (either_kept (is_named s.images layer) s entry discard refl refl) refl
 
--- an update, by whether its feed finds no place
-abbrev updated_by : Bool → Trees → State → List ℕ → List Advisory → State × Reply
-updated_by full trees s feed records =
-    either full (s, reply.TooManyFeeds) (updated s (with_value s.feeds feed (by_id records)) (rows_of trees s (with_value s.feeds feed (by_id records))))
+-- an event leaves the notifications unless its reply says so
+abbrev AreKeptUnless : State → State × Reply → Type 0
+AreKeptUnless s end = changes_notifications end.1 ≡ false → AreKept s end
 
-update_kept : (full : Bool) (trees : Trees) (s : State) (feed : List ℕ) (records : List Advisory) → changes_notifications (updated_by full trees s feed records).1 ≡ false
-    → AreKept s (updated_by full trees s feed records)
-update_kept true trees s feed records h = refl
-update_kept false trees s feed records h = absurd (cc h)
+update_kept : (trees : Trees) (s : State) (feed : List ℕ) (records : List Advisory) → AreKeptUnless s (update trees s feed records)
+update_kept trees s feed records =
+    update_ends (AreKeptUnless s) (rows_of trees s (with_value s.feeds feed (by_id records))) s feed records (λ answer refused h. refl) (λ room h. absurd (cc h))
+
+patch_kept : (trees : Trees) (s : State) (feed : List ℕ) (base : ℕ) (records : List Advisory) (remove : List (List ℕ))
+    → AreKeptUnless s (patch trees s feed base records remove)
+patch_kept trees s feed base records remove =
+    patch_ends (AreKeptUnless s) (rows_of trees s (with_value s.feeds feed (feed_patched s.feeds feed records remove))) s feed base records remove
+    (λ answer refused h. refl) (λ stands h. absurd (cc h))
 
 ack_kept : (found : Option (List Row)) (s : State) (number : ℕ) → changes_notifications (ack_at found s number).1 ≡ false → AreKept s (ack_at found s number)
 ack_kept None s number h = refl
@@ -86,7 +91,8 @@ step_kept trees s (act.Claim layer worker) h = claim_kept (value_at s.layers lay
 step_kept trees s (act.Indexed layer worker) h = finish_kept s layer worker status.Indexed reply.Entered
 step_kept trees s (act.Fault layer worker) h = finish_kept s layer worker status.Queued reply.Requeued
 step_kept trees s (act.Memory layer worker) h = finish_kept s layer worker status.Queued reply.Requeued
-step_kept trees s (act.Update feed records) h = update_kept (is_full s feed) trees s feed records h
+step_kept trees s (act.Update feed records) h = update_kept trees s feed records h
+step_kept trees s (act.Patch feed base records remove) h = patch_kept trees s feed base records remove h
 step_kept trees s (act.Ack number) h = ack_kept (notification_at s.notifications number) s number h
 
 -- Update.
@@ -134,44 +140,42 @@ notified_found ns n number rows h = by_test (number == (n + 1)) rows refl where
   by_test true (row ∷ rest) is = added true row rest is ∙ ap (λ f. option_or f (Some (row ∷ rest))) (absent is)
   by_test false (row ∷ rest) is = added false row rest is ∙ or_none (notification_at ns number)
 
--- the generation that a reply names
-abbrev generation_in : Reply → ℕ
-generation_in (reply.Updated generation rows) = generation
-generation_in _ = 0
-
 -- how many rows a reply names
 abbrev rows_in : Reply → ℕ
 rows_in (reply.Updated generation rows) = rows
 rows_in _ = 0
 
--- what is found after an update
-update_found : (full : Bool) (trees : Trees) (s : State) (feed : List ℕ) (records : List Advisory) (generation count number : ℕ) → IsConsistent s
-    → (updated_by full trees s feed records).1 ≡ reply.Updated generation count
-    → notification_at (updated_by full trees s feed records).0.notifications number
-    ≡ cond (number == generation) (rows_if_any (rows_of trees s (updated_by full trees s feed records).0.feeds)) (notification_at s.notifications number)
-update_found true trees s feed records generation count number h is = absurd (cc is)
-update_found false trees s feed records generation count number h is =
-    let rows : List Row = rows_of trees s (with_value s.feeds feed (by_id records)) in
-    let named : s.generation + 1 ≡ generation = ap generation_in is in
+-- what is found after Updated
+abbrev AreNotified : Trees → State → MachineEvent → State × Reply → Type 0
+AreNotified trees s a end =
+    (generation count number : ℕ) → end.1 ≡ reply.Updated generation count
+    → notification_at end.0.notifications number ≡ cond (number == generation) (rows_if_any (rows_of trees s end.0.feeds)) (notification_at s.notifications number)
+
+pub updated_found : (trees : Trees) (s : State) (a : MachineEvent) (generation count number : ℕ) → IsConsistent s
+    → (step trees s a).1 ≡ reply.Updated generation count
+    → notification_at (step trees s a).0.notifications number
+    ≡ cond (number == generation) (rows_if_any (rows_of trees s (step trees s a).0.feeds)) (notification_at s.notifications number)
+updated_found trees s a generation count number h is =
+    feed_cases (AreNotified trees s) trees s
+    (λ a kept none generation count number is. not_updated (step trees s a).1 generation count kept.plain is)
+    (λ a answer plain generation count number is. not_updated answer generation count plain is)
+    (λ a feed records named records_are generation count number is.
+    let rows : List Row = rows_of trees s (with_value s.feeds feed records) in
     notified_found s.notifications s.generation number rows h.numbers
-    ∙ ap (λ g. cond (number == g) (rows_if_any rows) (notification_at s.notifications number)) named
+    ∙ ap (λ r. cond (number == generation_in r) (rows_if_any rows) (notification_at s.notifications number)) is)
+    a generation count number is
 
-pub updated_found : (trees : Trees) (s : State) (feed : List ℕ) (records : List Advisory) (generation count number : ℕ) → IsConsistent s
-    → (step trees s (act.Update feed records)).1 ≡ reply.Updated generation count
-    → notification_at (step trees s (act.Update feed records)).0.notifications number
-    ≡ cond (number == generation) (rows_if_any (rows_of trees s (step trees s (act.Update feed records)).0.feeds)) (notification_at s.notifications number)
-updated_found trees s feed records generation count number h is = update_found (is_full s feed) trees s feed records generation count number h is
+abbrev AreCounted : Trees → State → MachineEvent → State × Reply → Type 0
+AreCounted trees s a end = (generation count : ℕ) → end.1 ≡ reply.Updated generation count → count ≡ length (rows_of trees s end.0.feeds)
 
-update_counted : (full : Bool) (trees : Trees) (s : State) (feed : List ℕ) (records : List Advisory) (generation count : ℕ)
-    → (updated_by full trees s feed records).1 ≡ reply.Updated generation count
-    → count ≡ length (rows_of trees s (updated_by full trees s feed records).0.feeds)
-update_counted true trees s feed records generation count is = absurd (cc is)
-update_counted false trees s feed records generation count is = sym (ap rows_in is)
-
-pub updated_counted : (trees : Trees) (s : State) (feed : List ℕ) (records : List Advisory) (generation count : ℕ)
-    → (step trees s (act.Update feed records)).1 ≡ reply.Updated generation count
-    → count ≡ length (rows_of trees s (step trees s (act.Update feed records)).0.feeds)
-updated_counted trees s feed records generation count is = update_counted (is_full s feed) trees s feed records generation count is
+pub updated_counted : (trees : Trees) (s : State) (a : MachineEvent) (generation count : ℕ) → (step trees s a).1 ≡ reply.Updated generation count
+    → count ≡ length (rows_of trees s (step trees s a).0.feeds)
+updated_counted trees s a generation count is =
+    feed_cases (AreCounted trees s) trees s
+    (λ a kept none generation count is. not_updated (step trees s a).1 generation count kept.plain is)
+    (λ a answer plain generation count is. not_updated answer generation count plain is)
+    (λ a feed records named records_are generation count is. sym (ap rows_in is))
+    a generation count is
 
 -- Ack.
 
@@ -197,11 +201,22 @@ notified_stays ns n number [] rows is = is
 notified_stays ns n number (row ∷ rest) rows is =
     lookup_last (is_at (nat_cmp number)) ns n (row ∷ rest) ∙ ap (λ f. option_or f (cond (is_eq (nat_cmp number n)) (Some (row ∷ rest)) None)) is
 
-update_stays : (full : Bool) (trees : Trees) (s : State) (feed : List ℕ) (records : List Advisory) (number : ℕ) (rows : List Row) → notification_at s.notifications number ≡ Some rows
-    → notification_at (updated_by full trees s feed records).0.notifications number ≡ Some rows
-update_stays true trees s feed records number rows is = is
-update_stays false trees s feed records number rows is =
-    notified_stays s.notifications (s.generation + 1) number (rows_of trees s (with_value s.feeds feed (by_id records))) rows is
+-- an event leaves a notification
+abbrev IsLeft : State → ℕ → List Row → State × Reply → Type 0
+IsLeft s number rows end = notification_at s.notifications number ≡ Some rows → notification_at end.0.notifications number ≡ Some rows
+
+update_stays : (trees : Trees) (s : State) (feed : List ℕ) (records : List Advisory) (number : ℕ) (rows : List Row) → IsLeft s number rows (update trees s feed records)
+update_stays trees s feed records number rows =
+    let new : List Row = rows_of trees s (with_value s.feeds feed (by_id records)) in
+    update_ends (IsLeft s number rows) new s feed records (λ answer refused is. is)
+    (λ room is. notified_stays s.notifications (s.generation + 1) number new rows is)
+
+patch_stays : (trees : Trees) (s : State) (feed : List ℕ) (base : ℕ) (records : List Advisory) (remove : List (List ℕ)) (number : ℕ) (rows : List Row)
+    → IsLeft s number rows (patch trees s feed base records remove)
+patch_stays trees s feed base records remove number rows =
+    let new : List Row = rows_of trees s (with_value s.feeds feed (feed_patched s.feeds feed records remove)) in
+    patch_ends (IsLeft s number rows) new s feed base records remove (λ answer refused is. is)
+    (λ stands is. notified_stays s.notifications (s.generation + 1) number new rows is)
 
 kept_found : (s : State) (end : State × Reply) (number : ℕ) (rows : List Row) → AreKept s end → notification_at s.notifications number ≡ Some rows
     → notification_at end.0.notifications number ≡ Some rows
@@ -220,7 +235,8 @@ step_stays trees s (act.Fault layer worker) number rows h other is =
     kept_found s (step trees s (act.Fault layer worker)) number rows (finish_kept s layer worker status.Queued reply.Requeued) is
 step_stays trees s (act.Memory layer worker) number rows h other is =
     kept_found s (step trees s (act.Memory layer worker)) number rows (finish_kept s layer worker status.Queued reply.Requeued) is
-step_stays trees s (act.Update feed records) number rows h other is = update_stays (is_full s feed) trees s feed records number rows is
+step_stays trees s (act.Update feed records) number rows h other is = update_stays trees s feed records number rows is
+step_stays trees s (act.Patch feed base records remove) number rows h other is = patch_stays trees s feed base records remove number rows is
 step_stays trees s (act.Ack acked) number rows h other is =
     acked_found trees s acked number h ∙ ap (λ b. cond b None (notification_at s.notifications number)) other ∙ is
 
@@ -241,10 +257,17 @@ have_cut test (e ∷ es) h = by_test (test e.0) (have_cut test es h.1) where
 kept_have : (s : State) (end : State × Reply) → AreKept s end → HaveRows s.notifications → HaveRows end.0.notifications
 kept_have s end kept h = subst HaveRows (sym kept) h
 
-update_have : (full : Bool) (trees : Trees) (s : State) (feed : List ℕ) (records : List Advisory) → HaveRows s.notifications
-    → HaveRows (updated_by full trees s feed records).0.notifications
-update_have true trees s feed records h = h
-update_have false trees s feed records h = have_notified s.notifications (s.generation + 1) (rows_of trees s (with_value s.feeds feed (by_id records))) h
+update_have : (trees : Trees) (s : State) (feed : List ℕ) (records : List Advisory) → HaveRows s.notifications → HaveRows (update trees s feed records).0.notifications
+update_have trees s feed records h =
+    let new : List Row = rows_of trees s (with_value s.feeds feed (by_id records)) in
+    update_ends (λ end. HaveRows end.0.notifications) new s feed records (λ answer refused. h) (λ room. have_notified s.notifications (s.generation + 1) new h)
+
+patch_have : (trees : Trees) (s : State) (feed : List ℕ) (base : ℕ) (records : List Advisory) (remove : List (List ℕ)) → HaveRows s.notifications
+    → HaveRows (patch trees s feed base records remove).0.notifications
+patch_have trees s feed base records remove h =
+    let new : List Row = rows_of trees s (with_value s.feeds feed (feed_patched s.feeds feed records remove)) in
+    patch_ends (λ end. HaveRows end.0.notifications) new s feed base records remove (λ answer refused. h)
+    (λ stands. have_notified s.notifications (s.generation + 1) new h)
 
 ack_have : (found : Option (List Row)) (s : State) (number : ℕ) → HaveRows s.notifications → HaveRows (ack_at found s number).0.notifications
 ack_have None s number h = h
@@ -257,7 +280,8 @@ step_have trees s (act.Claim layer worker) h = kept_have s (step trees s (act.Cl
 step_have trees s (act.Indexed layer worker) h = kept_have s (step trees s (act.Indexed layer worker)) (finish_kept s layer worker status.Indexed reply.Entered) h
 step_have trees s (act.Fault layer worker) h = kept_have s (step trees s (act.Fault layer worker)) (finish_kept s layer worker status.Queued reply.Requeued) h
 step_have trees s (act.Memory layer worker) h = kept_have s (step trees s (act.Memory layer worker)) (finish_kept s layer worker status.Queued reply.Requeued) h
-step_have trees s (act.Update feed records) h = update_have (is_full s feed) trees s feed records h
+step_have trees s (act.Update feed records) h = update_have trees s feed records h
+step_have trees s (act.Patch feed base records remove) h = patch_have trees s feed base records remove h
 step_have trees s (act.Ack number) h = ack_have (notification_at s.notifications number) s number h
 
 after_have : (trees : Trees) (s : State) (acts : List MachineEvent) → HaveRows s.notifications → HaveRows (state_after trees s acts).notifications

@@ -14,14 +14,14 @@ use Rattle.cv_core_machine.specs.Laws.{IsGenerationAfter, changes_nothing}
 use Rattle.cv_core_machine.specs.Layers.{is_claimed_by, is_named}
 use Rattle.cv_core_machine.specs.Rows.{rows_of}
 use Rattle.cv_core_machine.specs.Scans.{StatesEveryLayer, Trees, trees_of}
-use Rattle.cv_core_machine.specs.State.{State, notification_at, value_at, with_value, without_value}
-use Rattle.cv_core_machine.specs.Step.{ack_at, claim_at, drop_at, entered, finish, image_of, is_full, register_at, same_image, step, update, updated}
+use Rattle.cv_core_machine.specs.State.{Feeds, State, notification_at, value_at, with_value, without_value}
+use Rattle.cv_core_machine.specs.Step.{ack_at, claim_at, drop_at, entered, feed_patched, finish, image_of, patch, register_at, same_image, step, update, updated}
 use Rattle.cv_core_machine.specs.declared.event.MachineEvent.{MachineEvent}
 use Rattle.cv_core_machine.specs.declared.event.MachineEvent.TheVariants as act
 use Rattle.cv_core_machine.specs.declared.image.Image.{Image}
 use Rattle.cv_core_machine.specs.declared.status.Status.{Status}
 use Rattle.cv_core_machine.specs.declared.status.Status.TheVariants as status
-use Rattle.cv_core_machine.proofs.Consistent.{either}
+use Rattle.cv_core_machine.proofs.FeedEvents.{either, patch_ends, update_ends}
 
 -- an event from a state is orderly: a reply that says so leaves the state, the generation is as the reply says, and the limits stay
 pub record IsOrderly (s : State) (end : State × Reply) : Type 0 where
@@ -70,12 +70,22 @@ finish_orderly s layer worker next answer plain = by_claim (is_claimed_by worker
   by_claim true = by_name (is_named s.images layer)
   by_claim false = stays s reply.NotClaimed refl
 
+updated_orderly : (s : State) (feed : List ℕ) (feeds : Feeds) (rows : List Row) → IsOrderly s (updated s feed feeds rows)
+updated_orderly s feed feeds rows = record { unchanged = λ h. absurd (cc h); generation = (refl, refl); limits = refl }
+
 update_orderly : (trees : Trees) (s : State) (feed : List ℕ) (records : List Advisory) → IsOrderly s (update trees s feed records)
-update_orderly trees s feed records = by_room (is_full s feed) where
-  by_room : (b : Bool)
-      → IsOrderly s (either b (s, reply.TooManyFeeds) (updated s (with_value s.feeds feed (by_id records)) (rows_of trees s (with_value s.feeds feed (by_id records)))))
-  by_room true = stays s reply.TooManyFeeds refl
-  by_room false = record { unchanged = λ h. absurd (cc h); generation = (refl, refl); limits = refl }
+update_orderly trees s feed records =
+    update_ends (IsOrderly s) (rows_of trees s (with_value s.feeds feed (by_id records))) s feed records
+    (λ answer refused. stays s answer (refused.generation s.generation))
+    (λ room. updated_orderly s feed (with_value s.feeds feed (by_id records)) (rows_of trees s (with_value s.feeds feed (by_id records))))
+
+patch_orderly : (trees : Trees) (s : State) (feed : List ℕ) (base : ℕ) (records : List Advisory) (remove : List (List ℕ))
+    → IsOrderly s (patch trees s feed base records remove)
+patch_orderly trees s feed base records remove =
+    let after : List Advisory = feed_patched s.feeds feed records remove in
+    patch_ends (IsOrderly s) (rows_of trees s (with_value s.feeds feed after)) s feed base records remove
+    (λ answer refused. stays s answer (refused.generation s.generation))
+    (λ stands. updated_orderly s feed (with_value s.feeds feed after) (rows_of trees s (with_value s.feeds feed after)))
 
 ack_orderly : (found : Option (List Row)) (s : State) (number : ℕ) → IsOrderly s (ack_at found s number)
 ack_orderly None s number = stays s reply.NoNotification refl
@@ -89,6 +99,7 @@ step_orderly trees s (act.Indexed layer worker) = finish_orderly s layer worker 
 step_orderly trees s (act.Fault layer worker) = finish_orderly s layer worker status.Queued reply.Requeued (refl, λ n. refl)
 step_orderly trees s (act.Memory layer worker) = finish_orderly s layer worker status.Queued reply.Requeued (refl, λ n. refl)
 step_orderly trees s (act.Update feed records) = update_orderly trees s feed records
+step_orderly trees s (act.Patch feed base records remove) = patch_orderly trees s feed base records remove
 step_orderly trees s (act.Ack number) = ack_orderly (notification_at s.notifications number) s number
 
 -- the layers of an image, as the scan of one image names them

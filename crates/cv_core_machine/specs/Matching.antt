@@ -2,8 +2,8 @@
 -- makes fully indexed, and on an update or a patch only the packages with a touched key, are matched.
 use Rattle.std.specs.Prelude.{ℕ, ◌+◌, ◌≤◌, Bool, false, ◌&&◌, not, List, [], map, filter, Option, Some, None, Result, Ok, Err}
 use Rattle.std.specs.List.{sum_by}
-use Rattle.cv_base.specs.declared.package.Package.{Package}
-use Rattle.cv_base.specs.declared.package.PackageName.{PackageName}
+use Rattle.cv_base.specs.declared.«package».Package.{Package}
+use Rattle.cv_base.specs.declared.«package».PackageName.{PackageName}
 use Rattle.cv_advdb.specs.Feeds.{records_of}
 use Rattle.cv_advdb.specs.Touched.{IsTouched, is_touched}
 use Rattle.cv_findings.specs.Pairs.{pair_count}

@@ -31,7 +31,7 @@ pub enum PageOutcome {
     Rows { pages: u64, rows: Seq<Row> },
     /// No notification has this number.
     NoNotification,
-    /// The page's number is above that of the last page.
+    /// There are only this number of pages.
     NoPage { pages: u64 },
 }
 

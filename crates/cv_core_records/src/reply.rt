@@ -38,7 +38,7 @@ pub enum Reply {
     Requeued,
     /// The layer is not the worker's.
     NotClaimed,
-    /// The feed has the new records. `rows` is how many rows the update or the patch raises; if it raises none, there is no notification.
+    /// The feed has the new records. The update or the patch raises this number of rows; if it raises none, there is no notification.
     Updated {
         generation: u64,
         rows: u64,

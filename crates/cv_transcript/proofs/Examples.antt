@@ -34,6 +34,22 @@ unsealed_conflict : (a : List ℕ) → put_reply (reply.Conflict (a ∷ []) (Non
     ≡ member (codes "kept") (array (item (digest_data a) no_items)) (member (codes "reply") (string (codes "conflict")) no_members)
 unsealed_conflict a = refl
 
+-- a patch has its feed, and a patch on another generation has that of the feed
+stale : (feed : List ℕ) → event_data (record { number = 8; by = by.Lane 0 14; act = act.Patch feed; reply = reply.StaleBase 4 })
+    ≡ object (member (codes "at") (number (unsigned 8)) (member (codes "event") (string (codes "patch")) (member (codes "feed") (string feed)
+    (member (codes "kept") (number (unsigned 4)) (member (codes "lane") (number (unsigned 0)) (member (codes "line") (number (unsigned 14))
+    (member (codes "reply") (string (codes "stale_base")) no_members)))))))
+stale feed = refl
+
+-- a patch with which the feed would have too many records has how many those are
+too_many : put_reply (reply.TooManyRecords 200001) no_members
+    ≡ member (codes "reply") (string (codes "too_many_records")) (member (codes "would") (number (unsigned 200001)) no_members)
+too_many = refl
+
+-- a patch of a feed that does not stand has no more
+no_feed : put_reply reply.NoFeed no_members ≡ member (codes "reply") (string (codes "no_feed")) no_members
+no_feed = refl
+
 -- a read that ran out of memory has neither its word nor its query
 no_memory : read_data (record { front = 4; lane = 1; line = 9; answer = answer.NoMemory })
     ≡ object (member (codes "at") (number (unsigned 4)) (member (codes "lane") (number (unsigned 1)) (member (codes "line") (number (unsigned 9)) (member (codes "reply") (string (codes "no_memory")) no_members))))

@@ -132,6 +132,9 @@ details_plain reply.Requeued ms q = q
 details_plain reply.NotClaimed ms q = q
 details_plain (reply.Updated generation rows) ms q = put_count _ generation _ (put_count _ rows ms q)
 details_plain reply.TooManyFeeds ms q = q
+details_plain reply.NoFeed ms q = q
+details_plain (reply.StaleBase kept) ms q = put_count _ kept ms q
+details_plain (reply.TooManyRecords would) ms q = put_count _ would ms q
 details_plain reply.Acked ms q = q
 details_plain reply.NoNotification ms q = q
 
@@ -143,6 +146,7 @@ subject_plain (act.Indexed layer) ms q = put_word _ _ ms q
 subject_plain (act.Fault layer) ms q = put_word _ _ ms q
 subject_plain (act.Memory layer) ms q = put_word _ _ ms q
 subject_plain (act.Update feed) ms q = put_word _ feed ms q
+subject_plain (act.Patch feed) ms q = put_word _ feed ms q
 subject_plain (act.Ack n) ms q = put_count _ n ms q
 
 by_plain : (b : By) (ms : Members) → ArePlain 5 ms → ArePlain 5 (put_by b ms)

@@ -49,7 +49,7 @@ other q k d ms h = get_member-put_other q k d ms (λ e. true≢false (sym (nat_l
 
 -- the name is none of those of a reply
 abbrev IsFree : List ℕ → Type 0
-IsFree q = AreOther q (codes "reply") × AreOther q (codes "kept") × AreOther q (codes "generation") × AreOther q (codes "rows") × AreOther q (codes "kept_seals")
+IsFree q = AreOther q (codes "reply") × AreOther q (codes "kept") × AreOther q (codes "generation") × AreOther q (codes "rows") × AreOther q (codes "kept_seals") × AreOther q (codes "would")
 
 seals_other : (q : List ℕ) → IsFree q → (seals : List (Option (List ℕ))) (ms : Members) → get_member q (put_seals seals ms) ≡ get_member q ms
 seals_other q h seals ms = by_test (list_any is_some seals) where
@@ -73,6 +73,9 @@ details_other q h reply.Requeued ms = refl
 details_other q h reply.NotClaimed ms = refl
 details_other q h (reply.Updated generation rows) ms = other q _ _ _ h.2 ∙ other q _ _ ms h.3
 details_other q h reply.TooManyFeeds ms = refl
+details_other q h reply.NoFeed ms = refl
+details_other q h (reply.StaleBase kept) ms = other q _ _ ms h.1
+details_other q h (reply.TooManyRecords would) ms = other q _ _ ms h.5
 details_other q h reply.Acked ms = refl
 details_other q h reply.NoNotification ms = refl
 
@@ -91,6 +94,7 @@ subject_other q h (act.Indexed layer) ms = other q _ _ ms h.1
 subject_other q h (act.Fault layer) ms = other q _ _ ms h.1
 subject_other q h (act.Memory layer) ms = other q _ _ ms h.1
 subject_other q h (act.Update feed) ms = other q _ _ ms h.2
+subject_other q h (act.Patch feed) ms = other q _ _ ms h.2
 subject_other q h (act.Ack n) ms = other q _ _ ms h.3
 
 -- what an event is about, and the reply, have no such member
@@ -113,6 +117,7 @@ layer_found (act.Indexed layer) ms h = one_layer _ ms
 layer_found (act.Fault layer) ms h = one_layer _ ms
 layer_found (act.Memory layer) ms h = one_layer _ ms
 layer_found (act.Update feed) ms h = no_layer _ _ ms refl h
+layer_found (act.Patch feed) ms h = no_layer _ _ ms refl h
 layer_found (act.Ack n) ms h = no_layer _ _ ms refl h
 
 -- the members of a lane's event
@@ -161,10 +166,10 @@ worker_event at worker name layer ms r l =
 event_is : (at : ℕ) (b : By) (a : Act) (r : Reply)
     → tag_of (object (put_number (codes "at") at (put_text (codes "event") (act_name a) (put_by b (put_subject a (put_reply r no_members)))))) ≡ Some (event_tag at b a)
 event_is at (by.Lane lane line) a r =
-    lane_event at lane line (act_name a) (put_subject a (put_reply r no_members)) (inner_other (codes "refused") (refl, refl, refl, refl) (refl, refl, refl, refl, refl) a r) (inner_other (codes "worker") (refl, refl, refl, refl) (refl, refl, refl, refl, refl) a r)
+    lane_event at lane line (act_name a) (put_subject a (put_reply r no_members)) (inner_other (codes "refused") (refl, refl, refl, refl) (refl, refl, refl, refl, refl, refl) a r) (inner_other (codes "worker") (refl, refl, refl, refl) (refl, refl, refl, refl, refl, refl) a r)
 event_is at (by.Worker worker) a r =
-    worker_event at worker (act_name a) (layer_of a) (put_subject a (put_reply r no_members)) (inner_other (codes "refused") (refl, refl, refl, refl) (refl, refl, refl, refl, refl) a r)
-    (layer_found a (put_reply r no_members) (reply_other (codes "layer") (refl, refl, refl, refl, refl) r))
+    worker_event at worker (act_name a) (layer_of a) (put_subject a (put_reply r no_members)) (inner_other (codes "refused") (refl, refl, refl, refl) (refl, refl, refl, refl, refl, refl) a r)
+    (layer_found a (put_reply r no_members) (reply_other (codes "layer") (refl, refl, refl, refl, refl, refl) r))
 
 -- ---- reads
 

@@ -21,6 +21,7 @@ act_name (act.Indexed layer) = codes "indexed"
 act_name (act.Fault layer) = codes "fault"
 act_name (act.Memory layer) = codes "memory"
 act_name (act.Update feed) = codes "update"
+act_name (act.Patch feed) = codes "patch"
 act_name (act.Ack number) = codes "ack"
 
 -- a reply by its word
@@ -40,6 +41,9 @@ reply_name reply.Requeued = codes "requeued"
 reply_name reply.NotClaimed = codes "not_claimed"
 reply_name (reply.Updated generation rows) = codes "updated"
 reply_name reply.TooManyFeeds = codes "too_many_feeds"
+reply_name reply.NoFeed = codes "no_feed"
+reply_name (reply.StaleBase kept) = codes "stale_base"
+reply_name (reply.TooManyRecords would) = codes "too_many_records"
 reply_name reply.Acked = codes "acked"
 reply_name reply.NoNotification = codes "no_notification"
 
@@ -52,6 +56,7 @@ put_subject (act.Indexed layer) members = put_digest (codes "layer") layer membe
 put_subject (act.Fault layer) members = put_digest (codes "layer") layer members
 put_subject (act.Memory layer) members = put_digest (codes "layer") layer members
 put_subject (act.Update feed) members = put_text (codes "feed") feed members
+put_subject (act.Patch feed) members = put_text (codes "feed") feed members
 put_subject (act.Ack number) members = put_number (codes "number") number members
 
 -- with who submitted the event: a lane with its line, or a worker
@@ -63,12 +68,14 @@ put_by (by.Worker worker) members = put_number (codes "worker") worker members
 abbrev pub put_seals : List (Option (List ℕ)) → Members → Members
 put_seals seals members = if list_any is_some seals then put (codes "kept_seals") (seals_data seals) members else members
 
--- with what the reply says besides its word: the layers and the seals that a conflict keeps, the generation of an update and its
--- number of rows
+-- with what the reply says besides its word: the layers and the seals that a conflict keeps, the generation of an update or a patch
+-- and its number of rows, the generation of the feed that a patch does not know, or how many records the feed would have
 abbrev pub put_details : Reply → Members → Members
 put_details (reply.Conflict kept seals) members = put (codes "kept") (digests_data kept) (put_seals seals members)
 put_details (reply.Updated generation rows) members =
     put_number (codes "generation") generation (put_number (codes "rows") rows members)
+put_details (reply.StaleBase kept) members = put_number (codes "kept") kept members
+put_details (reply.TooManyRecords would) members = put_number (codes "would") would members
 put_details other members = members
 
 -- with the reply

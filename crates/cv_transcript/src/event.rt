@@ -47,7 +47,7 @@ fn with_subject(alloc: Global, object: Object, act: &Act) -> Result<Object, NoMe
         Act::Claim(layer) | Act::Indexed(layer) | Act::Fault(layer) | Act::Memory(layer) => {
             object.digest(alloc, "layer", layer)
         }
-        Act::Update(feed) => object.text(alloc, "feed", feed.as_str()),
+        Act::Update(feed) | Act::Patch(feed) => object.text(alloc, "feed", feed.as_str()),
         Act::Ack(number) => object.value(alloc, "number", Value::from(*number)),
     }
 }
@@ -71,6 +71,8 @@ fn with_details(alloc: Global, object: Object, reply: &Reply) -> Result<Object, 
         Reply::Updated { generation, rows } => object
             .value(alloc, "rows", Value::from(*rows))?
             .value(alloc, "generation", Value::from(*generation)),
+        Reply::StaleBase { kept } => object.value(alloc, "kept", Value::from(*kept)),
+        Reply::TooManyRecords { would } => object.value(alloc, "would", Value::from(*would)),
         _ => Ok(object),
     }
 }
@@ -142,6 +144,7 @@ fn act_name(act: &Act) -> &'static str
         Act::Fault(_) => "fault",
         Act::Memory(_) => "memory",
         Act::Update(_) => "update",
+        Act::Patch(_) => "patch",
         Act::Ack(_) => "ack",
     }
 }
@@ -166,6 +169,9 @@ pub fn reply_name(reply: &Reply) -> &'static str
         Reply::NotClaimed => "not_claimed",
         Reply::Updated { .. } => "updated",
         Reply::TooManyFeeds => "too_many_feeds",
+        Reply::NoFeed => "no_feed",
+        Reply::StaleBase { .. } => "stale_base",
+        Reply::TooManyRecords { .. } => "too_many_records",
         Reply::Acked => "acked",
         Reply::NoNotification => "no_notification",
     }

@@ -14,6 +14,10 @@ const EVENTS: &[EventRow] = &[
     (3, Some(3), "register", "sealed_conflict"),
     (2, Some(7), "drop", "dropped"),
     (4, Some(4), "update", "updated"),
+    (7, Some(13), "patch", "patched"),
+    (8, Some(14), "patch", "stale_base"),
+    (9, Some(15), "patch", "too_many_records"),
+    (1, Some(1), "patch", "no_feed"),
     (5, Some(11), "ack", "acked"),
     (6, Some(13), "ack", "no_notification"),
     (2, None, "claim", "claimed"),
@@ -28,6 +32,10 @@ const LINES: &str =
 {"at":3,"event":"register","image":"sha256:1111111111111111111111111111111111111111111111111111111111111111","kept":["sha256:aaaaaaaaaaaaaaaaaaaaaaaaaaaaaaaaaaaaaaaaaaaaaaaaaaaaaaaaaaaaaaaa","sha256:aaaaaaaaaaaaaaaaaaaaaaaaaaaaaaaaaaaaaaaaaaaaaaaaaaaaaaaaaaaaaaaa"],"kept_seals":["sha256:0000000000000000000000000000000000000000000000000000000000000000",null],"lane":0,"line":3,"reply":"conflict"}
 {"at":2,"event":"drop","image":"sha256:1111111111111111111111111111111111111111111111111111111111111111","lane":0,"line":7,"reply":"dropped"}
 {"at":4,"event":"update","feed":"deb","generation":1,"lane":0,"line":4,"reply":"updated","rows":1}
+{"at":7,"event":"patch","feed":"deb","generation":4,"lane":0,"line":13,"reply":"updated","rows":1}
+{"at":8,"event":"patch","feed":"deb","kept":4,"lane":0,"line":14,"reply":"stale_base"}
+{"at":9,"event":"patch","feed":"deb","lane":0,"line":15,"reply":"too_many_records","would":200001}
+{"at":1,"event":"patch","feed":"deb","lane":0,"line":1,"reply":"no_feed"}
 {"at":5,"event":"ack","lane":0,"line":11,"number":1,"reply":"acked"}
 {"at":6,"event":"ack","lane":0,"line":13,"number":1,"reply":"no_notification"}
 {"at":2,"event":"claim","layer":"sha256:aaaaaaaaaaaaaaaaaaaaaaaaaaaaaaaaaaaaaaaaaaaaaaaaaaaaaaaaaaaaaaaa","reply":"claimed","worker":0}
@@ -45,6 +53,7 @@ const NAMES: &[&str] = &[
     "unwanted",
     "discarded",
     "too_many_feeds",
+    "no_feed",
 ];
 
 /// Requests that are refused, and their lines.
@@ -52,6 +61,14 @@ const REFUSED: &[(RequestWhat, &str)] = &[
     (
         RequestWhat::BadSize,
         "{\"line\":10,\"refused\":\"bad_request\",\"what\":\"bad_size\"}\n",
+    ),
+    (
+        RequestWhat::BadBase,
+        "{\"line\":10,\"refused\":\"bad_request\",\"what\":\"bad_base\"}\n",
+    ),
+    (
+        RequestWhat::BadRemove,
+        "{\"line\":10,\"refused\":\"bad_request\",\"what\":\"bad_remove\"}\n",
     ),
     (
         RequestWhat::BadSeal(3),
@@ -77,6 +94,7 @@ fn act(alloc: Global, event: &str) -> Result<Act, NoMemory> {
         "fault" => Act::Fault(layer),
         "memory" => Act::Memory(layer),
         "update" => Act::Update(Text::of(alloc, "deb")?),
+        "patch" => Act::Patch(Text::of(alloc, "deb")?),
         _ => Act::Ack(1),
     })
 }
@@ -106,6 +124,12 @@ fn reply(alloc: Global, name: &str) -> Result<Reply, NoMemory> {
             generation: 1,
             rows: 1,
         },
+        "patched" => Reply::Updated {
+            generation: 4,
+            rows: 1,
+        },
+        "stale_base" => Reply::StaleBase { kept: 4 },
+        "too_many_records" => Reply::TooManyRecords { would: 200_001 },
         name => plain_reply(name),
     })
 }
@@ -126,6 +150,7 @@ fn plain_reply(name: &str) -> Reply {
         "requeued" => Reply::Requeued,
         "not_claimed" => Reply::NotClaimed,
         "too_many_feeds" => Reply::TooManyFeeds,
+        "no_feed" => Reply::NoFeed,
         "acked" => Reply::Acked,
         _ => Reply::NoNotification,
     }
