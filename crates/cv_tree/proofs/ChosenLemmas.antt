@@ -1,4 +1,4 @@
--- Values made anew at chosen keys alone, with their rows and costs: which of the keys count, and what the other entries are.
+-- Values recomputed at chosen keys alone, with their rows and costs: which of the keys count, and what the other entries are.
 use Rattle.std.specs.Prelude.{◌≡◌, ℕ, ◌+◌, ◌≤◌, Bool, true, false, cond, List, [], ◌∷◌, ◌++◌, Result, OnOk, refl}
 use Rattle.std.specs.List.{AllByRecursion}
 use Rattle.std.specs.declared.cmp.Ordering.{Ordering}
@@ -76,7 +76,7 @@ made_at_no_keys cmp f es = made_at_none cmp f [] es (none_among cmp es)
 pub added_at_no_keys : {K V R : Type 0} (cmp : K → K → Ordering) (f : K → V → List R) (es : List (K × V)) → rows_of (added_at cmp [] f) es ≡ []
 added_at_no_keys cmp f es = added_at_none cmp f [] es (none_among cmp es)
 
--- Entries outside of the keys that would stay as they are anyway: all may be made anew as well.
+-- Entries outside of the keys that would stay as they are anyway: all may be recomputed as well.
 
 by_choice : {V : Type 0} (b : Bool) (new old : V) → (b ≡ false → new ≡ old) → cond b new old ≡ new
 by_choice true new old h = refl
@@ -107,7 +107,7 @@ cost_at_most cmp f keys (e ∷ es) =
     let rest = cost_at_most cmp f keys es in
     omega (arith, one, rest)
 
--- A branch whose values are made anew at chosen keys.
+-- A branch whose values are recomputed at chosen keys.
 
 no_keys : {K : Type 0} (keys : List K) → (length keys == 0) ≡ true → keys ≡ []
 no_keys [] h = refl

@@ -43,7 +43,7 @@ higher : (leaf ≡ record { entries = (1, 10) ∷ []; height = 1 }) × (node_ove
 unfolding two leaf
 higher = (refl, refl)
 
--- only the value at the key 3 is made anew, and the key 2 has none
+-- only the value at the key 3 is recomputed, and the key 2 has none
 chosen : (is_among nat_cmp (2 ∷ 3 ∷ []) 3 ≡ true) × (remade_entries (made_at nat_cmp (2 ∷ 3 ∷ []) (λ k v. k + v)) two ≡ (1, 10) ∷ (3, 33) ∷ [])
 unfolding two
 chosen = (refl, refl)

@@ -6,7 +6,7 @@ use native.Mathlib.Numerals.{unary_clauses}
 use Rattle.cv_tree.specs.Heights.{IsHeightOf}
 use Rattle.cv_tree.specs.Shapes.{AreWithin}
 
--- so many entries, twice and one more, have their place in one more level
+-- twice this number of entries and one more have their place in one more level
 more : (a b l r : ℕ) → l < 2 ^ a → r < 2 ^ b → l + (r + 1) < 2 ^ (max a b + 1)
 more a b l r left right =
     let over_left : a ≤ max a b = le-max_left a b in

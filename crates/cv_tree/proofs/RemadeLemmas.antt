@@ -1,4 +1,4 @@
--- Values made anew, with their rows and costs, of entries in a row: those in front, the one between, those after it.
+-- Values recomputed, with their rows and costs, of entries in a row: those in front, the one between, those after it.
 use Rattle.std.specs.Prelude.{◌≡◌, ℕ, ◌+◌, List, [], ◌∷◌, ◌++◌, length, max, Option, Some, None, unwrap_or, Result, Ok, Err, IfOk, OnOk, refl}
 use Rattle.std.specs.Map.{keys_of}
 use Rattle.std.proofs.Common.{ap, arith, append_assoc, sym, ◌∙◌}
@@ -27,7 +27,7 @@ pub length-remade : {K V : Type 0} (f : K → V → V) (es : List (K × V)) → 
 length-remade f [] = refl
 length-remade f (e ∷ es) = let rest = length-remade f es in omega (arith, rest)
 
--- A node, whose parts are made anew one after the other.
+-- A node, whose parts are recomputed one after the other.
 
 pub costs_between : {K V : Type 0} (f : K → V → ℕ) (es : List (K × V)) (fork : Fork K V) → es ≡ (shape_of fork).entries
     → costs_of f es ≡ costs_of f fork.left.entries + (f fork.key fork.value + costs_of f fork.right.entries)

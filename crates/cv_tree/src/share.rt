@@ -76,7 +76,7 @@ impl<T> Shared<T> {
     }
 }
 
-/// One more owner. It takes no memory, and fails only if the count of owners is at its last value.
+/// One more owner. It takes no memory, and fails only if the count of owners is saturated.
 impl<T> Share for Shared<T> {
     fn share(&self) -> Result<Shared<T>, NoMemory> {
         Ok(Shared {

@@ -106,7 +106,7 @@ impl<K: Ord, V> Tree<K, V> {
     }
 }
 
-/// One more owner of the nodes. It takes no memory, and fails only if a count of owners is at its last value.
+/// One more owner of the nodes. It takes no memory, and fails only if a count of owners is saturated.
 impl<K: Ord, V> Share for Tree<K, V> {
     fn share(&self) -> Result<Tree<K, V>, NoMemory> {
         Ok(Tree {
