@@ -1,5 +1,5 @@
--- What serde_json makes of a tree without numbers, and how its members are found.
-use Rattle.std.specs.Prelude.{◌≡◌, ℕ, Bool, true, false, cond, List, [], ◌∷◌, map, Option, Some, None, is_some, option_map, Ok, Err, refl}
+-- What serde_json makes of a tree, and how its members are found.
+use Rattle.std.specs.Prelude.{◌≡◌, ℕ, Bool, true, false, not, ◌||◌, cond, List, [], ◌∷◌, map, Option, Some, None, is_some, option_map, Ok, Err, refl}
 use Rattle.std.specs.Borrow.{Bor}
 use Rattle.std.specs.Str.{bytes_eq, is_utf8}
 use Rattle.std.specs.Cmp.Lexicographic.{bytes_decides}
@@ -9,36 +9,71 @@ use Rattle.json.specs.Json as json
 use Rattle.json.specs.Find as find
 use Rattle.json.specs.Value.{value_view, items_view}
 use Rattle.json.specs.declared.value.Value.{Value}
-use Rattle.serde_json.specs.Data.{Num, Data, Members, no_members, put, item}
+use Rattle.serde_json.specs.Data.{Num, Data, number, Members, no_members, put, item}
 use Rattle.serde_json.specs.Find.{get, get_member, as_null}
 use Rattle.serde_json.specs.Read.{number_of, of_json, of_items, of_members}
 use Rattle.serde_json.specs.View.{items_of}
 use Rattle.serde_json.proofs.Views.{get_member-put, get_member-put_other}
-use Rattle.cv_osv_text.specs.Tree.{data_of, data_items, data_members, data_view, has_number, items_number, members_number, number_or, tree_of}
+use Rattle.cv_osv_text.specs.Tree.{data_of, data_items, data_members, data_view, has_bad_number, items_bad_number, members_bad_number, number_or, tree_of}
 use Rattle.cv_request.specs.Line.{json_or}
 use Rattle.cv_request.specs.declared.error.RequestFault.TheVariants.{BadJson}
 
--- serde_json has the value of a tree without numbers
+number_is : (n : Option Num) → not (is_some n) ≡ false → option_map number n ≡ Some (number_or n)
+number_is None h = absurd (cc)
+number_is (Some n) h = refl
+
+number_none : (n : Option Num) → not (is_some n) ≡ true → option_map number n ≡ None
+number_none None h = refl
+number_none (Some n) h = absurd (cc)
+
+-- serde_json has the value of a tree whose numbers are in range
 mutual
-  pub of_json_is : (j : json.Json) → has_number j ≡ false → of_json j ≡ Some (data_of j)
+  pub of_json_is : (j : json.Json) → has_bad_number j ≡ false → of_json j ≡ Some (data_of j)
   of_json_is json.null h = refl
   of_json_is (json.boolean b) h = refl
-  of_json_is (json.number s) h = absurd (cc)
+  of_json_is (json.number s) h = number_is (number_of s) h
   of_json_is (json.string s) h = refl
   of_json_is (json.array js) h = rw (of_items_is js h) refl
   of_json_is (json.object ms) h = rw (of_members_is ms no_members h) refl
 
-  of_items_is : (js : json.Items) → items_number js ≡ false → of_items js ≡ Some (data_items js)
+  of_items_is : (js : json.Items) → items_bad_number js ≡ false → of_items js ≡ Some (data_items js)
   of_items_is json.no_items h = refl
   of_items_is (json.item j js) h =
-      let both = or_parts (has_number j) (items_number js) h in
+      let both = or_parts (has_bad_number j) (items_bad_number js) h in
       rw (of_json_is j both.0, of_items_is js both.1) refl
 
-  of_members_is : (ms : json.Members) (found : Members) → members_number ms ≡ false → of_members ms found ≡ Some (data_members ms found)
+  of_members_is : (ms : json.Members) (found : Members) → members_bad_number ms ≡ false → of_members ms found ≡ Some (data_members ms found)
   of_members_is json.no_members found h = refl
   of_members_is (json.member k j ms) found h =
-      let both = or_parts (has_number j) (members_number ms) h in
+      let both = or_parts (has_bad_number j) (members_bad_number ms) h in
       rw (of_json_is j both.0) (of_members_is ms (put k (data_of j) found) both.1)
+
+-- serde_json has no value of a tree with a number that is out of range
+mutual
+  pub of_json_none : (j : json.Json) → has_bad_number j ≡ true → of_json j ≡ None
+  of_json_none json.null h = absurd (cc)
+  of_json_none (json.boolean b) h = absurd (cc)
+  of_json_none (json.number s) h = number_none (number_of s) h
+  of_json_none (json.string s) h = absurd (cc)
+  of_json_none (json.array js) h = rw (of_items_none js h) refl
+  of_json_none (json.object ms) h = rw (of_members_none ms no_members h) refl
+
+  of_items_none : (js : json.Items) → items_bad_number js ≡ true → of_items js ≡ None
+  of_items_none json.no_items h = absurd (cc)
+  of_items_none (json.item j js) h = item_none j js (has_bad_number j) refl h
+
+  item_none : (j : json.Json) (js : json.Items) (bad : Bool) → has_bad_number j ≡ bad → (bad || items_bad_number js) ≡ true → of_items (json.item j js) ≡ None
+  item_none j js true e h = rw (of_json_none j e) refl
+  item_none j js false e h = rw (of_json_is j e, of_items_none js h) refl
+
+  of_members_none : (ms : json.Members) (found : Members) → members_bad_number ms ≡ true → of_members ms found ≡ None
+  of_members_none json.no_members found h = absurd (cc)
+  of_members_none (json.member k j ms) found h = member_none k j ms found (has_bad_number j) refl h
+
+  member_none : (k : List ℕ) (j : json.Json) (ms : json.Members) (found : Members) (bad : Bool) → has_bad_number j ≡ bad → (bad || members_bad_number ms) ≡ true
+      → of_members (json.member k j ms) found ≡ None
+  member_none k j ms found true e h = rw (of_json_none j e) refl
+  member_none k j ms found false e h = rw (of_json_is j e) (of_members_none ms (put k (data_of j) found) h)
 
 -- the last value of a key, or one that was found before
 abbrev found_or : Option json.Json → Option Data → Option Data
@@ -105,8 +140,12 @@ items_are [] = refl
 items_are (v ∷ vs) = ap (item (data_view v)) (items_are vs)
 
 -- a line that is such a tree
-pub json_found : (line : List ℕ) (j : json.Json) → is_utf8 line ≡ true → tree_of line ≡ Some j → has_number j ≡ false → json_or line ≡ Ok (data_of j)
-json_found line j text tree free = rw (text, tree, of_json_is j free) refl
+pub json_found : (line : List ℕ) (j : json.Json) → is_utf8 line ≡ true → tree_of line ≡ Some j → has_bad_number j ≡ false → json_or line ≡ Ok (data_of j)
+json_found line j text tree good = rw (text, tree, of_json_is j good) refl
+
+-- a line with a number that is out of range
+pub json_number : (line : List ℕ) (j : json.Json) → is_utf8 line ≡ true → tree_of line ≡ Some j → has_bad_number j ≡ true → json_or line ≡ Err BadJson
+json_number line j text tree bad = rw (text, tree, of_json_none j bad) refl
 
 -- a line that is not JSON
 pub json_none : (line : List ℕ) → is_utf8 line ≡ true → tree_of line ≡ None → json_or line ≡ Err BadJson

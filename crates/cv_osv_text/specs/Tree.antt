@@ -1,6 +1,6 @@
 -- The value that a tree of the kit's `json` is to serde_json (RFC 8259): an object has each key once, and the last value of a
 -- key stays. Here a number is what serde_json makes of it, and 0 if it is out of range, where serde_json has no value at all.
-use Rattle.std.specs.Prelude.{ℕ, Bool, true, false, ◌||◌, List, Option, Some, None, option_and_then, Result, Ok}
+use Rattle.std.specs.Prelude.{ℕ, Bool, false, not, ◌||◌, List, Option, Some, None, is_some, option_and_then, Result, Ok}
 use Rattle.cv_base.specs.Results.{◌>>=◌}
 use Rattle.cv_osv.specs.Record.{advisory_of}
 use Rattle.cv_osv.specs.Records.{RecordRead}
@@ -38,25 +38,25 @@ abbrev mutual
   data_members json.no_members found = found
   data_members (json.member k j ms) found = data_members ms (put k (data_of j) found)
 
--- a number stands somewhere in a tree
+-- a number somewhere in a tree is out of range for serde_json
 abbrev mutual
-  pub has_number : json.Json → Bool
-  has_number json.null = false
-  has_number (json.boolean b) = false
-  has_number (json.number s) = true
-  has_number (json.string s) = false
-  has_number (json.array js) = items_number js
-  has_number (json.object ms) = members_number ms
+  pub has_bad_number : json.Json → Bool
+  has_bad_number json.null = false
+  has_bad_number (json.boolean b) = false
+  has_bad_number (json.number s) = not (is_some (number_of s))
+  has_bad_number (json.string s) = false
+  has_bad_number (json.array js) = items_bad_number js
+  has_bad_number (json.object ms) = members_bad_number ms
 
   -- in one of these items
-  pub items_number : json.Items → Bool
-  items_number json.no_items = false
-  items_number (json.item j js) = has_number j || items_number js
+  pub items_bad_number : json.Items → Bool
+  items_bad_number json.no_items = false
+  items_bad_number (json.item j js) = has_bad_number j || items_bad_number js
 
   -- in one of these members
-  pub members_number : json.Members → Bool
-  members_number json.no_members = false
-  members_number (json.member k j ms) = has_number j || members_number ms
+  pub members_bad_number : json.Members → Bool
+  members_bad_number json.no_members = false
+  members_bad_number (json.member k j ms) = has_bad_number j || members_bad_number ms
 
 -- a value of json as data of serde_json
 abbrev pub data_view : {A : Type 0} → Value A → Data

@@ -4,13 +4,14 @@ ghost use Rattle.cv_base.specs.Answer.{MatchesUnlessOutOfMemory};
 ghost use Rattle.cv_osv.specs.Record.{advisory_of};
 ghost use Rattle.cv_request.specs.Fault.{fault_of};
 ghost use Rattle.cv_request.specs.declared.error.RequestFault.TheVariants.{BadJson};
-ghost use Rattle.cv_osv_text.specs.Tree.{line_read, tree_of};
+ghost use Rattle.cv_request.specs.Line.{json_or};
+ghost use Rattle.cv_osv_text.specs.Tree.{data_view, line_read, tree_of};
 ghost use Rattle.json.specs.Value.{value_view};
 
-use crate::numbers::has_number;
+use crate::numbers::has_bad_number;
 use crate::shared::SharedTexts;
-use cv_osv::{AdvisoryError, NewTexts, Node, RecordRead, Texts, read_node};
-use cv_request::{RequestError, read_json};
+use cv_osv::{AdvisoryError, Node, RecordRead, Texts, read_node};
+use cv_request::RequestError;
 use json::{Error, Reader, Scratch, Value};
 use std::alloc::Global;
 use std::str;
@@ -19,10 +20,7 @@ use std::str;
 const MAX_DEPTH: usize = 127;
 
 /// Reads a line as a record, as `read_json` of cv_request and `read_advisory` of cv_osv do. `BadJson` if the line is
-/// not UTF-8 or not JSON. Of a line without a number only the texts that are kept are copied, but for those with escapes. A
-/// line with a number is read a second time, by these two, which copy all of its texts: serde_json decides which numbers are
-/// in range.
-#[tactic(auto, using(cv_seq::proofs::Utf8::text_found, cv_seq::proofs::Utf8::none_found, crate::proofs::Data::json_found, crate::proofs::Data::json_none, crate::proofs::Data::json_bytes))]
+/// not UTF-8 or not JSON. Only the texts that are kept are copied, but for those with escapes.
 pub(crate) fn read_line(
     alloc: Global,
     line: &[u8],
@@ -31,18 +29,32 @@ pub(crate) fn read_line(
 ) -> Result<RecordRead, RequestError>
     ensures { MatchesUnlessOutOfMemory fault_of (λ found. found) result (line_read line.now) }
 {
-    let Ok(text) = str::from_utf8(line) else {
-        return Err(RequestError::BadJson);
-    };
-    let tree = read_tree(alloc, text, scratch)?;
-    if has_number(&tree) {
-        return read_owned(alloc, line);
-    }
+    let tree = read_tree(alloc, line, scratch)?;
     read_record(alloc, texts, &tree)
 }
 
+/// Reads a line as JSON, as `read_json` of cv_request does. The tree borrows from the line, or from `scratch` where a text has
+/// escapes. Its numbers are those that serde_json has in range.
+#[tactic(auto, using(cv_seq::proofs::Utf8::text_found, cv_seq::proofs::Utf8::none_found, crate::proofs::Data::json_found, crate::proofs::Data::json_number, crate::proofs::Data::json_none, crate::proofs::Data::json_bytes))]
+pub(crate) fn read_tree<'a>(
+    alloc: Global,
+    line: &'a [u8],
+    scratch: &'a mut Scratch,
+) -> Result<Value<'a>, RequestError>
+    ensures { MatchesUnlessOutOfMemory fault_of data_view result (json_or line.now) }
+{
+    let Ok(text) = str::from_utf8(line) else {
+        return Err(RequestError::BadJson);
+    };
+    let tree = tree_of(alloc, text, scratch)?;
+    if has_bad_number(&tree) {
+        return Err(RequestError::BadJson);
+    }
+    Ok(tree)
+}
+
 /// The tree of a text, which borrows from it, or from `scratch` where the text has escapes.
-fn read_tree<'a>(
+fn tree_of<'a>(
     alloc: Global,
     text: &'a str,
     scratch: &'a mut Scratch,
@@ -76,13 +88,4 @@ fn read_record<V: Node<T>, T: Texts>(
         Err(AdvisoryError::Bad(what)) => Ok(Err(what)),
         Err(AdvisoryError::NoMemory) => Err(RequestError::NoMemory),
     }
-}
-
-/// The same by a value that owns its texts.
-fn read_owned(alloc: Global, line: &[u8]) -> Result<RecordRead, RequestError>
-    ensures { MatchesUnlessOutOfMemory fault_of (λ found. found) result (line_read line.now) }
-{
-    let value = read_json(alloc, line)?;
-    let mut texts = NewTexts;
-    read_record(alloc, &mut texts, &value)
 }

@@ -4,8 +4,10 @@ ghost use Rattle.cv_osv_text.specs.Tree.{data_items, data_view};
 ghost use Rattle.json.specs.Value.{items_view};
 ghost use Rattle.serde_json.specs.Find.{as_array};
 
+use crate::number::read_whole;
 use crate::shared::SharedTexts;
 use cv_osv::Node;
+use cv_request::RequestNode;
 use json::Value;
 
 impl<'a> Node<SharedTexts> for Value<'a> {
@@ -41,6 +43,15 @@ impl<'a> Node<SharedTexts> for Value<'a> {
         match array_of(self) {
             None => None,
             Some(items) => Some(items.as_slice()),
+        }
+    }
+}
+
+impl<'a> RequestNode<SharedTexts> for Value<'a> {
+    fn whole_number(&self) -> Option<u64> {
+        match self {
+            Value::Number(text) => read_whole(text),
+            _ => None,
         }
     }
 }

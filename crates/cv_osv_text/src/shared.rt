@@ -108,7 +108,7 @@ fn slots_for(alloc: Global, made: &[Text], count: usize) -> Result<Vec<usize>, N
     Ok(slots)
 }
 
-/// The slot of a text among so many.
+/// The slot of a text among this number of slots.
 fn slot_of(text: &str, count: usize) -> usize {
     let mut sum = 0u64;
     for byte in text.as_bytes() {

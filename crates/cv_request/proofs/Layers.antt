@@ -1,10 +1,9 @@
 -- The layers of a manifest, one after the other.
-use Rattle.std.proofs.Common.{◌≡◌, ℕ, List, [], ◌∷◌, length, refl, ap, arith}
+use Rattle.std.proofs.Common.{◌≡◌, ℕ, List, [], ◌∷◌, length, map, refl, ap, arith}
 use Rattle.std.specs.Prelude.{IfSome, Option, None, Some, Result, Ok, Err, codes}
 use Rattle.serde_json.specs.Data.{Data}
 use Rattle.serde_json.specs.Find.{get}
-use Rattle.serde_json.specs.View.{items_view}
-use Rattle.serde_json.specs.declared.value.Value.{Value}
+use Rattle.serde_json.specs.View.{items_of}
 use Rattle.cv_base.specs.Results.{◌>>=◌}
 use Rattle.cv_osv.specs.Json.{object_or}
 use Rattle.cv_request.specs.Fault.{refusing}
@@ -15,9 +14,9 @@ use Rattle.cv_request.specs.declared.error.RequestWhat.{RequestWhat}
 use Rattle.cv_request.specs.declared.error.RequestWhat.TheVariants.{BadManifest, BadHash}
 
 -- the items of a slice are as many
-pub count_items : (items : List Value) → count (items_view items) ≡ length items
-count_items [] = refl
-count_items (v ∷ vs) = rw (count_items vs) (omega arith)
+pub count_items : {A : Type 0} (f : A → Data) (items : List A) → count (items_of (map f items)) ≡ length items
+count_items f [] = refl
+count_items f (v ∷ vs) = rw (count_items f vs) (omega arith)
 
 fails_by : {A B : Type 0} (r : Result A RequestWhat) (f : A → Result B RequestWhat) (fault : Option RequestFault)
     → IfSome fault (λ x. refusing r ≡ Err x) → IfSome fault (λ x. refusing (r >>= f) ≡ Err x)

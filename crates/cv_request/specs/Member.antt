@@ -5,7 +5,7 @@ use Rattle.std.specs.Option.{ok_or}
 use Rattle.serde_json.specs.Data.{Data}
 use Rattle.serde_json.specs.Find.{as_array, as_number, as_str, as_u64}
 use Rattle.cv_base.specs.Results.{◌>>=◌}
-use Rattle.cv_osv.specs.Json.{each}
+use Rattle.cv_osv.specs.Json.{each, text_or}
 use Rattle.cv_request.specs.declared.error.RequestWhat.{RequestWhat}
 use Rattle.cv_request.specs.declared.error.RequestWhat.TheVariants.{BadLane, BadFeed}
 use Rattle.cv_request.specs.declared.limits.TheConstants.{MAX_FEED_NAME_LEN, MAX_LANES}
@@ -39,7 +39,11 @@ is_feed_name text = nat_le 1 (length text) && nat_le (length text) MAX_FEED_NAME
 abbrev pub feed_or : Option Data → Result (List ℕ) RequestWhat
 feed_or found = ok_or (option_and_then (λ text. if is_feed_name text then Some text else None) (option_and_then as_str found)) BadFeed
 
+-- a text, as an item of a list
+abbrev pub text_of : RequestWhat → Data → Result (List ℕ) RequestWhat
+text_of bad d = text_or bad (Some d)
+
 -- a list of texts, which may be absent and then has none
 abbrev pub texts_or : RequestWhat → Option Data → Result (List (List ℕ)) RequestWhat
 texts_or bad None = Ok []
-texts_or bad (Some d) = ok_or (as_array d) bad >>= λ items. each (λ item. ok_or (as_str item) bad) items
+texts_or bad (Some d) = ok_or (as_array d) bad >>= each (text_of bad)

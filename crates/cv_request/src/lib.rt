@@ -14,12 +14,15 @@ mod limits;
 mod line;
 mod manifest;
 mod member;
+mod node;
 mod read;
+mod record_list;
 mod request;
 
 pub use error::{RequestError, RequestFault, RequestWhat};
 pub use limits::{MAX_FEED_NAME_LEN, MAX_LANES, MAX_PAGE_ROWS};
 pub use line::read_json;
 pub use manifest::read_manifest;
-pub use read::read_request;
+pub use node::RequestNode;
+pub use read::read_value;
 pub use request::{Act, Request};

@@ -1,13 +1,15 @@
-ghost use Rattle.std.specs.Prelude.{◌≡◌, ◌<◌, ◌≤◌, ◌^◌, length, IfOk};
+ghost use Rattle.std.specs.Prelude.{◌≡◌, ◌<◌, ◌≤◌, ◌^◌, length, map, IfOk};
 ghost use Rattle.std.specs.Option.{option_map};
-ghost use Rattle.serde_json.specs.View.{view, items_view};
+ghost use Rattle.serde_json.specs.View.{items_of, view};
 ghost use Rattle.cv_base.specs.Answer.{MatchesUnlessOutOfMemory};
-ghost use Rattle.cv_osv.specs.Json.{object_or};
 ghost use Rattle.cv_request.specs.Fault.{fault_of, refusing};
-ghost use Rattle.cv_request.specs.Manifest.{checked_layers, digest_or, layer_of, layers_from, layers_in, list_or, manifest_of, manifest_with, seal_or};
+ghost use Rattle.cv_request.specs.Manifest.{checked_layers, digest_or, layer_of, layers_from, layers_in, manifest_of, manifest_with, seal_or};
 
 use crate::error::{RequestError, RequestWhat};
+use crate::member::{list_or, object_or};
+use crate::node::RequestNode;
 use cv_base::{Digest, MAX_LAYERS, Manifest, NoMemory, Seq};
+use cv_osv::Texts;
 use serde_json::Value;
 use std::alloc::Global;
 
@@ -17,15 +19,27 @@ type SealedLayers = Vec<(Digest, Option<Digest>)>;
 /// Reads the manifest of an image, as Clair v4 takes it: its digest, and those of its 1 to 128 layers, each with the seal that
 /// is stated for it, if any. `uri`, `headers` and unknown members are ignored. The first fault is the answer, in this order: the
 /// object, `hash`, the list `layers`, the count of its items, and each of them from the first on, its `hash` before its `seal`.
-#[tactic(auto, unfolding(crate::specs::Manifest::manifest_of), using(crate::proofs::Layers::manifest_fails))]
 pub fn read_manifest(alloc: Global, value: &Value) -> Result<Manifest, RequestError>
     ensures value { MatchesUnlessOutOfMemory fault_of (λ manifest. manifest) result (refusing (manifest_of (view value.now))) }
     ensures at_most_128_layers { IfOk result (λ manifest. length manifest.layers ≤ MAX_LAYERS) }
     ensures as_many_seals { IfOk result (λ manifest. length manifest.seals ≡ length manifest.layers) }
 {
+    manifest_of(alloc, value)
+}
+
+/// Reads the manifest of an image as `read_manifest` does, from a value of any kind.
+#[tactic(auto, unfolding(crate::specs::Manifest::manifest_of), using(crate::proofs::Layers::manifest_fails))]
+pub(crate) fn manifest_of<V: RequestNode<T>, T: Texts>(
+    alloc: Global,
+    value: &V,
+) -> Result<Manifest, RequestError>
+    ensures value { MatchesUnlessOutOfMemory fault_of (λ manifest. manifest) result (refusing (manifest_of (V.data_of value.now))) }
+    ensures at_most_128_layers { IfOk result (λ manifest. length manifest.layers ≤ MAX_LAYERS) }
+    ensures as_many_seals { IfOk result (λ manifest. length manifest.seals ≡ length manifest.layers) }
+{
     object_or(value, RequestWhat::BadManifest)?;
-    let hash = digest_or(value.get("hash"), RequestWhat::BadHash)?;
-    match read_layers(alloc, value.get("layers")) {
+    let hash = digest_or(value.member("hash"), RequestWhat::BadHash)?;
+    match read_layers(alloc, value.member("layers")) {
         Ok(layers) => Ok(manifest_with(alloc, hash, layers)?),
         Err(error) => Err(error),
     }
@@ -48,17 +62,17 @@ fn manifest_with(alloc: Global, hash: Digest, sealed: SealedLayers) -> Result<Ma
     })
 }
 
-pub(crate) fn object_or(value: &Value, bad: RequestWhat) -> Result<(), RequestWhat>
-    ensures { result ≡ object_or bad (view value.now) }
-{
-    if value.is_object() { Ok(()) } else { Err(bad) }
-}
-
 /// A member that is the text of a digest.
-pub(crate) fn digest_or(found: Option<&Value>, bad: RequestWhat) -> Result<Digest, RequestWhat>
-    ensures { result ≡ digest_or bad (option_map (λ v. view v.now) found.entry) }
+pub(crate) fn digest_or<V: RequestNode<T>, T: Texts>(
+    found: Option<&V>,
+    bad: RequestWhat,
+) -> Result<Digest, RequestWhat>
+    ensures { result ≡ digest_or bad (option_map (λ v. V.data_of v.now) found.entry) }
 {
-    let Some(text) = found.and_then(Value::as_str) else {
+    let Some(value) = found else {
+        return Err(bad);
+    };
+    let Some(text) = value.text() else {
         return Err(bad);
     };
     match Digest::read(text.as_bytes()) {
@@ -67,18 +81,12 @@ pub(crate) fn digest_or(found: Option<&Value>, bad: RequestWhat) -> Result<Diges
     }
 }
 
-fn list_or(found: Option<&Value>, bad: RequestWhat) -> Result<&[Value], RequestWhat>
-    ensures { MatchesUnlessOutOfMemory (λ what. Some what) (λ items. items_view items.now) result (list_or bad (option_map (λ v. view v.now) found.entry)) }
-{
-    match found.and_then(Value::as_array) {
-        Some(items) => Ok(items.as_slice()),
-        None => Err(bad),
-    }
-}
-
 /// The layers of an image by their member.
-fn read_layers(alloc: Global, found: Option<&Value>) -> Result<SealedLayers, RequestError>
-    ensures { MatchesUnlessOutOfMemory fault_of (λ layers. layers.items) result (refusing (layers_in (option_map (λ v. view v.now) found.entry))) }
+fn read_layers<V: RequestNode<T>, T: Texts>(
+    alloc: Global,
+    found: Option<&V>,
+) -> Result<SealedLayers, RequestError>
+    ensures { MatchesUnlessOutOfMemory fault_of (λ layers. layers.items) result (refusing (layers_in (option_map (λ v. V.data_of v.now) found.entry))) }
 {
     let items = list_or(found, RequestWhat::BadLayers)?;
     read_checked(alloc, items)
@@ -86,8 +94,11 @@ fn read_layers(alloc: Global, found: Option<&Value>) -> Result<SealedLayers, Req
 
 /// At least one layer, and at most 128.
 #[tactic(auto, using(crate::proofs::Layers::count_items))]
-fn read_checked(alloc: Global, items: &[Value]) -> Result<SealedLayers, RequestError>
-    ensures { MatchesUnlessOutOfMemory fault_of (λ layers. layers.items) result (refusing (checked_layers (items_view items.now))) }
+fn read_checked<V: RequestNode<T>, T: Texts>(
+    alloc: Global,
+    items: &[V],
+) -> Result<SealedLayers, RequestError>
+    ensures { MatchesUnlessOutOfMemory fault_of (λ layers. layers.items) result (refusing (checked_layers (items_of (map V.data_of items.now)))) }
 {
     if items.is_empty() {
         return Err(RequestError::BadRequest(RequestWhat::NoLayers));
@@ -99,9 +110,12 @@ fn read_checked(alloc: Global, items: &[Value]) -> Result<SealedLayers, RequestE
 }
 
 /// The layers of a list of items.
-fn read_each(alloc: Global, items: &[Value]) -> Result<SealedLayers, RequestError>
+fn read_each<V: RequestNode<T>, T: Texts>(
+    alloc: Global,
+    items: &[V],
+) -> Result<SealedLayers, RequestError>
     requires { length items.now < 2 ^ 32 }
-    ensures { MatchesUnlessOutOfMemory fault_of (λ layers. layers.items) result (refusing (layers_from 0 (items_view items.now))) }
+    ensures { MatchesUnlessOutOfMemory fault_of (λ layers. layers.items) result (refusing (layers_from 0 (items_of (map V.data_of items.now)))) }
 {
     let mut layers = Vec::new(alloc);
     let mut index: u32 = 0;
@@ -113,17 +127,23 @@ fn read_each(alloc: Global, items: &[Value]) -> Result<SealedLayers, RequestErro
 }
 
 /// The digest of the layer at this index, and its stated seal.
-fn layer_of(item: &Value, index: u32) -> Result<(Digest, Option<Digest>), RequestWhat>
-    ensures { result ≡ layer_of index (view item.now) }
+fn layer_of<V: RequestNode<T>, T: Texts>(
+    item: &V,
+    index: u32,
+) -> Result<(Digest, Option<Digest>), RequestWhat>
+    ensures { result ≡ layer_of index (V.data_of item.now) }
 {
-    let layer = digest_or(item.get("hash"), RequestWhat::BadLayer(index))?;
-    let seal = seal_or(item.get("seal"), RequestWhat::BadSeal(index))?;
+    let layer = digest_or(item.member("hash"), RequestWhat::BadLayer(index))?;
+    let seal = seal_or(item.member("seal"), RequestWhat::BadSeal(index))?;
     Ok((layer, seal))
 }
 
 /// A seal, which may be absent.
-fn seal_or(found: Option<&Value>, bad: RequestWhat) -> Result<Option<Digest>, RequestWhat>
-    ensures { result ≡ seal_or bad (option_map (λ v. view v.now) found.entry) }
+fn seal_or<V: RequestNode<T>, T: Texts>(
+    found: Option<&V>,
+    bad: RequestWhat,
+) -> Result<Option<Digest>, RequestWhat>
+    ensures { result ≡ seal_or bad (option_map (λ v. V.data_of v.now) found.entry) }
 {
     if found.is_none() {
         return Ok(None);

@@ -2,7 +2,7 @@ use cv_request::{RequestError, RequestWhat, read_json, read_manifest};
 use std::alloc::Global;
 use std::test::Fail;
 
-/// A manifest of so many layers.
+/// A manifest of this number of layers.
 fn manifest_of(alloc: Global, layers: usize) -> Result<String, Fail> {
     let mut text = String::from_str(
         alloc,

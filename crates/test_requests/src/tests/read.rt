@@ -1,5 +1,6 @@
 use cv_base::Digest;
-use cv_request::{Act, Request, RequestError, RequestFault, read_request};
+use cv_osv_text::read_request;
+use cv_request::{Act, Request, RequestError, RequestFault};
 use std::alloc::Global;
 use std::test::Fail;
 
@@ -27,6 +28,7 @@ const REFUSED: &[(&str, &[&str])] = &[
             r#"{"do":"List"}"#,
             r#"{"do":"","image":7}"#,
             r#"{"do":"list","do":"lists"}"#,
+            r#"{"do":"Patch","feed":7}"#,
         ],
     ),
     (
@@ -55,7 +57,33 @@ const REFUSED: &[(&str, &[&str])] = &[
             r#"{"do":"update","feed":"","advisories":[]}"#,
             r#"{"do":"update","feed":"a/b","advisories":[]}"#,
             r#"{"do":"update","feed":"Debian","advisories":[]}"#,
+            r#"{"do":"patch","base":-1,"remove":7,"advisories":7}"#,
+            r#"{"do":"patch","feed":"a b","base":0,"advisories":[]}"#,
             r#"{"do":"update","feed":"aaaaaaaaaaaaaaaaaaaaaaaaaaaaaaaaaaaaaaaaaaaaaaaaaaaaaaaaaaaaaaaaa","advisories":[]}"#,
+        ],
+    ),
+    (
+        "BadRequest(BadBase)",
+        &[
+            r#"{"do":"patch","feed":"a","remove":7,"advisories":7}"#,
+            r#"{"do":"patch","feed":"a","base":null,"advisories":[]}"#,
+            r#"{"do":"patch","feed":"a","base":"3","advisories":[]}"#,
+            r#"{"do":"patch","feed":"a","base":-1,"advisories":[]}"#,
+            r#"{"do":"patch","feed":"a","base":-0,"advisories":[]}"#,
+            r#"{"do":"patch","feed":"a","base":1.5,"advisories":[]}"#,
+            r#"{"do":"patch","feed":"a","base":3e0,"advisories":[]}"#,
+            r#"{"do":"patch","feed":"a","base":18446744073709551616,"advisories":[]}"#,
+            r#"{"do":"patch","feed":"a","base":3,"base":[3],"advisories":[]}"#,
+        ],
+    ),
+    (
+        "BadRequest(BadRemove)",
+        &[
+            r#"{"do":"patch","feed":"a","base":3,"remove":null,"advisories":7}"#,
+            r#"{"do":"patch","feed":"a","base":3,"remove":"X-1","advisories":[]}"#,
+            r#"{"do":"patch","feed":"a","base":3,"remove":{"X-1":"X-2"},"advisories":[]}"#,
+            r#"{"do":"patch","feed":"a","base":3,"remove":["X-1",2],"advisories":[]}"#,
+            r#"{"do":"patch","feed":"a","base":3,"remove":["X-1",["X-2"]],"advisories":[{}]}"#,
         ],
     ),
     (
@@ -63,6 +91,8 @@ const REFUSED: &[(&str, &[&str])] = &[
         &[
             r#"{"do":"update","feed":"a"}"#,
             r#"{"do":"update","feed":"a","advisories":null}"#,
+            r#"{"do":"patch","feed":"a","base":3}"#,
+            r#"{"do":"patch","feed":"a","base":3,"remove":[],"advisories":{}}"#,
         ],
     ),
     (
@@ -93,15 +123,27 @@ const REFUSED: &[(&str, &[&str])] = &[
             r#"{"do":"page","number":1,"size":1,"page":18446744073709551616}"#,
         ],
     ),
-    ("BadJson", &["", " ", r#"{"do":"list"} {"#]),
+    (
+        "BadJson",
+        &[
+            "",
+            " ",
+            r#"{"do":"list"} {"#,
+            r#"{"do":"list","more":[1e999]}"#,
+        ],
+    ),
     (
         "BadAdvisory { index: 1, what: NoId }",
-        &[r#"{"do":"update","feed":"a","advisories":[{"id":"A","modified":"m"},{}]}"#],
+        &[
+            r#"{"do":"update","feed":"a","advisories":[{"id":"A","modified":"m"},{}]}"#,
+            r#"{"do":"patch","feed":"a","base":3,"advisories":[{"id":"A","modified":"m"},{}]}"#,
+        ],
     ),
     (
         "DuplicateId { first: 0, second: 1 }",
         &[
             r#"{"do":"update","feed":"a","advisories":[{"id":"A","modified":"m"},{"id":"A","modified":"m"}]}"#,
+            r#"{"do":"patch","feed":"a","base":3,"remove":["A"],"advisories":[{"id":"A","modified":"m"},{"id":"A","modified":"m"}]}"#,
         ],
     ),
 ];
@@ -258,7 +300,86 @@ fn an_update_has_a_feed_and_records(rt: HostRuntime) -> Result<(), Fail> {
     Ok(())
 }
 
-/// A request whose ignored member nests so many lists.
+/// Patches of a feed, each with its feed, its base, the ids to remove, and the ids of its records. An id may be in both lists, and
+/// twice in the first one; a member that stands twice has its last value.
+const PATCHES: &[(&str, &str)] = &[
+    (
+        r#"{"do":"patch","feed":"a","base":0,"advisories":[]}"#,
+        "a 0 - +",
+    ),
+    (
+        r#"{"advisories":[{"id":"B","modified":"m","severity":[9.8,-1e3]}],"remove":["B","","X\u002d1","B"],"base":18446744073709551615,"feed":"a","do":"patch"}"#,
+        "a 18446744073709551615 - B  X-1 B + B",
+    ),
+    (
+        r#"{"do":"patch","feed":"a","base":-1,"base":3,"remove":7,"remove":[],"advisories":[{"id":"B","modified":"m"},{"id":"A","modified":"m"}]}"#,
+        "a 3 - + B A",
+    ),
+];
+
+/// The parts of a patch.
+fn patch(alloc: Global, act: &Act) -> Result<String, Fail> {
+    let mut parts = String::new(alloc);
+    if let Act::Patch {
+        feed,
+        base,
+        records,
+        remove,
+    } = act
+    {
+        parts.push_str(feed.as_str())?;
+        parts.push_str(format!(in alloc; " {base} -")?.as_str())?;
+        for id in remove.as_slice() {
+            parts.push(' ')?;
+            parts.push_str(id.as_str())?;
+        }
+        parts.push_str(" +")?;
+        for record in records.as_slice() {
+            parts.push(' ')?;
+            parts.push_str(record.id.as_str())?;
+        }
+    }
+    Ok(parts)
+}
+
+#[test]
+fn a_patch_has_its_parts(rt: HostRuntime) -> Result<(), Fail> {
+    for (line, want) in PATCHES {
+        let request = read_request(rt.alloc(), line.as_bytes())?;
+        assert_eq!(rt; patch(rt.alloc(), &request.act)?.as_str(), *want, "{line}");
+    }
+    Ok(())
+}
+
+/// A request of a feed with this number of records that are no records.
+fn many(alloc: Global, start: &str, records: usize) -> Result<Vec<u8>, Fail> {
+    let mut line = Vec::new(alloc);
+    put(&mut line, start)?;
+    for _ in 1..records {
+        put(&mut line, "7,")?;
+    }
+    put(&mut line, "7]}")?;
+    Ok(line)
+}
+
+#[test]
+fn a_request_has_at_most_200_000_records(rt: HostRuntime) -> Result<(), Fail> {
+    for start in [
+        r#"{"do":"update","feed":"a","advisories":["#,
+        r#"{"do":"patch","feed":"a","base":3,"advisories":["#,
+    ] {
+        for (records, want) in [
+            (200_000, "BadAdvisory { index: 0, what: NotObject }"),
+            (200_001, "TooManyAdvisories"),
+        ] {
+            let line = many(rt.alloc(), start, records)?;
+            assert_eq!(rt; answer(rt.alloc(), line.as_slice())?.as_str(), want);
+        }
+    }
+    Ok(())
+}
+
+/// A request whose ignored member nests this number of lists.
 fn nested(alloc: Global, lists: usize) -> Result<String, Fail> {
     let mut line = String::from_str(alloc, r#"{"do":"list","x":"#)?;
     for _ in 0..lists {
