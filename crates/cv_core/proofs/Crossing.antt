@@ -21,6 +21,7 @@ use Rattle.cv_notice.proofs.notices.Notices.TheSendSync as notices
 use Rattle.cv_core_records.proofs.reply.Reply.TheSendSync as reply
 use Rattle.cv_core_machine.proofs.image.Image.TheSendSync as image
 use Rattle.cv_core_registry.proofs.layer_status.LayerStatus.TheSendSync as layer_status
+use Rattle.cv_core_registry.specs.contracts.layer_table.LayerTable as layer_table
 use Rattle.cv_core_registry.specs.contracts.registry.Registry as registry
 use Rattle.cv_core_inventory.specs.contracts.knowledge.Knowledge as knowledge
 use Rattle.cv_core_inventory.specs.contracts.inventory.Inventory as inventory
@@ -57,12 +58,19 @@ ruleset small = (
   digest.the_sync,
 )
 
+-- the layers with their status
+layers_send : IsSend layer_table.the_row
+layers_send = search (layer_status.the_send, layer_status.the_sync, small, sendable, declared_send) depth 30 fits 5000
+
+layers_sync : IsSync layer_table.the_row
+layers_sync = search (layer_status.the_send, layer_status.the_sync, small, sendable, declared_sync) depth 30 fits 5000
+
 -- the images with their layers and seals
 registry_send : IsSend registry.the_row
-registry_send = search (image.the_send, image.the_sync, layer_status.the_send, layer_status.the_sync, small, sendable, declared_send) depth 30 fits 5000
+registry_send = search (image.the_send, image.the_sync, layers_send, small, sendable, declared_send) depth 30 fits 5000
 
 registry_sync : IsSync registry.the_row
-registry_sync = search (image.the_send, image.the_sync, layer_status.the_send, layer_status.the_sync, small, sendable, declared_sync) depth 30 fits 5000
+registry_sync = search (image.the_send, image.the_sync, layers_sync, small, sendable, declared_sync) depth 30 fits 5000
 
 -- the core, and what it gives
 ruleset parts = (feeds_send, feeds_sync, outcome.the_send, outcome.the_sync, notices.the_send, notices.the_sync, facts.the_send, facts.the_sync, small)

@@ -14,6 +14,6 @@ refused : (counted (opened limits) (opening limits, reply.NotRegistered)).0.coun
 unfolding limits
 refused = refl
 
--- only an update of a feed is one
-updates : (is_update (act.Update [] []) ≡ true) × (is_update (act.Ack 1) ≡ false)
-updates = (refl, refl)
+-- only an update and a patch of a feed have scans in what they do
+updates : (is_update (act.Update [] []) ≡ true) × (is_update (act.Patch [] 0 [] []) ≡ true) × (is_update (act.Ack 1) ≡ false)
+updates = (refl, refl, refl)

@@ -5,7 +5,7 @@ use Rattle.cv_base.specs.declared.limits.TheConstants.{MAX_LAYERS}
 use Rattle.cv_core_records.specs.declared.reply.Reply.{Reply}
 use Rattle.cv_core_machine.specs.Laws.{IsConsistent}
 use Rattle.cv_core_machine.specs.State.{State, opening}
-use Rattle.cv_core_machine.specs.Step.{update_with}
+use Rattle.cv_core_machine.specs.Step.{patch_with, update_with}
 use Rattle.cv_core_machine.specs.declared.event.MachineEvent.{MachineEvent}
 use Rattle.cv_core_machine.specs.declared.event.MachineEvent.TheVariants as act
 use Rattle.cv_core_machine.specs.declared.limits.Limits.{Limits}
@@ -39,6 +39,7 @@ act_of (event.Indexed facts worker) = act.Indexed facts.digest worker
 act_of (event.Fault layer worker) = act.Fault layer worker
 act_of (event.Memory layer worker) = act.Memory layer worker
 act_of (event.Update feed records) = act.Update feed records
+act_of (event.Patch feed base records remove) = act.Patch feed base records remove
 act_of (event.Ack number) = act.Ack number
 
 -- an image to be registered has 1 to 128 layers, and for each a stated seal or none; other events have no condition
@@ -47,14 +48,17 @@ IsSound (act.Register manifest) =
     (1 ≤ length manifest.layers) × (length manifest.layers ≤ MAX_LAYERS) × (length manifest.seals ≡ length manifest.layers)
 IsSound _ = Unit {0}
 
--- an event is an update of a feed, the only one with scans in what it does
+-- an event is an update or a patch of a feed: these alone have scans in what they do
 abbrev pub is_update : MachineEvent → Bool
 is_update (act.Update feed records) = true
+is_update (act.Patch feed base records remove) = true
 is_update _ = false
 
--- what an update leads to, whatever the layers have: to that of the machine where some rows are notified of. So the feeds, the
--- generation and TooManyFeeds depend on no layer, and the reply counts the rows of which there is a notification
+-- what an update or a patch leads to, whatever the layers have: to that of the machine where some rows are notified of. So the
+-- feeds, the generations and the refusals depend on no layer, and the reply counts the rows of which there is a notification
 abbrev pub IsUpdated : CoreView → MachineEvent → CoreView × Reply → Type 0
 IsUpdated core (act.Update feed records) after =
     (rows : List Row) × (after ≡ counted core (update_with rows core.state feed records))
+IsUpdated core (act.Patch feed base records remove) after =
+    (rows : List Row) × (after ≡ counted core (patch_with rows core.state feed base records remove))
 IsUpdated core _ after = Unit {0}

@@ -29,8 +29,9 @@ impl<D: Desk + Drop> Core<D> {
         ensures { IfOk result (λ after. after ≡ counted self.now (record self.now.state { notifications = notices }, reply)) }
     {
         let inventory = self.inventory.share()?;
+        let since = self.since.share()?;
         let notices = Shared::of(alloc, notices)?;
-        let core = Core::of(inventory, notices, self.generation, self.count + 1);
+        let core = Core::of(inventory, notices, since, self.generation, self.count + 1);
         Ok((core, reply))
     }
 }

@@ -12,8 +12,8 @@ use std::alloc::Global;
 use std::sync::ledger::Ledger;
 
 impl<D: Desk + Drop> Core<D> {
-    /// Applies an event, and gives the reply. If memory runs out, the event is spent and the core is as it was. Which rows an update
-    /// notifies of is stated if the type of the desks says of each layer what it has; all else does not depend on that.
+    /// Applies an event, and gives the reply. If memory runs out, the event is consumed and the core is as it was. Which rows an update
+    /// or a patch notifies of is stated if the type of the desks says of each layer what it has; all else does not depend on that.
     pub fn apply<L: Ledger>(
         &mut self,
         alloc: Global,

@@ -51,7 +51,7 @@ impl Board {
         }
     }
 
-    /// An equal board, which shares all parts. It takes no memory, and fails only if a count of owners is at its last value.
+    /// An equal board, which shares all parts. It takes no memory, and fails only if a count of owners is saturated.
     pub fn share(&self) -> Result<Board, NoMemory>
         ensures { IfOk result (λ board. board ≡ self.now) }
     {

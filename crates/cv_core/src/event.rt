@@ -28,6 +28,14 @@ pub enum Event<D: Desk> {
     Memory(Digest, u32),
     /// A feed has these records in place of those before. Their order does not matter.
     Update(Text, Seq<Advisory>),
+    /// A feed of which the client knows the generation `base` gets these records, each in place of one of the same id, and loses
+    /// those of the ids to remove.
+    Patch {
+        feed: Text,
+        base: u64,
+        records: Seq<Advisory>,
+        remove: Seq<Text>,
+    },
     /// Acknowledges the notification of this number.
     Ack(u64),
 }
@@ -43,6 +51,12 @@ impl<D: Desk + Drop> Drop for Event<D> {
             Event::Fault(_, _) => {}
             Event::Memory(_, _) => {}
             Event::Update(_, _) => {}
+            Event::Patch {
+                feed: _,
+                base: _,
+                records: _,
+                remove: _,
+            } => {}
             Event::Ack(_) => {}
         }
     }
@@ -61,6 +75,7 @@ impl<D: Desk> Event<D> {
             Event::Fault(layer, _) => Ok(Act::Fault(*layer)),
             Event::Memory(layer, _) => Ok(Act::Memory(*layer)),
             Event::Update(feed, _) => Ok(Act::Update(feed.clone()?)),
+            Event::Patch { feed, .. } => Ok(Act::Patch(feed.clone()?)),
             Event::Ack(number) => Ok(Act::Ack(*number)),
         }
     }
@@ -68,7 +83,7 @@ impl<D: Desk> Event<D> {
 
 impl<D: Desk + Drop> Event<D> {
     /// The core after this event, with its reply. The core before it stays as it is, also if memory runs out. Which rows an update
-    /// notifies of is stated if the type of the desks says of each layer what it has; all else does not depend on that.
+    /// or a patch notifies of is stated if the type of the desks says of each layer what it has; all else does not depend on that.
     pub fn after<L: Ledger>(
         self,
         alloc: Global,
@@ -90,6 +105,12 @@ impl<D: Desk + Drop> Event<D> {
             Event::Fault(layer, worker) => core.requeue(alloc, &layer, worker),
             Event::Memory(layer, worker) => core.requeue(alloc, &layer, worker),
             Event::Update(feed, records) => core.update(alloc, feed, records, steps),
+            Event::Patch {
+                feed,
+                base,
+                records,
+                remove,
+            } => core.patch(alloc, feed, base, records, remove.as_slice(), steps),
             Event::Ack(number) => core.ack(alloc, number),
         }
     }

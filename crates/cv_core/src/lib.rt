@@ -20,6 +20,7 @@ mod images;
 mod layers;
 mod machine;
 mod parts;
+mod patch;
 mod plan;
 mod reads;
 mod report;

@@ -1,23 +1,28 @@
 ghost use Rattle.std.specs.Prelude.{◌≡◌, ◌≤◌, IfOk};
 ghost use Rattle.cv_core_inventory.specs.Holdings.{holding};
 ghost use Rattle.cv_core_machine.specs.Layers.{queued};
+ghost use Rattle.cv_core_machine.specs.State.{feed_generation};
 ghost use Rattle.cv_core_machine.specs.declared.limits.TheConstants.{MAX_FEEDS, MAX_IMAGES};
 ghost use Rattle.cv_core.specs.Core.{IsRegular, opened};
 
-use cv_base::{Digest, NoMemory, Seq};
+use cv_base::{Digest, NoMemory, Seq, Text};
 use cv_core_inventory::Inventory;
 use cv_core_machine::Limits;
 use cv_desk::Desk;
 use cv_notice::Notices;
-use cv_tree::Shared;
+use cv_tree::{Shared, Tree};
 use std::alloc::Global;
 use std::marker::Model;
+
+/// For each feed the generation of its last update or patch.
+pub(crate) type Generations = Tree<Text, u64>;
 
 /// The machine of the service. Contracts see its state, and how many events it replied to. The outcome of each image is kept, so
 /// that reports are read without matching.
 pub struct Core<D: Desk> {
     pub(crate) inventory: Inventory<D>,
     pub(crate) notices: Shared<Notices>,
+    pub(crate) since: Generations,
     pub(crate) generation: u64,
     pub(crate) count: u64,
 }
@@ -28,6 +33,7 @@ impl<D: Desk + Drop> Drop for Core<D> {
         let Core {
             inventory: _,
             notices: _,
+            since: _,
             generation: _,
             count: _,
         } = self;
@@ -40,9 +46,9 @@ impl<D: Desk> Model for Core<D> {
 
     ghost Value = { CoreView };
 
-    ghost view = { λ m. core_of m.inventory m.notices m.generation m.count };
+    ghost view = { λ m. core_of m.inventory m.notices m.since m.generation m.count };
 
-    ghost invariant = { λ m. IsRegular (core_of m.inventory m.notices m.generation m.count) };
+    ghost invariant = { λ m. IsRegular (core_of m.inventory m.notices m.since m.generation m.count) };
 }
 
 impl<D: Desk + Drop> Core<D> {
@@ -54,7 +60,7 @@ impl<D: Desk + Drop> Core<D> {
     {
         let notices = Shared::of(alloc, Notices::new(alloc))?;
         let inventory = Inventory::new(alloc, limits)?;
-        Ok(Core::of(inventory, notices, 0, 0))
+        Ok(Core::of(inventory, notices, Tree::new(), 0, 0))
     }
 
     /// How many events it replied to. It takes no memory.
@@ -64,11 +70,21 @@ impl<D: Desk + Drop> Core<D> {
         self.count
     }
 
-    /// The generation of the last update, or 0. It takes no memory.
+    /// The generation of the last update or patch, or 0. It takes no memory.
     pub fn generation(&self) -> u64
         ensures { result ≡ self.now.state.generation }
     {
         self.generation
+    }
+
+    /// The generation of the last update or patch of a feed, or 0 if there is no such feed. It takes no memory.
+    pub(crate) fn generation_of(&self, feed: &Text) -> u64
+        ensures { result ≡ feed_generation self.now.state feed.now }
+    {
+        match self.since.get(feed) {
+            Some(generation) => *generation,
+            None => 0,
+        }
     }
 
     /// The images, layers and feeds. It takes no memory.

@@ -3,7 +3,7 @@ ghost use Rattle.cv_core_inventory.specs.Holdings.{holding};
 ghost use Rattle.cv_core.specs.Core.{IsRegular, counted};
 ghost use Rattle.cv_core.specs.code.Parts.{core_of};
 
-use crate::machine::Core;
+use crate::machine::{Core, Generations};
 use cv_core_inventory::Inventory;
 use cv_core_records::{Replied, Reply};
 use cv_desk::Desk;
@@ -15,15 +15,17 @@ impl<D: Desk + Drop> Core<D> {
     pub(crate) fn of(
         inventory: Inventory<D>,
         notices: Shared<Notices>,
+        since: Generations,
         generation: u64,
         count: u64,
     ) -> Core<D>
-        requires { IsRegular (core_of inventory notices generation count) }
-        ensures { result ≡ core_of inventory notices generation count }
+        requires { IsRegular (core_of inventory notices since generation count) }
+        ensures { result ≡ core_of inventory notices since generation count }
     {
         Core {
             inventory,
             notices,
+            since,
             generation,
             count,
         }
@@ -44,7 +46,8 @@ impl<D: Desk + Drop> Core<D> {
     {
         inventory.regular_law();
         let notices = self.notices.share()?;
-        let core = Core::of(inventory, notices, self.generation, self.count + 1);
+        let since = self.since.share()?;
+        let core = Core::of(inventory, notices, since, self.generation, self.count + 1);
         Ok((core, reply))
     }
 }

@@ -44,7 +44,7 @@ impl<D: Desk> Model for Planned<D> {
 }
 
 impl<D: Desk + Drop> Core<D> {
-    /// Plans an event: it takes all the memory of the event, and counts its steps. If memory runs out, the event is spent and the
+    /// Plans an event: it takes all the memory of the event, and counts its steps. If memory runs out, the event is consumed and the
     /// core comes back as it was.
     pub fn plan<L: Ledger>(
         self,

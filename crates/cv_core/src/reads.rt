@@ -23,7 +23,7 @@ impl<D: Desk + Drop> Core<D> {
         report_by(self.generation(), outcome)
     }
 
-    /// The board of the core as it is. It takes no memory, and fails only if a count of owners is at its last value.
+    /// The board of the core as it is. It takes no memory, and fails only if a count of owners is saturated.
     pub fn board(&self) -> Result<Board, NoMemory>
         ensures waiting { IfOk result (λ board. ShowsWaiting self.now.state board) }
         ensures board { StatesEveryLayer D.tree → IfOk result (λ board. board ≡ board_of (trees_of D.tree) self.now.state) }

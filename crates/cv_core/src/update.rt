@@ -30,17 +30,24 @@ impl<D: Desk + Drop> Core<D> {
         ensures known { IfOk result (λ after. IsUpdated self.now (MachineEvent.Update feed records) after) }
         ensures count { IfOk result (λ after. after.0.count ≡ self.now.count + 1) }
     {
+        let name = feed.share()?;
         match self.inventory.update(alloc, feed, records, steps) {
-            Ok((inventory, rows)) => self.updated(alloc, inventory, rows),
+            Ok((inventory, rows)) => self.updated(alloc, name, inventory, rows),
             Err(AdvError::TooManyFeeds) => self.unchanged(Reply::TooManyFeeds),
             Err(AdvError::NoMemory) => Err(NoMemory),
         }
     }
 
-    /// The core after an update that leaves this inventory and has these rows.
-    fn updated(&self, alloc: Global, inventory: Inventory<D>, rows: Seq<Row>) -> Replied<Core<D>>
+    /// The core after an update or a patch of a feed that leaves this inventory and has these rows.
+    pub(crate) fn updated(
+        &self,
+        alloc: Global,
+        feed: Text,
+        inventory: Inventory<D>,
+        rows: Seq<Row>,
+    ) -> Replied<Core<D>>
         requires room { self.now.count < 2 ^ 63 }
-        ensures { IfOk result (λ after. after ≡ counted self.now (updated (holding self.now.state inventory) inventory.feeds rows)) }
+        ensures { IfOk result (λ after. after ≡ counted self.now (updated (holding self.now.state inventory) feed inventory.feeds rows)) }
     {
         self.regular_law();
         inventory.regular_law();
@@ -49,8 +56,9 @@ impl<D: Desk + Drop> Core<D> {
             generation,
             rows: rows.as_slice().len() as u64,
         };
+        let since = self.since.set(alloc, feed, generation)?;
         let notices = self.notified(alloc, generation, rows)?;
-        let core = Core::of(inventory, notices, generation, self.count + 1);
+        let core = Core::of(inventory, notices, since, generation, self.count + 1);
         Ok((core, reply))
     }
 

@@ -1,33 +1,37 @@
 -- What each event keeps is right.
-use Rattle.std.specs.Prelude.{◌≡◌, ℕ, ◌≤◌, Bool, true, false, cond, List, [], length, Option, Some, None, refl}
+use Rattle.std.specs.Prelude.{◌≡◌, ℕ, ◌+◌, ◌≤◌, nat_le, Bool, true, false, not, ◌&&◌, cond, List, [], length, Option, Some, None, refl}
 use Rattle.std.specs.List.Sorted.{IsStrictlySortedBy}
 use Rattle.std.specs.Map.{keys_of}
 use Rattle.std.specs.Option.{option_map}
 use Rattle.std.proofs.Common.{ap, arith, subst, sym, ◌∙◌}
 use Rattle.std.proofs.lemmas.Option.{same_Some}
-use Rattle.cv_advdb.specs.Feeds.{FeedTable, by_id, replaced}
+use Rattle.cv_advdb.specs.Feeds.{FeedTable, by_id, has_feed, records_of, replaced}
+use Rattle.cv_advdb.specs.Patch.{patched, patched_records}
+use Rattle.cv_advdb.specs.Touched.{IsTouched}
 use Rattle.cv_base.specs.Texts.{same}
 use Rattle.cv_base.specs.declared.advisory.Advisory.{Advisory}
 use Rattle.cv_base.specs.declared.finding.Row.{Row}
+use Rattle.cv_base.specs.declared.«package».PackageName.{PackageName}
 use Rattle.cv_desk.specs.Stored.{Stored}
 use Rattle.cv_facts.specs.Reduction.{IsRight, Known}
 use Rattle.cv_match.specs.Findings.{text_cmp}
 use Rattle.cv_core_machine.specs.Answer.{report_at, report_of}
 use Rattle.cv_core_machine.specs.Board.{board_of}
+use Rattle.cv_core_machine.specs.Matching.{touched_pairs}
 use Rattle.cv_core_machine.specs.Rows.{rows_of as machine_rows}
-use Rattle.cv_core_machine.specs.Scans.{StatesEveryLayer, trees_of}
-use Rattle.cv_core_machine.specs.State.{Images, State, value_at, with_value, without_value}
+use Rattle.cv_core_machine.specs.Scans.{StatesEveryLayer, Trees, trees_of}
+use Rattle.cv_core_machine.specs.State.{Feeds, Images, State, value_at, with_value, without_value}
 use Rattle.cv_core_machine.specs.Step.{is_full}
 use Rattle.cv_core_machine.specs.declared.image.Image.{Image}
 use Rattle.cv_core_machine.proofs.Consistent.{put_within_limit}
 use Rattle.cv_core_machine.proofs.LayerTables.{value_put, value_cut}
-use Rattle.cv_core_outcome.specs.Outcome.{FactTable, outcome_at}
+use Rattle.cv_core_outcome.specs.Outcome.{FactTable, has_facts, outcome_at}
 use Rattle.cv_core_outcome.specs.Truth.{AreFactsOf, report_with}
-use Rattle.cv_core_outcome.specs.Update.{rematched, update_rows}
+use Rattle.cv_core_outcome.specs.Update.{rematch_pairs, rematched, update_rows}
 use Rattle.cv_core_outcome.specs.declared.outcome.Outcome.{Outcome}
-use Rattle.cv_core_outcome.proofs.TruthLemmas.{all_rematched, board_is, report_is, rows_machine}
+use Rattle.cv_core_outcome.proofs.TruthLemmas.{all_rematched, board_is, pairs_machine, report_is, rows_machine}
 use Rattle.cv_core_registry.specs.Registrations.{IsRegular as IsRegularRegistry, Registrations}
-use Rattle.cv_tree.specs.Entries.{map_values, remade_entries, rows_of}
+use Rattle.cv_tree.specs.Entries.{costs_of, map_values, remade_entries, rows_of}
 use Rattle.cv_tree.proofs.ValueLemmas.{mapped_at, mapped_with, mapped_without}
 use Rattle.cv_core_inventory.specs.code.Changes.{feeds_replaced, image_added, image_dropped, layer_indexed}
 use Rattle.cv_core_inventory.specs.Knowledge.{AreOutcomesOf, IsOutcomeOf, IsSoundImage, KnowledgeView, Outcomes, nothing_known, report_by}
@@ -158,6 +162,12 @@ kept_entered trees r after k next now known kept was regular h right is =
     kept_copy trees after after (layer_indexed k known r.images) next
     (entered trees r after k known kept regular (subst (λ (x : Holdings). HasEntered (registrations x) after known.digest) (sym was) h) right) refl is
 
+-- the layer had no facts
+pub fresh_now : (trees : List ℕ → Option (Option (List Stored))) (r after : Registrations) (k : KnowledgeView) (now : Holdings) (layer : List ℕ) → IsKept trees r k
+    → holdings_of r k.feeds ≡ now → HasEntered (registrations now) after layer → has_facts k.facts layer ≡ false
+fresh_now trees r after k now layer kept was h =
+    kept.right.indexed layer ∙ (subst (λ (x : Holdings). HasEntered (registrations x) after layer) (sym was) h).new
+
 -- Update
 
 updated : (trees : List ℕ → Option (Option (List Stored))) (r : Registrations) (k : KnowledgeView) (feeds : FeedTable) → IsKept trees r k → length feeds.feeds ≤ feeds.limit
@@ -179,6 +189,19 @@ pub replaced_within_limit : (now : Holdings) (feed : List ℕ) (records : List A
 replaced_within_limit now feed records after h room is =
     subst (λ (t : FeedTable). length t.feeds ≤ t.limit) (sym is) (put_within_limit (alone now) feed (by_id records) h room)
 
+not_full : (b c : Bool) → c ≡ true → (b && not c) ≡ false
+not_full true true h = refl
+not_full true false h = absurd (cc h)
+not_full false c h = refl
+
+-- the feeds after a patch of one that stands
+pub patched_within_limit : (now : Holdings) (feed : List ℕ) (records : List Advisory) (remove : List (List ℕ)) (after : FeedTable) → IsRegular now
+    → has_feed feed now.feeds ≡ true → after ≡ patched (feed_table now) feed records remove → length after.feeds ≤ after.limit
+patched_within_limit now feed records remove after h stands is =
+    subst (λ (t : FeedTable). length t.feeds ≤ t.limit) (sym is)
+    (put_within_limit (alone now) feed (patched_records (records_of feed now.feeds) records remove) h
+    (not_full (nat_le now.limits.feeds (length now.feeds)) (has_feed feed now.feeds) stands))
+
 -- the rows that an update adds are those of the machine
 pub rows_kept : (tree : List ℕ → Option (Option (List Stored))) (r : Registrations) (k : KnowledgeView) (now : Holdings) (feeds : FeedTable) (rows : List Row) (state : State)
     → IsKept tree r k → holdings_of r k.feeds ≡ now → StatesEveryLayer tree → rows ≡ rows_of (update_rows feeds.feeds) k.outcomes
@@ -186,6 +209,24 @@ pub rows_kept : (tree : List ℕ → Option (Option (List Stored))) (r : Registr
 rows_kept tree r k now feeds rows state kept was all is =
     is ∙ ap (λ (o : Outcomes). rows_of (update_rows feeds.feeds) o) kept.made ∙ rows_machine tree (holding state (holdings_of r k.feeds)) k.facts feeds.feeds all kept.right
     ∙ ap (λ (h : Holdings). machine_rows (trees_of tree) (holding state h) feeds.feeds) was
+
+-- the tries that an update takes are those of the machine
+pub counted_kept : (tree : List ℕ → Option (Option (List Stored))) (r : Registrations) (k : KnowledgeView) (now : Holdings) (feeds : FeedTable) (touched : List PackageName)
+    (state : State) (old new : ℕ) → IsKept tree r k → holdings_of r k.feeds ≡ now → StatesEveryLayer tree
+    → new ≤ old + costs_of (λ _. rematch_pairs touched feeds.feeds) k.outcomes → new ≤ old + touched_pairs (trees_of tree) (holding state now) feeds.feeds touched
+counted_kept tree r k now feeds touched state old new kept was all count =
+    subst (λ (n : ℕ). new ≤ old + n)
+    (ap (λ (o : Outcomes). costs_of (λ _. rematch_pairs touched feeds.feeds) o) kept.made
+    ∙ pairs_machine tree (holding state (holdings_of r k.feeds)) k.facts feeds.feeds touched all kept.right
+    ∙ ap (λ (h : Holdings). touched_pairs (trees_of tree) (holding state h) feeds.feeds touched) was) count
+
+-- they are the same, whichever list of the touched keys one takes
+pub counted_by : (unique : (before after : List Advisory) (ones twos : List PackageName) → IsTouched before after ones → IsTouched before after twos → ones ≡ twos)
+    (trees : Trees) (now : Holdings) (state : State) (before after : List Advisory) (feeds : FeedTable) (table : Feeds) (ones twos : List PackageName) (old new : ℕ)
+    → IsTouched before after ones → IsTouched before after twos → feeds.feeds ≡ table
+    → new ≤ old + touched_pairs trees (holding state now) feeds.feeds ones → new ≤ old + touched_pairs trees (holding state now) table twos
+counted_by unique trees now state before after feeds table ones twos old new a b is count =
+    subst (λ (n : ℕ). new ≤ old + n) (λ i. touched_pairs trees (holding state now) (is i) (unique before after ones twos a b i)) count
 
 -- what is held is consistent
 pub regular_holdings : (trees : List ℕ → Option (Option (List Stored))) (r : Registrations) (k : KnowledgeView) (now : Holdings) → IsKept trees r k → holdings_of r k.feeds ≡ now

@@ -1,9 +1,11 @@
 -- The definitions on worked examples.
-use Rattle.std.specs.Prelude.{◌≡◌, ℕ, List, [], ◌∷◌, Option, None, refl}
+use Rattle.std.specs.Prelude.{◌≡◌, ℕ, Bool, true, false, cond, List, [], ◌∷◌, Option, Some, None, refl}
+use Rattle.std.specs.Ordering.{is_eq}
 use Rattle.std.proofs.Common.{arith}
 use Rattle.cv_desk.specs.Stored.{Stored}
 use Rattle.cv_facts.specs.Reduction.{Known}
 use Rattle.cv_facts.specs.declared.reduction.Shape.TheVariants.{NoLayer}
+use Rattle.cv_match.specs.Findings.{text_cmp}
 use Rattle.cv_core_machine.specs.State.{Images}
 use Rattle.cv_core_machine.specs.declared.image.Image.{Image}
 use Rattle.cv_core_machine.specs.declared.limits.Limits.{Limits}
@@ -12,6 +14,8 @@ use Rattle.cv_core_machine.proofs.Examples.{a, b, c}
 use Rattle.cv_core_outcome.specs.Outcome.{outcome_at}
 use Rattle.cv_core_outcome.specs.declared.outcome.Outcome.TheVariants.{Pending}
 use Rattle.cv_core_records.specs.declared.read.ReportOutcome.TheVariants as report
+use Rattle.cv_core_registry.specs.code.Users.{Users, uses}
+use Rattle.cv_core_inventory.specs.code.Names.{AreNamed, has_name}
 use Rattle.cv_core_inventory.specs.code.Changes.{all_renewed, image_dropped, layer_indexed, remaining_facts}
 use Rattle.cv_core_inventory.specs.Holdings.{nothing}
 use Rattle.cv_core_inventory.specs.Knowledge.{AreOutcomesOf, IsSoundImage, KnowledgeView, nothing_known, report_by}
@@ -38,10 +42,10 @@ unsound h = cc h.as_many_seals
 waits : outcome_at [] [] image ≡ Pending a
 waits = refl
 
-renewed_one : all_renewed (outcome_at ((a, known a) ∷ []) []) images a ((c, Pending a) ∷ []) (c ∷ []) ≡ (c, Pending b) ∷ []
+renewed_one : all_renewed (outcome_at ((a, known a) ∷ []) []) images a ((c, Pending a) ∷ []) ((c, Pending a) ∷ []) (c ∷ []) ≡ (c, Pending b) ∷ []
 renewed_one = refl
 
-others_stay : all_renewed (outcome_at ((b, known b) ∷ []) []) images b ((c, Pending a) ∷ []) (c ∷ []) ≡ (c, Pending a) ∷ []
+others_stay : all_renewed (outcome_at ((b, known b) ∷ []) []) images b ((c, Pending a) ∷ []) ((c, Pending a) ∷ []) (c ∷ []) ≡ (c, Pending a) ∷ []
 others_stay = refl
 
 -- facts go with the layers that the table does not have any more
@@ -72,3 +76,17 @@ no_outcomes trees limits = record {
 -- the report of an image that is not registered
 no_image : report_by 7 None ≡ report.NotRegistered
 no_image = refl
+
+-- a layer is in the set of a name, and no layer without facts or files has one
+sets : Users
+sets = (a, (b, tt) ∷ []) ∷ []
+
+in_set : (uses sets a b ≡ true) × (uses sets a c ≡ false) × (uses sets b b ≡ false)
+unfolding sets
+in_set = (refl, refl, refl)
+
+no_names : AreNamed ((a, known a) ∷ []) []
+no_names name layer = by_test (is_eq (text_cmp layer a)) where
+  by_test : (b : Bool) → false ≡ has_name (cond b (Some (known a)) None) name
+  by_test true = refl
+  by_test false = refl

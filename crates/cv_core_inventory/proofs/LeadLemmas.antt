@@ -79,6 +79,17 @@ register_adds r after m answer h done =
 alike_same : (r after : Registrations) → r ≡ after → IsAlike r after
 alike_same r after e = subst (λ (x : Registrations). IsAlike r x) e record { images = refl; limit = refl; indexed = λ q. refl }
 
+news : (found : Option Image) (s t : State) (m : Manifest) (answer : Reply) → register_at found s m ≡ (t, answer) → is_registered answer ≡ true → found ≡ None
+news (Some kept) s t m answer e done = absurd (cc (ap (λ (p : State × Reply). is_registered p.1) e, done, not_registered (same_image kept (image_of m)) kept))
+news None s t m answer e done = refl
+
+-- the image was not registered
+pub register_new : (r after : Registrations) (table : FeedTable) (now : Holdings) (m : Manifest) (answer : Reply) → LeadsRegistry (λ state. register state m) r (after, answer)
+    → holdings_of r table ≡ now → is_registered answer ≡ true → value_at now.images m.hash ≡ None
+register_new r after table now m answer h was done =
+    ap (λ (x : Holdings). value_at x.images m.hash) (sym was)
+    ∙ news (value_at r.images m.hash) (alone r) (alone after) m answer (leaves (λ state. register state m) r after answer h) done
+
 pub register_stays : (r after : Registrations) (m : Manifest) (answer : Reply) → LeadsRegistry (λ state. register state m) r (after, answer) → is_registered answer ≡ false
     → IsAlike r after
 register_stays r after m answer h other =

@@ -1,4 +1,4 @@
--- The outcomes after a layer has its first facts: those that wait for it are made anew.
+-- The outcomes after a layer has its first facts: those that wait for it are recomputed.
 use Rattle.std.specs.Prelude.{◌≡◌, ℕ, Bool, true, false, ◌||◌, ◌&&◌, cond, List, [], ◌∷◌, filter, map, Option, Some, None, refl}
 use Rattle.std.specs.Cmp.Lexicographic.{nat_list_cmp_total, nat_list_eq_equiv, texts_ties}
 use Rattle.std.specs.List.Sorted.{IsStrictlySortedBy}
@@ -30,30 +30,30 @@ use Rattle.cv_core_inventory.specs.Knowledge.{Outcomes}
 
 -- ---- image by image
 
--- the outcome of an image that is not the one made anew
+-- the outcome of an image that is not the recomputed one
 other_image : (made : Image → Outcome) (outcomes : Outcomes) (hash : List ℕ) (found : Option Image) (q : List ℕ) → same hash q ≡ false
     → value_at (with_outcome made outcomes hash found) q ≡ value_at outcomes q
 other_image made outcomes hash None q key = refl
 other_image made outcomes hash (Some image) q key =
     value_put outcomes hash (made image) q ∙ ap (λ b. cond b (Some (made image)) (value_at outcomes q)) key
 
--- and of the one made anew
+-- and of the recomputed one
 this_image : (made : Image → Outcome) (outcomes : Outcomes) (hash : List ℕ) (found : Option Image) (q : List ℕ) (image : Image) → same hash q ≡ true
     → found ≡ Some image → value_at (with_outcome made outcomes hash found) q ≡ Some (made image)
 this_image made outcomes hash None q image key is = absurd (cc is)
 this_image made outcomes hash (Some kept) q image key is =
     value_put outcomes hash (made kept) q ∙ ap (λ b. cond b (Some (made kept)) (value_at outcomes q)) key ∙ ap (λ (i : Image). Some (made i)) (same_Some kept image is)
 
-one_at : (made : Image → Outcome) (images : Images) (layer : List ℕ) (outcomes : Outcomes) (hash q : List ℕ) (image : Image) → value_at images q ≡ Some image
-    → value_at (renewed made images layer outcomes hash) q
-    ≡ cond (same hash q && is_waiting layer (value_at outcomes q)) (Some (made image)) (value_at outcomes q)
-one_at made images layer outcomes hash q image found = by_tests (is_waiting layer (value_at outcomes hash)) (same hash q) refl refl where
-  at_key : same hash q ≡ true → is_waiting layer (value_at outcomes hash) ≡ is_waiting layer (value_at outcomes q)
-  at_key key = ap (λ k. is_waiting layer (value_at outcomes k)) (same_is hash q key)
+one_at : (made : Image → Outcome) (images : Images) (layer : List ℕ) (before outcomes : Outcomes) (hash q : List ℕ) (image : Image) → value_at images q ≡ Some image
+    → value_at (renewed made images layer before outcomes hash) q
+    ≡ cond (same hash q && is_waiting layer (value_at before q)) (Some (made image)) (value_at outcomes q)
+one_at made images layer before outcomes hash q image found = by_tests (is_waiting layer (value_at before hash)) (same hash q) refl refl where
+  at_key : same hash q ≡ true → is_waiting layer (value_at before hash) ≡ is_waiting layer (value_at before q)
+  at_key key = ap (λ k. is_waiting layer (value_at before k)) (same_is hash q key)
 
-  by_tests : (w t : Bool) → is_waiting layer (value_at outcomes hash) ≡ w → same hash q ≡ t
+  by_tests : (w t : Bool) → is_waiting layer (value_at before hash) ≡ w → same hash q ≡ t
       → value_at (cond w (with_outcome made outcomes hash (value_at images hash)) outcomes) q
-      ≡ cond (t && is_waiting layer (value_at outcomes q)) (Some (made image)) (value_at outcomes q)
+      ≡ cond (t && is_waiting layer (value_at before q)) (Some (made image)) (value_at outcomes q)
   by_tests true true waits key =
       this_image made outcomes hash (value_at images hash) q image key (ap (value_at images) (same_is hash q key) ∙ found)
       ∙ sym (ap (λ b. cond b (Some (made image)) (value_at outcomes q)) (sym (at_key key) ∙ waits))
@@ -61,43 +61,39 @@ one_at made images layer outcomes hash q image found = by_tests (is_waiting laye
   by_tests false true waits key = sym (ap (λ b. cond b (Some (made image)) (value_at outcomes q)) (sym (at_key key) ∙ waits))
   by_tests false false waits key = refl
 
-both : (layer : List ℕ) (a b w : Bool) (new : Outcome) (old : Option Outcome) → is_waiting layer old ≡ w
-    → cond (b && is_waiting layer (cond (a && w) (Some new) old)) (Some new) (cond (a && w) (Some new) old) ≡ cond ((a || b) && w) (Some new) old
-both layer true b true new old waits = alike (b && waits_for layer new) where
-  alike : (c : Bool) → cond c (Some new) (Some new) ≡ Some new
-  alike true = refl
-  alike false = refl
-both layer true true false new old waits = ap (λ c. cond c (Some new) old) waits
-both layer true false false new old waits = refl
-both layer false true w new old waits = ap (λ c. cond c (Some new) old) waits
-both layer false false w new old waits = refl
+both : (a b w : Bool) (new old : Option Outcome) → cond (b && w) new (cond (a && w) new old) ≡ cond ((a || b) && w) new old
+both true true true new old = refl
+both true true false new old = refl
+both true false true new old = refl
+both true false false new old = refl
+both false b w new old = refl
 
-all_at : (made : Image → Outcome) (images : Images) (layer : List ℕ) (outcomes : Outcomes) (users : List (List ℕ)) (q : List ℕ) (image : Image)
+all_at : (made : Image → Outcome) (images : Images) (layer : List ℕ) (before outcomes : Outcomes) (users : List (List ℕ)) (q : List ℕ) (image : Image)
     → value_at images q ≡ Some image
-    → value_at (all_renewed made images layer outcomes users) q
-    ≡ cond (has_text users q && is_waiting layer (value_at outcomes q)) (Some (made image)) (value_at outcomes q)
-all_at made images layer outcomes [] q image found = refl
-all_at made images layer outcomes (hash ∷ users) q image found =
-    all_at made images layer (renewed made images layer outcomes hash) users q image found
-    ∙ ap (λ (o : Option Outcome). cond (has_text users q && is_waiting layer o) (Some (made image)) o) (one_at made images layer outcomes hash q image found)
-    ∙ both layer (same hash q) (has_text users q) (is_waiting layer (value_at outcomes q)) (made image) (value_at outcomes q) refl
+    → value_at (all_renewed made images layer before outcomes users) q
+    ≡ cond (has_text users q && is_waiting layer (value_at before q)) (Some (made image)) (value_at outcomes q)
+all_at made images layer before outcomes [] q image found = refl
+all_at made images layer before outcomes (hash ∷ users) q image found =
+    all_at made images layer before (renewed made images layer before outcomes hash) users q image found
+    ∙ ap (cond (has_text users q && is_waiting layer (value_at before q)) (Some (made image))) (one_at made images layer before outcomes hash q image found)
+    ∙ both (same hash q) (has_text users q) (is_waiting layer (value_at before q)) (Some (made image)) (value_at outcomes q)
 
 -- an image that has no outcome gets none
-one_none : (made : Image → Outcome) (images : Images) (layer : List ℕ) (outcomes : Outcomes) (hash q : List ℕ) → value_at outcomes q ≡ None
-    → value_at (renewed made images layer outcomes hash) q ≡ None
-one_none made images layer outcomes hash q none = by_tests (is_waiting layer (value_at outcomes hash)) (same hash q) refl refl where
-  by_tests : (w t : Bool) → is_waiting layer (value_at outcomes hash) ≡ w → same hash q ≡ t
+one_none : (made : Image → Outcome) (images : Images) (layer : List ℕ) (before outcomes : Outcomes) (hash q : List ℕ) → value_at before q ≡ None → value_at outcomes q ≡ None
+    → value_at (renewed made images layer before outcomes hash) q ≡ None
+one_none made images layer before outcomes hash q first none = by_tests (is_waiting layer (value_at before hash)) (same hash q) refl refl where
+  by_tests : (w t : Bool) → is_waiting layer (value_at before hash) ≡ w → same hash q ≡ t
       → value_at (cond w (with_outcome made outcomes hash (value_at images hash)) outcomes) q ≡ None
   by_tests true true waits key =
-      absurd (cc (sym waits ∙ ap (λ k. is_waiting layer (value_at outcomes k)) (same_is hash q key) ∙ ap (is_waiting layer) none))
+      absurd (cc (sym waits ∙ ap (λ k. is_waiting layer (value_at before k)) (same_is hash q key) ∙ ap (is_waiting layer) first))
   by_tests true false waits key = other_image made outcomes hash (value_at images hash) q key ∙ none
   by_tests false t waits key = none
 
-all_none : (made : Image → Outcome) (images : Images) (layer : List ℕ) (outcomes : Outcomes) (users : List (List ℕ)) (q : List ℕ) → value_at outcomes q ≡ None
-    → value_at (all_renewed made images layer outcomes users) q ≡ None
-all_none made images layer outcomes [] q none = none
-all_none made images layer outcomes (hash ∷ users) q none =
-    all_none made images layer (renewed made images layer outcomes hash) users q (one_none made images layer outcomes hash q none)
+all_none : (made : Image → Outcome) (images : Images) (layer : List ℕ) (before outcomes : Outcomes) (users : List (List ℕ)) (q : List ℕ) → value_at before q ≡ None
+    → value_at outcomes q ≡ None → value_at (all_renewed made images layer before outcomes users) q ≡ None
+all_none made images layer before outcomes [] q first none = none
+all_none made images layer before outcomes (hash ∷ users) q first none =
+    all_none made images layer before (renewed made images layer before outcomes hash) users q first (one_none made images layer before outcomes hash q first none)
 
 -- and the order stays
 one_sorted : (made : Image → Outcome) (outcomes : Outcomes) (hash : List ℕ) (found : Option Image) (b : Bool)
@@ -106,17 +102,17 @@ one_sorted made outcomes hash None true sorted = sorted
 one_sorted made outcomes hash (Some image) true sorted = sorted_put nat_list_cmp_total outcomes hash (made image) sorted
 one_sorted made outcomes hash found false sorted = sorted
 
-all_sorted : (made : Image → Outcome) (images : Images) (layer : List ℕ) (outcomes : Outcomes) (users : List (List ℕ))
-    → IsStrictlySortedBy text_cmp (keys_of outcomes) → IsStrictlySortedBy text_cmp (keys_of (all_renewed made images layer outcomes users))
-all_sorted made images layer outcomes [] sorted = sorted
-all_sorted made images layer outcomes (hash ∷ users) sorted =
-    all_sorted made images layer (renewed made images layer outcomes hash) users
-    (one_sorted made outcomes hash (value_at images hash) (is_waiting layer (value_at outcomes hash)) sorted)
+all_sorted : (made : Image → Outcome) (images : Images) (layer : List ℕ) (before outcomes : Outcomes) (users : List (List ℕ))
+    → IsStrictlySortedBy text_cmp (keys_of outcomes) → IsStrictlySortedBy text_cmp (keys_of (all_renewed made images layer before outcomes users))
+all_sorted made images layer before outcomes [] sorted = sorted
+all_sorted made images layer before outcomes (hash ∷ users) sorted =
+    all_sorted made images layer before (renewed made images layer before outcomes hash) users
+    (one_sorted made outcomes hash (value_at images hash) (is_waiting layer (value_at before hash)) sorted)
 
 -- ---- the images that name the layer
 
 -- an image whose layers name the layer is one of them
-is_user : (images : Images) (layer q : List ℕ) (image : Image) → value_at images q ≡ Some image → has_text image.layers layer ≡ true → has_text (users_of images layer) q ≡ true
+pub is_user : (images : Images) (layer q : List ℕ) (image : Image) → value_at images q ≡ Some image → has_text image.layers layer ≡ true → has_text (users_of images layer) q ≡ true
 is_user [] layer q image found has = absurd (cc found)
 is_user (e ∷ es) layer q image found has =
     by_tests (is_eq (text_cmp q e.0)) (has_text e.1.layers layer) refl refl found (λ (later : value_at es q ≡ Some image). is_user es layer q image later has) where
@@ -160,20 +156,20 @@ known_anew facts layer known feeds images q image new found = by_named (has_text
   by_named true named = by_waits (waits_for layer before) refl (is_user images layer q image found named)
   by_named false named = either (user && waits_for layer before) (Some after) (Some before) (ap Some (unnamed facts layer known feeds image named))
 
--- the outcomes made anew are those with the new facts
+-- the recomputed outcomes are those with the new facts
 pub all_known : (facts : FactTable) (layer : List ℕ) (known : Known) (feeds : Feeds) (images : Images) (outcomes : Outcomes) → IsStrictlySortedBy text_cmp (keys_of images)
     → has_facts facts layer ≡ false → outcomes ≡ map_values (outcome_at facts feeds) images
-    → all_renewed (outcome_at (with_value facts layer known) feeds) images layer outcomes (users_of images layer)
+    → all_renewed (outcome_at (with_value facts layer known) feeds) images layer outcomes outcomes (users_of images layer)
     ≡ map_values (outcome_at (with_value facts layer known) feeds) images
 all_known facts layer known feeds images outcomes sorted new shown =
     same_entries nat_list_cmp_total exact_bytes after (map_values made images)
-    (all_sorted made images layer outcomes (users_of images layer) (subst (IsStrictlySortedBy text_cmp) (sym same_before) sorted))
+    (all_sorted made images layer outcomes outcomes (users_of images layer) (subst (IsStrictlySortedBy text_cmp) (sym same_before) sorted))
     (subst (IsStrictlySortedBy text_cmp) (sym (mapped_keys made images)) sorted) (λ q. by_found q (value_at images q) refl) where
       made : Image → Outcome
       made = outcome_at (with_value facts layer known) feeds
 
       after : Outcomes
-      after = all_renewed made images layer outcomes (users_of images layer)
+      after = all_renewed made images layer outcomes outcomes (users_of images layer)
 
       same_before : keys_of outcomes ≡ keys_of images
       same_before = ap (λ (o : Outcomes). keys_of o) shown ∙ mapped_keys (outcome_at facts feeds) images
@@ -183,10 +179,10 @@ all_known facts layer known feeds images outcomes sorted new shown =
 
       by_found : (q : List ℕ) (found : Option Image) → value_at images q ≡ found → value_at after q ≡ value_at (map_values made images) q
       by_found q None is =
-          all_none made images layer outcomes (users_of images layer) q (had q ∙ ap (option_map (outcome_at facts feeds)) is)
+          all_none made images layer outcomes outcomes (users_of images layer) q (had q ∙ ap (option_map (outcome_at facts feeds)) is) (had q ∙ ap (option_map (outcome_at facts feeds)) is)
           ∙ sym (mapped_at text_cmp made images q ∙ ap (option_map made) is)
       by_found q (Some image) is =
-          all_at made images layer outcomes (users_of images layer) q image is
+          all_at made images layer outcomes outcomes (users_of images layer) q image is
           ∙ ap (λ (o : Option Outcome). cond (has_text (users_of images layer) q && is_waiting layer o) (Some (made image)) o)
           (had q ∙ ap (option_map (outcome_at facts feeds)) is)
           ∙ known_anew facts layer known feeds images q image new is ∙ sym (mapped_at text_cmp made images q ∙ ap (option_map made) is)

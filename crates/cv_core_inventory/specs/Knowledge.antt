@@ -37,7 +37,7 @@ pub record KnowledgeView : Type 0 where
   pub outcomes : Outcomes
   pub feeds : FeedTable
 
--- nothing, where there may be so many feeds
+-- nothing, where there may be this number of feeds
 abbrev pub nothing_known : ℕ → KnowledgeView
 nothing_known limit = record { facts = []; outcomes = []; feeds = record { feeds = []; limit = limit } }
 

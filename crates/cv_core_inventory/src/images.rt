@@ -1,7 +1,11 @@
-ghost use Rattle.std.specs.Prelude.{◌≡◌, ◌≤◌, length, IfOk};
+ghost use Rattle.std.specs.Prelude.{◌≡◌, ◌≤◌, ◌+◌, None, length, IfOk};
 ghost use Rattle.cv_base.specs.declared.limits.TheConstants.{MAX_LAYERS};
+ghost use Rattle.cv_core_machine.specs.Matching.{IsStepCount, fresh_pairs};
+ghost use Rattle.cv_core_machine.specs.Scans.{StatesEveryLayer, trees_of};
+ghost use Rattle.cv_core_machine.specs.State.{State, value_at};
 ghost use Rattle.cv_core_machine.specs.Step.{drop_image, image_of, register};
-ghost use Rattle.cv_core_inventory.specs.Holdings.{Leads, feed_table};
+ghost use Rattle.cv_core_machine.specs.declared.event.MachineEvent.{MachineEvent};
+ghost use Rattle.cv_core_inventory.specs.Holdings.{Leads, feed_table, holding};
 ghost use Rattle.cv_core_inventory.specs.code.Kept.{holdings_of, registrations, with_image, without_image};
 
 use crate::inventory::Inventory;
@@ -17,7 +21,7 @@ impl<D: Desk + Drop> Inventory<D> {
     /// Registers an image: `Already` if it is registered with these layers and these seals, `Conflict` with its layers and their
     /// seals if with other layers or other seals, `TooManyImages` if there are as many images as may be. After `Registered` its
     /// layers that were not known wait for a worker. The time is that of its layers and of matching its packages, whatever else is
-    /// registered.
+    /// registered; `counted` says how many tries that takes at most, also where memory is wanting.
     pub fn register<L: Ledger>(
         &self,
         alloc: Global,
@@ -26,7 +30,8 @@ impl<D: Desk + Drop> Inventory<D> {
     ) -> Replied<Inventory<D>>
         requires at_most_128_layers { length manifest.now.layers ≤ MAX_LAYERS }
         requires as_many_seals { length manifest.now.seals ≡ length manifest.now.layers }
-        ensures { IfOk result (Leads (λ state. register state manifest.now) self.now) }
+        ensures leads { IfOk result (Leads (λ state. register state manifest.now) self.now) }
+        ensures counted { StatesEveryLayer D.tree → (state : State) → IsStepCount (trees_of D.tree) (holding state self.now) (MachineEvent.Register manifest.now) steps.old steps.new }
     {
         let (registry, reply) = self.registry.register(alloc, manifest)?;
         if is_registered(&reply) {
@@ -61,7 +66,9 @@ impl<D: Desk + Drop> Inventory<D> {
         requires at_most_128_layers { length manifest.now.layers ≤ MAX_LAYERS }
         requires as_many_seals { length manifest.now.seals ≡ length manifest.now.layers }
         requires registered { registry ≡ with_image (registrations self.now) manifest.now.hash (image_of manifest.now) }
-        ensures { IfOk result (λ after. after ≡ holdings_of registry (feed_table self.now)) }
+        requires new { value_at self.now.images manifest.now.hash ≡ None }
+        ensures value { IfOk result (λ after. after ≡ holdings_of registry (feed_table self.now)) }
+        ensures counted { StatesEveryLayer D.tree → (state : State) → steps.new ≤ steps.old + fresh_pairs (trees_of D.tree) (holding state self.now) (holding state (holdings_of registry (feed_table self.now))) }
     {
         let layers = manifest.layers.as_slice();
         let seals = manifest.seals.as_slice();

@@ -56,7 +56,7 @@ impl<D: Desk + Drop> Inventory<D> {
     }
 }
 
-/// An equal inventory, which shares all parts. It takes no memory, and fails only if a count of owners is at its last value.
+/// An equal inventory, which shares all parts. It takes no memory, and fails only if a count of owners is saturated.
 impl<D: Desk + Drop> Share for Inventory<D> {
     fn share(&self) -> Result<Inventory<D>, NoMemory> {
         let registry = self.registry.share()?;

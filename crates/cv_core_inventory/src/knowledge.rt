@@ -6,17 +6,14 @@ ghost use Rattle.cv_core_machine.specs.State.{value_at};
 ghost use Rattle.cv_match.specs.Findings.{text_cmp};
 ghost use Rattle.cv_core_inventory.specs.Knowledge.{nothing_known};
 
+use crate::facts::Facts;
 use cv_advdb::Feeds;
 use cv_base::{Digest, NoMemory};
 use cv_core_outcome::Outcome;
 use cv_desk::Desk;
-use cv_facts::LayerFacts;
 use cv_tree::{Share, Shared, Tree};
 use std::alloc::Global;
 use std::marker::Model;
-
-/// The facts of layers, by digest.
-pub(crate) type Facts<D> = Tree<Digest, Shared<LayerFacts<D>>>;
 
 /// The outcome of each image, by hash.
 pub type Outcomes = Tree<Digest, Outcome>;
@@ -54,7 +51,7 @@ impl<D: Desk + Drop> Knowledge<D> {
     {
         let feeds = Feeds::new(alloc, limit)?;
         Ok(Knowledge {
-            facts: Tree::new(),
+            facts: Facts::new(),
             outcomes: Tree::new(),
             feeds: Shared::of(alloc, feeds)?,
         })
@@ -86,12 +83,12 @@ impl<D: Desk + Drop> Knowledge<D> {
         ensures facts { IsStrictlySortedBy text_cmp (keys_of self.now.facts) }
         ensures feeds { IsStrictlySortedBy text_cmp (keys_of self.now.feeds.feeds) }
     {
-        self.facts.ascends();
+        self.facts.sorted_law();
         self.feeds.value().sorted_law();
     }
 }
 
-/// Equal knowledge, which shares all parts. It takes no memory, and fails only if a count of owners is at its last value.
+/// Equal knowledge, which shares all parts. It takes no memory, and fails only if a count of owners is saturated.
 impl<D: Desk + Drop> Share for Knowledge<D> {
     fn share(&self) -> Result<Knowledge<D>, NoMemory> {
         Ok(Knowledge {

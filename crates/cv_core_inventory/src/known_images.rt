@@ -1,10 +1,12 @@
-ghost use Rattle.std.specs.Prelude.{◌≡◌, ◌≤◌, length, IfOk};
+ghost use Rattle.std.specs.Prelude.{◌≡◌, ◌≤◌, ◌+◌, length, IfOk};
 ghost use Rattle.std.specs.Option.{is_some};
 ghost use Rattle.cv_base.specs.declared.limits.TheConstants.{MAX_LAYERS};
 ghost use Rattle.cv_core_machine.specs.State.{value_at};
+ghost use Rattle.cv_core_outcome.specs.Outcome.{outcome_at, outcome_pairs};
 ghost use Rattle.cv_core_inventory.specs.code.Changes.{image_added, image_dropped, remaining_after, remaining_facts};
 
-use crate::knowledge::{Facts, Knowledge};
+use crate::facts::Facts;
+use crate::knowledge::Knowledge;
 use cv_base::{Digest, NoMemory, Steps};
 use cv_core_outcome::outcome_of;
 use cv_core_registry::Registry;
@@ -26,9 +28,11 @@ impl<D: Desk + Drop> Knowledge<D> {
     ) -> Result<Knowledge<D>, NoMemory>
         requires at_most_128_layers { length layers.now ≤ MAX_LAYERS }
         requires as_many_seals { length seals.now ≡ length layers.now }
-        ensures { IfOk result (λ after. after ≡ image_added self.now image.now (record { layers = layers.now; seals = seals.now })) }
+        ensures value { IfOk result (λ after. after ≡ image_added self.now image.now (record { layers = layers.now; seals = seals.now })) }
+        ensures counted { steps.new ≤ steps.old + outcome_pairs self.now.feeds.feeds (outcome_at self.now.facts self.now.feeds.feeds (record { layers = layers.now; seals = seals.now })) }
     {
-        let outcome = outcome_of(alloc, &self.facts, self.feeds.value(), layers, seals, steps)?;
+        let known = self.facts.tree();
+        let outcome = outcome_of(alloc, known, self.feeds.value(), layers, seals, steps)?;
         let facts = self.facts.share()?;
         let feeds = self.feeds.share()?;
         let outcomes = self.outcomes.set(alloc, *image, outcome)?;

@@ -1,6 +1,10 @@
-ghost use Rattle.std.specs.Prelude.{◌≡◌, IfOk};
+ghost use Rattle.std.specs.Prelude.{◌≡◌, ◌≤◌, ◌+◌, IfOk};
+ghost use Rattle.cv_core_machine.specs.Matching.{IsStepCount, fresh_pairs};
+ghost use Rattle.cv_core_machine.specs.Scans.{StatesEveryLayer, trees_of};
+ghost use Rattle.cv_core_machine.specs.State.{State};
 ghost use Rattle.cv_core_machine.specs.Step.{claim, finish};
-ghost use Rattle.cv_core_inventory.specs.Holdings.{Leads, feed_table};
+ghost use Rattle.cv_core_machine.specs.declared.event.MachineEvent.{MachineEvent};
+ghost use Rattle.cv_core_inventory.specs.Holdings.{Leads, feed_table, holding};
 ghost use Rattle.cv_core_inventory.specs.code.Kept.{HasEntered, holdings_of, registrations};
 
 use crate::inventory::Inventory;
@@ -26,7 +30,8 @@ impl<D: Desk + Drop> Inventory<D> {
 
     /// A worker has indexed a layer, of which these are the facts: `Entered`, and the layer is indexed; `NotClaimed` if the layer is
     /// not the worker's; `Discarded`, and the layer goes, if no registered image names it. Only the images that name the layer are
-    /// looked at, and only those that wait for it are matched.
+    /// looked at, and only those that wait for it are matched. `counted` says how many tries that takes at most, also where memory
+    /// is wanting.
     pub fn index<L: Ledger>(
         &self,
         alloc: Global,
@@ -34,7 +39,8 @@ impl<D: Desk + Drop> Inventory<D> {
         worker: u32,
         steps: &mut Steps<L>,
     ) -> Replied<Inventory<D>>
-        ensures { IfOk result (Leads (λ state. finish state facts.digest worker Status.Indexed Reply.Entered) self.now) }
+        ensures leads { IfOk result (Leads (λ state. finish state facts.digest worker Status.Indexed Reply.Entered) self.now) }
+        ensures counted { StatesEveryLayer D.tree → (state : State) → IsStepCount (trees_of D.tree) (holding state self.now) (MachineEvent.Indexed facts.digest worker) steps.old steps.new }
     {
         self.registry.regular_law();
         let (registry, reply) = self.registry.index(alloc, &facts.digest(), worker)?;
@@ -63,7 +69,8 @@ impl<D: Desk + Drop> Inventory<D> {
         steps: &mut Steps<L>,
     ) -> Result<Inventory<D>, NoMemory>
         requires { HasEntered (registrations self.now) registry indexed.digest }
-        ensures { IfOk result (λ after. after ≡ holdings_of registry (feed_table self.now)) }
+        ensures value { IfOk result (λ after. after ≡ holdings_of registry (feed_table self.now)) }
+        ensures counted { StatesEveryLayer D.tree → (state : State) → steps.new ≤ steps.old + fresh_pairs (trees_of D.tree) (holding state self.now) (holding state (holdings_of registry (feed_table self.now))) }
     {
         self.registry.regular_law();
         indexed.known_law();

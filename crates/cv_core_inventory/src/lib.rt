@@ -10,6 +10,7 @@
 //! ```
 #![tactic(auto)]
 
+mod facts;
 mod images;
 mod inventory;
 mod knowledge;
@@ -17,7 +18,9 @@ mod known_images;
 mod known_layers;
 mod known_update;
 mod layers;
+mod named;
 mod parts;
+mod patch;
 mod reads;
 mod renew;
 mod replies;

@@ -1,5 +1,6 @@
 ghost use Rattle.std.specs.Prelude.{◌≡◌, IfOk};
 ghost use Rattle.std.specs.Option.{option_map};
+ghost use Rattle.cv_advdb.specs.Feeds.{has_feed};
 ghost use Rattle.cv_core_machine.specs.Answer.{report_of};
 ghost use Rattle.cv_core_machine.specs.Board.{board_of};
 ghost use Rattle.cv_core_machine.specs.Layers.{queued};
@@ -12,7 +13,7 @@ ghost use Rattle.cv_core_inventory.specs.Holdings.{holding};
 
 use crate::inventory::Inventory;
 use crate::knowledge::Outcomes;
-use cv_base::{Digest, NoMemory};
+use cv_base::{Digest, NoMemory, Text};
 use cv_core_outcome::Outcome;
 use cv_desk::Desk;
 use std::alloc::Global;
@@ -34,6 +35,13 @@ impl<D: Desk + Drop> Inventory<D> {
         ensures reports { StatesEveryLayer D.tree → IfOk result (λ outcomes. (state : State) → map_values (report_with state.generation) outcomes ≡ (board_of (trees_of D.tree) (holding state self.now)).reports) }
     {
         self.knowledge.outcomes()
+    }
+
+    /// Whether there is a feed of this name.
+    pub fn has_feed(&self, feed: &Text) -> bool
+        ensures { result ≡ has_feed feed.now self.now.feeds }
+    {
+        self.knowledge.feeds().has_feed(feed)
     }
 
     /// The layers that wait for a worker, in ascending order.

@@ -1,5 +1,8 @@
 -- Worked examples of outcomes.
 use Rattle.std.specs.Prelude.{◌≡◌, ℕ, true, false, List, [], ◌∷◌, Some, None, refl}
+use Rattle.cv_base.specs.declared.«package».Package.{Package}
+use Rattle.cv_base.specs.declared.«package».PackageKind.TheVariants.{Deb}
+use Rattle.cv_base.specs.declared.«package».PackageName.{PackageName}
 use Rattle.cv_facts.specs.Reduction.{Known}
 use Rattle.cv_facts.specs.declared.reduction.Shape.TheVariants.{NoLayer}
 use Rattle.cv_match.specs.Findings.{findings}
@@ -8,7 +11,7 @@ use Rattle.cv_core_records.specs.declared.read.ReportOutcome.TheVariants as repo
 use Rattle.cv_core_outcome.specs.Facts.{pending_layer, waits_for}
 use Rattle.cv_core_outcome.specs.Outcome.{FactTable, first_unknown, known_layers, outcome_at}
 use Rattle.cv_core_outcome.specs.Truth.{report_with}
-use Rattle.cv_core_outcome.specs.Update.{rematched, update_rows}
+use Rattle.cv_core_outcome.specs.Update.{has_touched, rematch_pairs, rematched, rematched_by, rows_by, update_rows}
 use Rattle.cv_core_outcome.specs.declared.outcome.Outcome.TheVariants.{Bad, Good, Pending}
 
 -- digests
@@ -57,6 +60,23 @@ unchanged = (refl, refl)
 -- an image without packages has no findings before and after it
 empty : rematched [] (Good [] []) ≡ Good [] (findings [] [])
 empty = refl
+
+-- by touched keys, an image that waits or has a fault stays, and so does one that has no package with such a key
+by_keys : (rematched_by [] [] (Pending three) ≡ Pending three) × (rematched_by [] [] (Good [] []) ≡ Good [] []) × (rows_by [] [] one (Good [] []) ≡ [])
+by_keys = (refl, refl, refl)
+
+-- a package of another name costs nothing
+openssl : Package
+openssl = record { kind = Deb; path = []; name = 1 ∷ []; version = []; source = 1 ∷ []; source_version = []; arch = []; ecosystem = 2 ∷ [] }
+
+named : List ℕ → PackageName
+named name = record { ecosystem = 2 ∷ []; name = name }
+
+costs : (has_touched (named (1 ∷ []) ∷ []) (Good (openssl ∷ []) []) ≡ true)
+    × (has_touched (named (3 ∷ []) ∷ []) (Good (openssl ∷ []) []) ≡ false)
+    × (rematch_pairs (named (3 ∷ []) ∷ []) [] (Good (openssl ∷ []) []) ≡ 0)
+unfolding openssl named
+costs = (refl, refl, refl)
 
 -- the generation is that of the report
 reported : (report_with 7 (Good [] []) ≡ report.Good 7 []) × (report_with 7 (Pending one) ≡ report.Pending one)

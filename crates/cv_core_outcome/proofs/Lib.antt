@@ -1,3 +1,4 @@
+pub mod AgainLemmas
 mod Examples
 pub mod FactLemmas
 pub mod GatherLemmas

@@ -1,10 +1,11 @@
 -- Outcomes by the facts of Indexed layers are those of the machine.
-use Rattle.std.specs.Prelude.{◌≡◌, ℕ, not, cond, List, [], ◌∷◌, ◌++◌, filter, map, Option, Some, None, IsSome, Result, Ok, Err, refl}
-use Rattle.std.specs.List.{cons_option, flat_map}
+use Rattle.std.specs.Prelude.{◌≡◌, ℕ, ◌+◌, not, cond, List, [], ◌∷◌, ◌++◌, filter, map, Option, Some, None, IsSome, Result, Ok, Err, refl}
+use Rattle.std.specs.List.{cons_option, flat_map, sum_by}
 use Rattle.std.specs.Option.{is_none, is_some, unwrap_or}
 use Rattle.std.proofs.Common.{ap, sym, ◌∙◌}
 use Rattle.cv_base.specs.declared.finding.Row.{Row}
 use Rattle.cv_base.specs.declared.«package».Package.{Package}
+use Rattle.cv_base.specs.declared.«package».PackageName.{PackageName}
 use Rattle.cv_desk.specs.Stored.{Stored}
 use Rattle.cv_overlay.specs.declared.fault.ImageFault.{ImageFault}
 use Rattle.cv_facts.specs.Reduction.{IsRight, Known, shape_of}
@@ -17,15 +18,18 @@ use Rattle.cv_coalesce.proofs.ImageLemmas.{scan_is, stored_image}
 use Rattle.cv_core_machine.specs.Answer.{pending_report, report_at}
 use Rattle.cv_core_machine.specs.Board.{board_of}
 use Rattle.cv_core_machine.specs.Layers.{first_pending, is_indexed, is_indexed_as}
+use Rattle.cv_findings.specs.Pairs.{pair_count}
+use Rattle.cv_findings.specs.Rematch.{touched_packages}
+use Rattle.cv_core_machine.specs.Matching.{packages_in, packages_or_none, touched_pairs}
 use Rattle.cv_core_machine.specs.Rows.{rows_of as machine_rows, scan_rows}
 use Rattle.cv_core_machine.specs.Scans.{StatesEveryLayer, Trees, image_scan, trees_of}
 use Rattle.cv_core_machine.specs.State.{Feeds, Images, Layers, State, value_at}
 use Rattle.cv_core_machine.specs.declared.image.Image.{Image}
-use Rattle.cv_tree.specs.Entries.{map_values, remade_entries, rows_of}
+use Rattle.cv_tree.specs.Entries.{costs_of, map_values, remade_entries, rows_of}
 use Rattle.cv_core_outcome.specs.Facts.{pending_layer}
 use Rattle.cv_core_outcome.specs.Outcome.{FactTable, first_unknown, has_facts, known_layers, known_shapes, matched, outcome_at, outcome_by}
 use Rattle.cv_core_outcome.specs.Truth.{AreFactsOf, report_with}
-use Rattle.cv_core_outcome.specs.Update.{rematched, update_rows}
+use Rattle.cv_core_outcome.specs.Update.{rematch_pairs, rematched, update_rows}
 use Rattle.cv_core_outcome.specs.declared.outcome.Outcome.TheVariants.{Pending}
 
 -- The facts of an image's layers.
@@ -133,7 +137,7 @@ rematched_by (Some l) before after found = refl
 rematched_by None before after (packages.Good ps) = refl
 rematched_by None before after (packages.Bad fault) = refl
 
--- an outcome that is made anew is that with the feeds after the update
+-- a recomputed outcome is that with the feeds after the update
 pub rematched_is : (facts : FactTable) (before after : Feeds) (image : Image) → rematched after (outcome_at facts before image) ≡ outcome_at facts after image
 rematched_is facts before after image = rematched_by (first_unknown facts image.layers) before after (coalesced (known_shapes facts image.layers) image.seals)
 
@@ -171,3 +175,33 @@ rows_are tree table facts before after (image ∷ images) all are =
 pub rows_machine : (tree : List ℕ → Option (Option (List Stored))) (state : State) (facts : FactTable) (after : Feeds) → StatesEveryLayer tree → AreFactsOf tree state.layers facts
     → rows_of (update_rows after) (map_values (outcome_at facts state.feeds) state.images) ≡ machine_rows (trees_of tree) state after
 rows_machine tree state facts after all are = rows_are tree state.layers facts state.feeds after state.images all are
+
+-- the pairs of one image before those of others
+pairs_more : (first : Option (List ℕ)) (image : List ℕ × Image) (others : Images) (pairs : (List ℕ × Image) → ℕ) (before after : Feeds) (touched : List PackageName)
+    (found : Result (List Package) ImageFault) (rest : ℕ)
+    → pairs image ≡ pair_count (touched_packages touched (packages_or_none found)) after → rest ≡ sum_by pairs others
+    → rematch_pairs touched after (outcome_by first before (answer_of found)) + rest ≡ sum_by pairs (cond (is_none first) (image ∷ others) others)
+pairs_more (Some l) image others pairs before after touched found rest e h = h
+pairs_more None image others pairs before after touched (Ok ps) rest e h = λ i. sym e i + h i
+pairs_more None image others pairs before after touched (Err bad) rest e h = λ i. sym e i + h i
+
+-- the pairs of an image that an update tries
+abbrev image_pairs : Trees → Feeds → List PackageName → (List ℕ × Image) → ℕ
+image_pairs trees after touched image = pair_count (touched_packages touched (packages_in trees image.1)) after
+
+pairs_are : (tree : List ℕ → Option (Option (List Stored))) (table : Layers) (facts : FactTable) (before after : Feeds) (touched : List PackageName) (images : Images)
+    → StatesEveryLayer tree → AreFactsOf tree table facts
+    → costs_of (λ _. rematch_pairs touched after) (map_values (outcome_at facts before) images)
+    ≡ sum_by (image_pairs (trees_of tree) after touched) (filter (λ (image : List ℕ × Image). is_indexed table image.1.layers) images)
+pairs_are tree table facts before after touched [] all are = refl
+pairs_are tree table facts before after touched (image ∷ images) all are =
+    let rest = costs_of (λ _. rematch_pairs touched after) (map_values (outcome_at facts before) images) in
+    ap (λ o. rematch_pairs touched after o + rest) (outcome_is tree table facts before image.1 all are)
+    ∙ pairs_more (first_pending table image.1.layers) image (filter (λ (image : List ℕ × Image). is_indexed table image.1.layers) images) (image_pairs (trees_of tree) after touched)
+    before after touched (tree_packages (trees_of tree) image.1) rest refl (pairs_are tree table facts before after touched images all are)
+
+-- the pairs that an update tries are those of the machine
+pub pairs_machine : (tree : List ℕ → Option (Option (List Stored))) (state : State) (facts : FactTable) (after : Feeds) (touched : List PackageName) → StatesEveryLayer tree
+    → AreFactsOf tree state.layers facts
+    → costs_of (λ _. rematch_pairs touched after) (map_values (outcome_at facts state.feeds) state.images) ≡ touched_pairs (trees_of tree) state after touched
+pairs_machine tree state facts after touched all are = pairs_are tree state.layers facts state.feeds after touched state.images all are

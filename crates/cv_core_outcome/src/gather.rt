@@ -59,7 +59,7 @@ pub fn packages_of<D: Desk>(
     coalesce(alloc, known, &places, seals)
 }
 
-/// The places of so many layers, in order.
+/// The places of this number of layers, in order.
 fn places(alloc: Global, count: u32) -> Result<Vec<u32>, NoMemory>
     ensures { IfOk result (λ places. places.items ≡ range_with_len 0 count) }
 {

@@ -1,10 +1,13 @@
-ghost use Rattle.std.specs.Prelude.{◌≡◌, ◌↔◌, ℕ, true, false, List, Option, Some};
+ghost use Rattle.std.specs.Prelude.{◌≡◌, ◌↔◌, ℕ, true, false, List, [], Option, Some};
 ghost use Rattle.cv_base.specs.Texts.{has_text};
+ghost use Rattle.cv_base.specs.declared.package.PackageName.{PackageName};
 ghost use Rattle.cv_desk.specs.Stored.{Stored};
 ghost use Rattle.cv_facts.specs.Reduction.{Known};
+ghost use Rattle.cv_findings.specs.Rematch.{AgreeOnUntouched};
 ghost use Rattle.cv_core_machine.specs.Answer.{report_at};
 ghost use Rattle.cv_core_machine.specs.Board.{board_of};
 ghost use Rattle.cv_core_machine.specs.Layers.{first_pending};
+ghost use Rattle.cv_core_machine.specs.Matching.{touched_pairs};
 ghost use Rattle.cv_core_machine.specs.Rows.{rows_of as machine_rows};
 ghost use Rattle.cv_core_machine.specs.Scans.{StatesEveryLayer, trees_of};
 ghost use Rattle.cv_core_machine.specs.State.{Feeds, Images, State, value_at, with_value};
@@ -12,10 +15,12 @@ ghost use Rattle.cv_core_machine.specs.declared.image.Image.{Image};
 ghost use Rattle.cv_core_outcome.specs.Facts.{pending_layer, waits_for};
 ghost use Rattle.cv_core_outcome.specs.Outcome.{FactTable, first_unknown, has_facts, outcome_at};
 ghost use Rattle.cv_core_outcome.specs.Truth.{AreFactsOf, report_with};
-ghost use Rattle.cv_core_outcome.specs.Update.{rematched, update_rows};
+ghost use Rattle.cv_core_outcome.specs.Update.{has_touched, rematch_pairs, rematched, rematched_by, rows_by, update_rows};
 ghost use Rattle.cv_core_outcome.specs.declared.outcome.Outcome.{Outcome};
 ghost use Rattle.cv_core_records.specs.declared.read.ReportOutcome.{ReportOutcome};
-ghost use Rattle.cv_tree.specs.Entries.{map_values, remade_entries, rows_of};
+ghost use Rattle.cv_tree.specs.Entries.{costs_of, map_values, remade_entries, rows_of};
+
+use cv_findings::rematch_laws;
 
 /// Why reports are read from outcomes. If a desk's type is known, and the facts are those of the Indexed layers, the report by an
 /// image's outcome is that of the machine, `report`, and the reports of all images are those of the machine's board, `board`.
@@ -55,11 +60,24 @@ pub fn fact_laws()
 
 /// Why an update needs the outcomes alone. Those that it makes are the outcomes with the feeds after it, of one image, `image`, and
 /// of all, `images`. The rows that it adds are those of the machine, if a desk's type is known, and the facts are those of the
-/// Indexed layers, `rows`.
+/// Indexed layers, `rows`. If each package without a touched key has the same findings with the feeds before and after it, then the
+/// outcome that is made by these keys is the same, `again`, and so are its rows, `again_rows`; where no package has such a key,
+/// neither changes, `untouched`. The tries that it takes are those of the machine, under the conditions of `rows`: `pairs`.
 pub fn update_laws()
     ensures image { (facts : FactTable) (before after : Feeds) (image : Image) → rematched after (outcome_at facts before image) ≡ outcome_at facts after image }
     ensures images { (facts : FactTable) (before after : Feeds) (images : Images)
         → remade_entries (λ _. rematched after) (map_values (outcome_at facts before) images) ≡ map_values (outcome_at facts after) images }
     ensures rows { (tree : List ℕ → Option (Option (List Stored))) (state : State) (facts : FactTable) (after : Feeds) → StatesEveryLayer tree → AreFactsOf tree state.layers facts
         → rows_of (update_rows after) (map_values (outcome_at facts state.feeds) state.images) ≡ machine_rows (trees_of tree) state after }
-{}
+    ensures again { (facts : FactTable) (before after : Feeds) (touched : List PackageName) (image : Image) → AgreeOnUntouched touched before after
+        → rematched_by touched after (outcome_at facts before image) ≡ outcome_at facts after image }
+    ensures again_rows { (facts : FactTable) (before after : Feeds) (touched : List PackageName) (hash : List ℕ) (image : Image) → AgreeOnUntouched touched before after
+        → rows_by touched after hash (outcome_at facts before image) ≡ update_rows after hash (outcome_at facts before image) }
+    ensures untouched { (facts : FactTable) (before after : Feeds) (touched : List PackageName) (hash : List ℕ) (image : Image) → AgreeOnUntouched touched before after
+        → has_touched touched (outcome_at facts before image) ≡ false
+        → (outcome_at facts after image ≡ outcome_at facts before image) × (update_rows after hash (outcome_at facts before image) ≡ []) }
+    ensures pairs { (tree : List ℕ → Option (Option (List Stored))) (state : State) (facts : FactTable) (after : Feeds) (touched : List PackageName) → StatesEveryLayer tree → AreFactsOf tree state.layers facts
+        → costs_of (λ _. rematch_pairs touched after) (map_values (outcome_at facts state.feeds) state.images) ≡ touched_pairs (trees_of tree) state after touched }
+{
+    rematch_laws();
+}

@@ -67,7 +67,7 @@ abbrev pub KeepsLimits : Option (List ℕ) → Type 0
 KeepsLimits remaining = IsSomeAnd remaining (λ bytes. (input_of bytes).stop ≡ Finished)
 
 -- A service completes: if its input keeps the limits, and neither the count of the failures of the input nor that of the output rose
--- (one that stands at its last value counts as risen), then the service is done, or ran out of memory, whatever its desks do.
+-- (a saturated one counts as risen), then the service is done, or ran out of memory, whatever its desks do.
 abbrev pub Completes : List (List ℕ) → ℕ → Option (List ℕ) → ℕ → ℕ → ℕ → ℕ → Status → Type 0
 Completes arguments desks remaining reads reads_now writes writes_now ended =
     IsService (command_of arguments) desks → KeepsLimits remaining → ¬ Rose reads reads_now → ¬ Rose writes writes_now

@@ -51,8 +51,8 @@ abbrev pub ServiceWrote : {S D : Type 0} → Trees → (S → Option (List ℕ))
 ServiceWrote trees remaining listings faults workers before now ended =
     Wrote (StatesEveryLayer trees) (trees_of trees) workers listings faults (remaining before.input) (remaining now.input) before.written now.written (take workers before.desks) (take workers now.desks) ended
 
--- how a service of so many workers ends: only their desks are used, and the input was read to its end if the service is done. More than
--- 2 to the power of 36 bytes are never taken, and so many if the input is too long. A line of the bytes that were taken, or the whole
+-- how a service of this number of workers ends: only their desks are used, and the input was read to its end if the service is done. More than
+-- 2 to the power of 36 bytes are never taken, and exactly that number if the input is too long. A line of the bytes that were taken, or the whole
 -- of them, is too long if the end says so, and neither is if the source failed
 abbrev pub ServeEnds : {S D : Type 0} → Trees → (S → Option (List ℕ)) → (D → ℕ) → (D → ℕ) → ℕ → RunWorld S D → RunWorld S D → Status → Type 0
 ServeEnds trees remaining listings faults workers before now status.Done =

@@ -14,7 +14,7 @@ use std::thread::Threads;
 const WORKERS: u32 = 4;
 
 /// Serves the requests of the input to its end, and prints the transcript. Worker w has the desk with that index, and the workers may
-/// be so many as there are desks. Without a number of workers there are four of them, or as many as desks.
+/// be as many as there are desks. Without a number of workers there are four of them, or as many as desks.
 pub fn serve_command<S: Source, K: Sink, D: Desk + Drop + Send + Sync, W: Threads + Wait + Sync>(
     rt: &W,
     alloc: Global,
@@ -39,7 +39,7 @@ pub fn serve_command<S: Source, K: Sink, D: Desk + Drop + Send + Sync, W: Thread
     serve_by(rt, alloc, workers, input, output, desks)
 }
 
-/// Serves with so many workers.
+/// Serves with this number of workers.
 fn serve_by<S: Source, K: Sink, D: Desk + Drop + Send + Sync, W: Threads + Wait + Sync>(
     rt: &W,
     alloc: Global,

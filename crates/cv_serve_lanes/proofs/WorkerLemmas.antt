@@ -33,7 +33,7 @@ most = 2 ^ 64 - 1
 rose_none : (faults : ℕ) → RoseBy 0 faults faults
 rose_none faults = omega arith
 
--- so many times, and then some more
+-- this number of times, and then some more
 pub rose_then : (m n a b c : ℕ) → RoseBy m a b → RoseBy n b c → RoseBy (m + n) a c
 rose_then m n a b c first second = omega (arith, first, second)
 

@@ -18,7 +18,7 @@ is_fault act = false
 abbrev pub fault_count : List EventEntry → ℕ
 fault_count events = length (filter (λ event. is_fault event.act) events)
 
--- a count of 64 bits rose at least so many times, or stands at its last value
+-- a count of 64 bits rose at least this number of times, or is saturated
 abbrev pub RoseBy : ℕ → ℕ → ℕ → Type 0
 RoseBy times before now = min (before + times) (2 ^ 64 - 1) ≤ now
 

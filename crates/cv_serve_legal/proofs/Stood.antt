@@ -24,7 +24,7 @@ use Rattle.cv_serve_legal.specs.declared.parsed_line.Requested.{Requested}
 use Rattle.cv_serve_legal.specs.Complete.{HasNoFault, gives_back, is_fault, registers, registers_by}
 use Rattle.cv_serve_legal.proofs.Steps.{Rises, claim_settles, image_names, image_stood, layer_rises, rank}
 
--- what is known of an image that is registered after entries that do not register it, and of a layer of it with so many claims among
+-- what is known of an image that is registered after entries that do not register it, and of a layer of it with this number of claims among
 -- them
 pub record Stood (before after : State) (image : List ℕ) (registered : Image) (layer : List ℕ) (claims : ℕ) : Type 0 where
   pub stood : value_at before.images image ≡ Some registered

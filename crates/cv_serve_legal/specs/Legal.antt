@@ -39,7 +39,7 @@ pub record AreLegal (trees : Trees) (workers : ℕ) (before : Moment) (rounds : 
   pub input : AreLegalRounds trees workers before rounds first between
   pub further : AreLast (queued between.state.layers) trees workers between last after
 
--- the output is a legal transcript of an input that was read to its end, by so many workers over these layers, and leads to
+-- the output is a legal transcript of an input that was read to its end, by this number of workers over these layers, and leads to
 -- this state
 pub record IsLegal (trees : Trees) (input output : List ℕ) (workers : ℕ) (state : State) : Type 0 where
   pub entries : List Entry

@@ -28,7 +28,7 @@ abbrev pub AreReadsOrdered : List Entry → Type 0
 AreReadsOrdered [] = ⊤
 AreReadsOrdered (first ∷ later) = AllByRecursion (StandsBefore first) later × AreReadsOrdered later
 
--- the entries of a round with these lines, from the moment before it to the one after it, where there are so many workers
+-- the entries of a round with these lines, from the moment before it to the one after it, with this number of workers
 pub record IsLegalRound (trees : Trees) (workers : ℕ) (before : Moment) (lines : Round) (entries : List Entry) (after : Moment) : Type 0 where
   -- what becomes of each line
   pub taken : List ParsedLine

@@ -38,7 +38,7 @@ counts_both listings faults worker (d ∷ ds) (e ∷ es) [] xs ys h k = absurd k
 
 -- ---- at least
 
--- exact counts are so many at least
+-- exact counts are at least this number
 pub at_least : {D : Type 0} (listings faults : D → ℕ) (worker : ℕ) (ds es : List D) (xs : List Entry) → DesksCounted listings faults worker ds es xs → DesksAtLeast listings faults worker ds es xs
 at_least listings faults worker [] [] xs h = tt
 at_least listings faults worker (d ∷ ds) (e ∷ es) xs h = (omega (arith, h.0), h.1, at_least listings faults (worker + 1) ds es xs h.2)

@@ -51,7 +51,7 @@ impl Round {
         mem::replace(&mut self.taken, Vec::new(alloc))
     }
 
-    /// Puts what became of a line of so many bytes into it.
+    /// Puts what became of a line of this length in bytes into it.
     pub(crate) fn put(&mut self, taken: ParsedLine, bytes: usize) -> Result<(), NoMemory>
         requires taken { IsSoundTaken taken }
         requires room { IsRoomFor self.old.bytes bytes }
@@ -63,7 +63,7 @@ impl Round {
         Ok(())
     }
 
-    /// Whether a line of so many bytes would make it too long. A round without lines takes any line.
+    /// Whether a line of this length in bytes would make it too long. A round without lines takes any line.
     pub(crate) fn is_too_long(&self, bytes: usize) -> bool
         requires text { 0 < bytes }
         ensures value { result ≡ (is_cons self.now.taken && nat_lt MAX_ROUND_BYTES (self.now.bytes + bytes)) }
@@ -87,7 +87,7 @@ impl Round {
     }
 }
 
-/// Whether so many bytes more are more than a round may have.
+/// Whether this number of bytes more is more than a round may have.
 fn is_past(bytes: usize, more: usize) -> bool
     requires text { 0 < more }
     ensures { result ≡ nat_lt MAX_ROUND_BYTES (bytes + more) }

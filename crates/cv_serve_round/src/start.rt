@@ -17,7 +17,7 @@ pub struct Service<D: Desk, L: Identity> {
     pub seats: Vec<Seat<D, L>>,
 }
 
-/// A service that has applied no event, with so many workers.
+/// A service that has applied no event, with this number of workers.
 pub fn started<D: Desk + Drop, L: Identity>(
     alloc: Global,
     blank: Blank,

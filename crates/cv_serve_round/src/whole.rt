@@ -24,7 +24,7 @@ use std::alloc::Global;
 use std::sync::Wait;
 use std::thread::Threads;
 
-/// Runs a round: the lanes beside each other, each with its requests in order, and beside them the workers, each with a desk of its
+/// Runs a round: the lanes concurrently, each with its requests in order, and with them the workers, each with a desk of its
 /// own, which index the layers that were queued as the round began. The entries are those of the refused lines, and then the events and
 /// the reads in the transcript's order. If memory runs out, a part of the round may be carried out, and no further round may be run. No
 /// count of a desk falls, whatever comes.
@@ -97,7 +97,7 @@ fn run_parts<D: Desk + Drop + Send + Sync, L: Identity + Send + Sync, W: Threads
     Ok((events, lanes))
 }
 
-/// A hand of each worker, for so many jobs.
+/// A hand of each worker, for this number of jobs.
 fn hands_of(alloc: Global, jobs: usize, workers: usize) -> Result<Vec<Hand>, NoMemory>
     requires { (1 ≤ workers) × (workers ≤ 8) }
     ensures { IfOk result (λ hands. IsNewFill jobs workers hands.items) }

@@ -10,6 +10,9 @@ use test_data::{Flaw, SampleDesk, advisory, facts_of_rows, numbered};
 /// Numbers of notifications that are acknowledged are below this one.
 const NUMBERS: u64 = 400;
 
+/// Generations on which feeds are patched are below this one.
+const BASES: u64 = 24;
+
 /// What each layer has: one package.
 const ROWS: [(&str, &str); 3] = [
     ("node_modules/", ""),
@@ -47,12 +50,13 @@ fn of_image(alloc: Global, draw: u64) -> Result<Event<SampleDesk>, NoMemory>
     }
 }
 
-/// A feed has other records, or a notification is acknowledged.
+/// A feed has other records or is patched, or a notification is acknowledged.
 fn of_feed(alloc: Global, draw: u64) -> Result<Event<SampleDesk>, NoMemory>
     ensures { IfOk result (λ event. IsSound (act_of event)) }
 {
     match draw % 8 {
-        0..=4 => Ok(Event::Ack(draw / 8 % NUMBERS)),
+        0..=2 => Ok(Event::Ack(draw / 8 % NUMBERS)),
+        3..=4 => patch(alloc, draw / 8),
         _ => update(alloc, draw / 8),
     }
 }
@@ -108,6 +112,20 @@ fn update(alloc: Global, draw: u64) -> Result<Event<SampleDesk>, NoMemory>
 {
     let records = vec![in alloc; record(alloc, draw)?]?;
     Ok(Event::Update(numbered(alloc, "feed-", draw % 3)?, Seq::of(records)))
+}
+
+/// One of three feeds, if it has a generation that looks random, gets one of two records and loses the other one.
+fn patch(alloc: Global, draw: u64) -> Result<Event<SampleDesk>, NoMemory>
+    ensures { IfOk result (λ event. IsSound (act_of event)) }
+{
+    let records = vec![in alloc; record(alloc, draw)?]?;
+    let remove = vec![in alloc; numbered(alloc, "X-", draw / 3 % 2)?]?;
+    Ok(Event::Patch {
+        feed: numbered(alloc, "feed-", draw % 3)?,
+        base: draw / 24 % BASES,
+        records: Seq::of(records),
+        remove: Seq::of(remove),
+    })
 }
 
 /// A record of the package of the layers: the next version is fixed, or an earlier one.

@@ -8,4 +8,4 @@ mod records;
 pub use changes::{Change, Feed, changes_of};
 pub use contents::{Contents, Fault, contents_of, fault_of};
 pub use lines::{Found, Lines};
-pub use records::{CODES, FEEDS, advisories, code_of, feed_of};
+pub use records::{CODES, FEEDS, advisories, code_of, feed_of, ids_of, patched};

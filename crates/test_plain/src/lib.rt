@@ -16,5 +16,5 @@ pub use findings::{
     CODES, Change, Contents, FEEDS, Fault, Feed, Found, Lines, advisories, changes_of, code_of,
     contents_of, fault_of, feed_of,
 };
-pub use machine::{Draws, IMAGES, Machine, Step, Work};
+pub use machine::{Draws, IMAGES, Machine, Patch, Step, Work};
 pub use service::{Service, report_step, restart, show_heads, show_page, show_queued, show_report};

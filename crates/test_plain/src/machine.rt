@@ -8,4 +8,4 @@ mod step;
 pub use draws::Draws;
 pub use letters::IMAGES;
 pub use plain::Machine;
-pub use step::{Step, Work};
+pub use step::{Patch, Step, Work};

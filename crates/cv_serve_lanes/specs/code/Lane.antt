@@ -52,12 +52,12 @@ abbrev pub Answers : DeskTrees → Limits → List Submission → Requested → 
 Answers tree limits list requested (Submitted p) = (p.event.by ≡ by.Lane requested.request.lane requested.line) × (event_of requested.request.act ≡ Some p.event.act)
 Answers tree limits list requested (Answered read) = (read.lane ≡ requested.request.lane) × (read.line ≡ requested.line) × IsAnswered tree limits list requested read
 
--- a step stands after so many events
+-- a step stands after this number of events
 abbrev pub IsFrom : ℕ → Step → Type 0
 IsFrom number (Submitted p) = number < p.number
 IsFrom number (Answered read) = number ≤ read.front
 
--- a step stands within so many events
+-- a step stands within this number of events
 abbrev pub IsWithin : ℕ → Step → Type 0
 IsWithin number (Submitted p) = p.number ≤ number
 IsWithin number (Answered read) = read.front ≤ number

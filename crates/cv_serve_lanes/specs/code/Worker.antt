@@ -73,7 +73,7 @@ pub record Settled (worker : ℕ) (act : MachineEvent) (before after : SeatView)
   pub by_is : placed.event.by ≡ by.Worker worker
   pub act_is : placed.event.act ≡ act
 
--- a hand of a fill of so many jobs that has taken none
+-- a hand of a fill of this number of jobs that has taken none
 abbrev pub IsHandPrepared : ℕ → HandState → Type 0
 IsHandPrepared jobs hand = (hand.fill.jobs ≡ jobs) × (hand.list ≡ [])
 

@@ -57,7 +57,7 @@ entry_at trees before source act = entry.Event (event_entry (before.count + 1) s
 abbrev pub lane_requests : ℕ → List Requested → List Requested
 lane_requests lane requested = filter (λ r. r.request.lane == lane) requested
 
--- the requests of so many lanes from this one on, lane after lane
+-- the requests of this number of lanes from this one on, lane after lane
 abbrev pub lanes_from : ℕ → ℕ → List Requested → List Requested
 lanes_from lane zero requested = []
 lanes_from lane (suc count) requested = lane_requests lane requested ++ lanes_from (lane + 1) count requested

@@ -24,7 +24,7 @@ use Rattle.cv_serve_round.specs.Printed.{HasTag}
 abbrev pub IsSoundRound : List ParsedLine → ℕ → Type 0
 IsSoundRound taken bytes = AllByRecursion IsSoundTaken taken × (taken ≡ [] → bytes ≡ 0)
 
--- so many bytes more fit into a round, or it has none yet
+-- this number of bytes more fits into a round, or it has none yet
 abbrev pub IsRoomFor : ℕ → ℕ → Type 0
 IsRoomFor bytes more = (bytes ≡ 0) ⊎ (bytes + more ≤ MAX_ROUND_BYTES)
 

@@ -47,7 +47,7 @@ abbrev pub FitsSeat : ℕ → By → Type 0
 FitsSeat seat (by.Lane lane line) = (lane ≡ seat) × (seat < 8)
 FitsSeat seat (by.Worker worker) = seat ≡ 8 + worker
 
--- the numbers of so many seats from this one on, each weighed, added up
+-- the numbers of this many seats from this one on, each weighed, added up
 abbrev pub sum_seats : (ℕ → ℕ) → ℕ → ℕ → ℕ
 sum_seats weight first zero = 0
 sum_seats weight first (suc count) = weight first + sum_seats weight (first + 1) count

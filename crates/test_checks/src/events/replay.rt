@@ -14,7 +14,7 @@ const SIZE: u64 = 1000;
 
 /// How many images and feeds a core may have.
 pub const LIMITS: Limits = Limits {
-    images: 4,
+    images: 5,
     feeds: 2,
 };
 

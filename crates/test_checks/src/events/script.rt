@@ -1,8 +1,8 @@
 use cv_core::{Limits, MAX_FEEDS, MAX_IMAGES};
 use std::alloc::Global;
 use test_plain::{
-    Lines, Service, Step, Work, code_of, feed_of, report_step, restart, show_heads, show_page,
-    show_queued, show_report,
+    Lines, Patch, Service, Step, Work, code_of, feed_of, report_step, restart, show_heads,
+    show_page, show_queued, show_report,
 };
 
 /// Does what each line of a script says, and writes the line and what came of it.
@@ -28,7 +28,7 @@ fn run_line(alloc: Global, core: &mut Service, line: &str, out: &mut Lines) {
     }
 }
 
-/// A new core, which may have so many images and feeds.
+/// A new core, which may have these numbers of images and feeds.
 fn run_limits(alloc: Global, core: &mut Service, words: &str, out: &mut Lines) {
     let (images, feeds) = pair_of(words);
     if images < 1 || images > MAX_IMAGES || feeds < 1 || feeds > MAX_FEEDS {
@@ -71,6 +71,7 @@ fn step_of<'a>(verb: &str, rest: &'a str) -> Option<Step<'a>> {
         "fault" => Some(Step::Fault(work_of(rest))),
         "memory" => Some(Step::Memory(work_of(rest))),
         "update" => update_of(rest),
+        "patch" => patch_of(rest),
         "ack" => Some(Step::Ack(u64::from(number_in(rest)))),
         _ => None,
     }
@@ -104,6 +105,20 @@ fn update_of(words: &str) -> Option<Step<'_>> {
         feed,
         code: code_of(records),
     })
+}
+
+/// A feed, the base, the records that enter, and `without` those that go.
+fn patch_of(words: &str) -> Option<Step<'_>> {
+    let (name, rest) = words.split_once(' ').unwrap_or((words, ""));
+    let (base, records) = rest.split_once(' ').unwrap_or((rest, ""));
+    let (entering, gone) = records.split_once("without ").unwrap_or((records, ""));
+    let feed = feed_of(name)?;
+    Some(Step::Patch(Patch {
+        feed,
+        base: u64::from(number_in(base)),
+        code: code_of(entering),
+        gone: code_of(gone),
+    }))
 }
 
 fn pair_of(words: &str) -> (u32, u32) {

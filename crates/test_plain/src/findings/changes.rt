@@ -4,12 +4,13 @@ use crate::findings::records::{BASE, Form, RECORDS, Record};
 use cv_base::{NoMemory, Reason};
 use std::alloc::Global;
 
-/// A feed, and the number of its records, which is 0 as long as it does not stand.
+/// A feed, the number of its records, and the generation of its last update or patch. Both are 0 as long as it does not stand.
 #[derive(Clone, Copy)]
 pub struct Feed {
     pub name: &'static str,
     pub stands: bool,
     pub code: u32,
+    pub since: u64,
 }
 
 /// What is found for a package by a record of a feed, before an update and after it.

@@ -1,4 +1,4 @@
-use cv_base::{Advisory, NoMemory, RangeKind};
+use cv_base::{Advisory, NoMemory, RangeKind, Text};
 use std::alloc::Global;
 use test_data::{Flaw, advisory};
 
@@ -82,6 +82,47 @@ pub fn advisories(alloc: Global, code: u32) -> Result<Vec<Advisory>, NoMemory> {
         rest /= BASE;
     }
     Ok(advisories)
+}
+
+/// The ids of the records of a number.
+pub fn ids_of(alloc: Global, code: u32) -> Result<Vec<Text>, NoMemory> {
+    let mut ids = Vec::new(alloc);
+    let mut rest = code;
+    for record in RECORDS.iter() {
+        if !is_absent(rest % BASE) {
+            ids.push(Text::of(alloc, record.id)?)?;
+        }
+        rest /= BASE;
+    }
+    Ok(ids)
+}
+
+/// The number of records after a patch: each record that enters is as in the patch, and each other one that goes is absent.
+pub fn patched(code: u32, entering: u32, gone: u32) -> u32 {
+    let (mut old, mut new, mut out) = (code, entering, gone);
+    let mut after: u32 = 0;
+    let mut place: u32 = 1;
+    for _ in RECORDS.iter() {
+        let digit = patched_digit(old % BASE, new % BASE, out % BASE);
+        after = after.wrapping_add(place.wrapping_mul(digit));
+        place = place.wrapping_mul(BASE);
+        old /= BASE;
+        new /= BASE;
+        out /= BASE;
+    }
+    after
+}
+
+fn patched_digit(old: u32, new: u32, out: u32) -> u32 {
+    if !is_absent(new) {
+        return new;
+    }
+    if is_absent(out) { old } else { 0 }
+}
+
+/// Whether a feed does not have a record of this digit.
+fn is_absent(digit: u32) -> bool {
+    digit < 2
 }
 
 /// The number of records, by words as `C-1=8.4`.

@@ -3,7 +3,7 @@ ghost use Rattle.std.specs.Prelude.{◌<◌};
 use crate::findings::{CODES, FEEDS};
 use crate::machine::letters::{IMAGES, LAYERS};
 use crate::machine::plain::Machine;
-use crate::machine::step::{Step, Work};
+use crate::machine::step::{Patch, Step, Work};
 use cv_core_machine::Status;
 
 /// An image that is registered, with the layers that it has mostly, the signs of the seals that it states for them sometimes, and the
@@ -73,7 +73,8 @@ impl Draws {
             18..=23 => Step::Indexed(self.finish(machine)),
             24 => Step::Fault(self.finish(machine)),
             25 => Step::Memory(self.finish(machine)),
-            26..=29 => self.update(),
+            26..=27 => self.update(),
+            28..=29 => Step::Patch(self.patch(machine)),
             _ => Step::Ack(self.number(machine)),
         }
     }
@@ -136,6 +137,24 @@ impl Draws {
         Step::Update {
             feed: FEEDS[self.below(3) as usize],
             code: self.below(CODES) as u32,
+        }
+    }
+
+    /// A patch, mostly on the generation of its feed. Of five records that may enter or go each does in about three of four draws.
+    fn patch(&mut self, machine: &Machine) -> Patch {
+        let feed = FEEDS[self.below(3) as usize];
+        let code = self.below(CODES) as u32;
+        let gone = self.below(CODES) as u32;
+        let other = self.below(NUMBERS);
+        let base = match machine.feed(feed) {
+            Some(kept) if self.below(4) > 0 => kept.since,
+            _ => other,
+        };
+        Patch {
+            feed,
+            base,
+            code,
+            gone,
         }
     }
 }

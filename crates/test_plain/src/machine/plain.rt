@@ -1,8 +1,8 @@
 use crate::findings::{
-    Change, FEEDS, Fault, Feed, Found, Lines, changes_of, contents_of, fault_of,
+    Change, FEEDS, Fault, Feed, Found, Lines, changes_of, contents_of, fault_of, patched,
 };
 use crate::machine::letters::{IMAGES, LAYERS};
-use crate::machine::step::{Step, Work};
+use crate::machine::step::{Patch, Step, Work};
 use cv_base::{NoMemory, Reason};
 use cv_core_machine::{Limits, Status};
 use std::alloc::Global;
@@ -85,6 +85,7 @@ impl Machine {
                 name,
                 stands: false,
                 code: 0,
+                since: 0,
             })?;
         }
         Ok(())
@@ -111,6 +112,7 @@ impl Machine {
                 out.word(self.finish(work, Status::Queued, "requeued"))
             }
             Step::Update { feed, code } => self.update(alloc, feed, code, out)?,
+            Step::Patch(patch) => self.patch(alloc, patch, out)?,
             Step::Ack(number) => out.word(self.ack(number)),
         }
         self.count = self.count.saturating_add(1);
@@ -185,12 +187,47 @@ impl Machine {
             out.word("too_many_feeds");
             return Ok(());
         }
+        self.set_feed(alloc, feed, code, out)
+    }
+
+    fn patch(&mut self, alloc: Global, patch: Patch, out: &mut Lines) -> Result<(), NoMemory> {
+        let Some(feed) = self.feed(patch.feed) else {
+            out.word("no_feed");
+            return Ok(());
+        };
+        if patch.base != feed.since {
+            out.number("stale_base, kept ", feed.since);
+            return Ok(());
+        }
+        let code = patched(feed.code, patch.code, patch.gone);
+        self.set_feed(alloc, feed.name, code, out)
+    }
+
+    /// The feed of a name, if it stands.
+    pub fn feed(&self, name: &str) -> Option<Feed> {
+        for feed in &self.feeds {
+            if feed.stands && feed.name == name {
+                return Some(*feed);
+            }
+        }
+        None
+    }
+
+    /// Gives a feed the records of a number, and says so.
+    fn set_feed(
+        &mut self,
+        alloc: Global,
+        feed: &'static str,
+        code: u32,
+        out: &mut Lines,
+    ) -> Result<(), NoMemory> {
         self.generation = self.generation.saturating_add(1);
         let before = self.feeds.clone()?;
         for other in self.feeds.iter_mut() {
             if other.name == feed {
                 other.stands = true;
                 other.code = code;
+                other.since = self.generation;
             }
         }
         self.add_rows(alloc, &before)?;
@@ -200,11 +237,11 @@ impl Machine {
 
     /// Whether a feed does not stand, and as many stand as may be.
     fn is_full(&self, name: &str) -> bool {
+        if self.feed(name).is_some() {
+            return false;
+        }
         let mut count: u32 = 0;
         for feed in &self.feeds {
-            if feed.stands && feed.name == name {
-                return false;
-            }
             if feed.stands {
                 count = count.saturating_add(1);
             }

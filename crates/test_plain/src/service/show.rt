@@ -15,6 +15,7 @@ pub fn show_reply(out: &mut Lines, reply: &Reply) {
             show_kept(out, kept.as_slice(), kept_seals.as_slice())
         }
         Reply::Updated { generation, rows } => out.updated(*generation, *rows),
+        Reply::StaleBase { kept } => out.number("stale_base, kept ", *kept),
         _ => out.word(reply_name(reply)),
     }
 }

@@ -2,8 +2,8 @@ ghost use Rattle.std.specs.Prelude.{◌≡◌, ◌<◌, ◌≤◌, IsTrue};
 ghost use Rattle.cv_core.specs.Core.{IsSound, act_of};
 ghost use Rattle.cv_core_machine.specs.declared.limits.TheConstants.{MAX_FEEDS, MAX_IMAGES};
 
-use crate::findings::advisories;
-use crate::machine::{Step, Work};
+use crate::findings::{advisories, ids_of};
+use crate::machine::{Patch, Step, Work};
 use crate::service::layers::{digest, layers_of, seal_by};
 use cv_base::{Digest, MAX_LAYERS, Manifest, NoMemory, Seq, Steps, Text};
 use cv_core::{Core, Event, Limits, Reply};
@@ -76,6 +76,7 @@ fn event_of(alloc: Global, step: Step<'_>) -> Result<Event<SampleDesk>, NoMemory
         Step::Fault(work) => Event::Fault(digest(work.layer), work.worker),
         Step::Memory(work) => Event::Memory(digest(work.layer), work.worker),
         Step::Update { feed, code } => update(alloc, feed, code)?,
+        Step::Patch(change) => patch(alloc, change)?,
         Step::Ack(number) => Event::Ack(number),
     })
 }
@@ -90,6 +91,15 @@ fn update(alloc: Global, feed: &str, code: u32) -> Result<Event<SampleDesk>, NoM
     let name = Text::of(alloc, feed)?;
     let records = advisories(alloc, code)?;
     Ok(Event::Update(name, Seq::of(records)))
+}
+
+fn patch(alloc: Global, change: Patch) -> Result<Event<SampleDesk>, NoMemory> {
+    Ok(Event::Patch {
+        feed: Text::of(alloc, change.feed)?,
+        base: change.base,
+        records: Seq::of(advisories(alloc, change.code)?),
+        remove: Seq::of(ids_of(alloc, change.gone)?),
+    })
 }
 
 /// The manifest of an image of the layers of these letters, with the seals of these signs.

@@ -42,7 +42,7 @@ fn try_run<R: Abort + Threads + Wait + Sync>(
     Ok(())
 }
 
-/// One text before so many of another, and one after them.
+/// One text before a number of another, and one after them.
 fn text(
     alloc: Global,
     before: &str,
