@@ -1,7 +1,7 @@
 use crate::formats::count_of;
 use cv_base::NoMemory;
 use cv_io::{Line, LineError, LineReader, Source, StdSource};
-use cv_request::read_request;
+use cv_osv_text::read_request;
 use cv_scan_input::{MAX_INPUT, MAX_LINE};
 use std::alloc::Global;
 use std::io::Read;

@@ -24,7 +24,7 @@ use cv_base::NoMemory;
 use cv_desk::Desk;
 use cv_hub::{Hub, Identity};
 use cv_io::{Sink, WriteError};
-use cv_request::read_request;
+use cv_osv_text::read_request;
 use cv_serve_legal::ParsedLine;
 use std::alloc::Global;
 use std::sync::Wait;
