@@ -29,10 +29,10 @@ deb_names os path found = map-map key_name (deb_package os path) found
 pub apk_names : (os : Option OsName) (path : Path) (found : List ApkPackage) → map key_name (map (apk_package os path) found) ≡ map (λ p. p.origin) found
 apk_names os path found = map-map key_name (apk_package os path) found
 
-pub npm_names : (os : Option OsName) (path : Path) (found : List NpmPackage) → map key_name (map (npm_package os path) found) ≡ map (λ p. p.name) found
+npm_names : (os : Option OsName) (path : Path) (found : List NpmPackage) → map key_name (map (npm_package os path) found) ≡ map (λ p. p.name) found
 npm_names os path found = map-map key_name (npm_package os path) found
 
-pub pypi_names : (os : Option OsName) (path : Path) (found : List PypiPackage) → map key_name (map (pypi_package os path) found) ≡ map (λ p. p.source) found
+pypi_names : (os : Option OsName) (path : Path) (found : List PypiPackage) → map key_name (map (pypi_package os path) found) ≡ map (λ p. p.source) found
 pypi_names os path found = map-map key_name (pypi_package os path) found
 
 -- the system does not enter the names

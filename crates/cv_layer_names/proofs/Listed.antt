@@ -21,11 +21,12 @@ use Rattle.cv_facts.specs.declared.reduction.Reduction.{Reduction}
 use Rattle.cv_facts.specs.declared.reduction.Shape.{Shape}
 use Rattle.cv_facts.specs.declared.reduction.Shape.TheVariants.{BadTree, NoLayer, Reduced}
 use Rattle.cv_match.specs.Affects.{key_name}
+use Rattle.cv_match.specs.Findings.{text_cmp}
 use Rattle.cv_overlay.specs.declared.fault.ImageFault.{ImageFault}
 use Rattle.cv_packages.specs.Packages.{assembled, counted, is_etc_os, is_usr_os, system}
 use Rattle.cv_packages.specs.declared.error.FileFault.{FileFault}
 use Rattle.cv_packages.specs.declared.found.FileFound.{FileFound}
-use Rattle.cv_layer_names.specs.Names.{file_names, layer_names, some_layer_has, text_cmp}
+use Rattle.cv_layer_names.specs.Names.{file_names, layer_names, some_layer_has}
 use Rattle.cv_layer_names.proofs.FileNames.{names_of_all}
 
 -- the names of a layer are sorted, each once

@@ -1,10 +1,7 @@
 -- The names under which advisories have the packages of a layer's own package files, and what a layer may have of touched names
 -- (defined by this project). They do not depend on the system of the image, which gives a package its ecosystem alone.
 use Rattle.std.specs.Prelude.{ℕ, Bool, List, [], map, None, Result, Ok, Err, Some}
-use Rattle.std.specs.Cmp.Lexicographic.{slice_cmp}
 use Rattle.std.specs.List.{flat_map, list_any}
-use Rattle.std.specs.Ordering.{nat_cmp}
-use Rattle.std.specs.declared.cmp.Ordering.{Ordering}
 use Rattle.cv_base.specs.InOrder.{in_order}
 use Rattle.cv_base.specs.Texts.{has_text}
 use Rattle.cv_base.specs.declared.«package».Package.{Package}
@@ -12,14 +9,11 @@ use Rattle.cv_base.specs.declared.«package».PackageName.{PackageName}
 use Rattle.cv_facts.specs.declared.reduction.Shape.{Shape}
 use Rattle.cv_facts.specs.declared.reduction.Shape.TheVariants.{BadTree, NoLayer, Reduced}
 use Rattle.cv_match.specs.Affects.{key_name}
+use Rattle.cv_match.specs.Findings.{text_cmp}
 use Rattle.cv_match.specs.Keys.{is_key, keys_of}
 use Rattle.cv_packages.specs.Packages.{packages_in}
 use Rattle.cv_packages.specs.declared.error.FileFault.{FileFault}
 use Rattle.cv_packages.specs.declared.found.FileFound.{FileFound}
-
--- the order of texts, by bytes
-abbrev pub text_cmp : List ℕ → List ℕ → Ordering
-text_cmp = slice_cmp nat_cmp
 
 -- the names of packages, and none of a refused file
 abbrev pub names_in : Result (List Package) FileFault → List (List ℕ)

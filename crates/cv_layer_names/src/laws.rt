@@ -6,8 +6,9 @@ ghost use Rattle.cv_base.specs.declared.package.PackageName.{PackageName};
 ghost use Rattle.cv_coalesce.specs.Coalesced.{coalesced};
 ghost use Rattle.cv_coalesce.specs.declared.image.ImagePackages.TheVariants.{Good};
 ghost use Rattle.cv_facts.specs.declared.reduction.Shape.{Shape};
-ghost use Rattle.cv_layer_names.specs.Names.{has_key_of, has_name_of, layer_names, some_layer_has, text_cmp};
+ghost use Rattle.cv_layer_names.specs.Names.{has_key_of, has_name_of, layer_names, some_layer_has};
 ghost use Rattle.cv_match.specs.Affects.{key_name};
+ghost use Rattle.cv_match.specs.Findings.{text_cmp};
 ghost use Rattle.cv_match.specs.Keys.{keys_of};
 
 /// What the names of layers are good for. They are sorted, each once: `sorted`. Each package of an image has its name among
