@@ -2,9 +2,12 @@
 use Rattle.std.specs.Prelude.{◌≡◌, ℕ, true, false, List, [], ◌∷◌, Some, codes, refl}
 use Rattle.cv_base.specs.declared.advisory.Advisory.{Advisory}
 use Rattle.cv_base.specs.declared.advisory.Affected.{Affected}
+use Rattle.cv_base.specs.declared.«package».Package.{Package}
+use Rattle.cv_base.specs.declared.«package».PackageKind.TheVariants.{Deb}
 use Rattle.cv_base.specs.declared.«package».PackageName.{PackageName}
 use Rattle.cv_advdb.specs.Feeds.{FeedTable, by_id, is_full, listed_under, records_of, replaced}
-use Rattle.cv_advdb.specs.Touched.{has_name, records_under}
+use Rattle.cv_advdb.specs.Patch.{is_patched, patch_count, patched, patched_records}
+use Rattle.cv_advdb.specs.Touched.{has_name, is_touched, records_under}
 
 -- a name of a package
 abbrev named : List ℕ → PackageName
@@ -73,3 +76,45 @@ under_bash = refl
 -- names are compared whole
 has_whole_name : has_name (named (codes "curl")) (named (codes "curl3") ∷ []) ≡ false
 has_whole_name = refl
+
+-- a patch removes the record of one id, changes that of another and adds one; an id to remove that no record has is passed over
+removes_and_adds : patched_records (first ∷ second ∷ []) (changed ∷ tenth ∷ []) (codes "X-2" ∷ codes "Q" ∷ []) ≡ changed ∷ tenth ∷ []
+removes_and_adds = refl
+
+-- records of which it says nothing stay
+keeps_others : patched_records (first ∷ tenth ∷ []) (second ∷ []) (codes "X-10" ∷ []) ≡ first ∷ second ∷ []
+keeps_others = refl
+
+-- an id that is removed and has a new record has that one
+new_one_stays : patched_records (first ∷ []) (changed ∷ []) (codes "X-1" ∷ []) ≡ changed ∷ []
+new_one_stays = refl
+
+-- and so in a table of feeds, of which the others stay
+is_patched_there : patched one_feed (codes "deb") (second ∷ []) [] ≡ record { feeds = (codes "deb", first ∷ second ∷ []) ∷ []; limit = 1 }
+is_patched_there = refl
+
+-- records are counted after the patch: one of an id that stands takes the place of that one
+counts_after : (patch_count one_feed (codes "deb") (second ∷ []) [] ≡ 2) × (patch_count one_feed (codes "deb") (changed ∷ []) [] ≡ 1)
+counts_after = (refl, refl)
+
+-- a patch says something of the ids that it removes and of those of its records, and of no other
+says_of : (is_patched (first ∷ []) (codes "Q" ∷ []) (codes "Q") ≡ true) × (is_patched (first ∷ []) [] (codes "X-1") ≡ true) × (is_patched (first ∷ []) [] (codes "X") ≡ false)
+says_of = (refl, refl, refl)
+
+-- curl of Debian 12, which is of the source curl
+abbrev curl : Package
+curl = record {
+  kind = Deb;
+  path = [];
+  name = codes "libcurl4";
+  version = codes "8";
+  source = codes "curl";
+  source_version = codes "8";
+  arch = codes "amd64";
+  ecosystem = codes "Debian:12";
+}
+
+-- it is touched by the name of its source, with its whole ecosystem or the family of that
+touches_source : (is_touched (named (codes "curl") ∷ []) curl ≡ true) × (is_touched (record { ecosystem = codes "Debian"; name = codes "curl" } ∷ []) curl ≡ true)
+    × (is_touched (named (codes "libcurl4") ∷ []) curl ≡ false)
+touches_source = (refl, refl, refl)

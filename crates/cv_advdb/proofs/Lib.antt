@@ -5,6 +5,7 @@ pub mod IndexLemmas
 pub mod Merged
 pub mod NameLemmas
 pub mod Patched
+pub mod Searched
 pub mod SortedLists
 pub mod TouchedLemmas
 pub mod Walked

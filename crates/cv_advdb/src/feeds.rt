@@ -103,6 +103,7 @@ impl Feeds {
         ensures err { IfErr result (λ _. self.new ≡ self.old) }
         ensures untouched { IfOk result (λ touched. (p : Package) → is_touched touched.keys p ≡ false → found_in self.new.feeds p ≡ found_in self.old.feeds p) }
     {
+        self.sorted_law();
         let Some(stock) = self.feeds.get(feed) else {
             return Err(PatchError::NoFeed);
         };

@@ -23,19 +23,9 @@ fn has_name(names: &[PackageName], ecosystem: &str, name: &Text) -> bool
     requires { IsStrictlySortedBy name_cmp names.now }
     ensures { result ≡ has_name (record { ecosystem = ecosystem.now; name = name.now }) names.now }
 {
-    let mut among = names;
-    while !among.is_empty() {
-        let (lower, upper) = among.split_at(among.len() / 2);
-        let Some((middle, higher)) = upper.split_first() else {
-            return false;
-        };
-        match compare(middle, ecosystem, name) {
-            Ordering::Less => among = higher,
-            Ordering::Equal => return true,
-            Ordering::Greater => among = lower,
-        }
-    }
-    false
+    names
+        .binary_search_by(|one| compare(one, ecosystem, name))
+        .is_ok()
 }
 
 /// Compares a name with the one of these parts.

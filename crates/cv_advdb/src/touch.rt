@@ -1,5 +1,6 @@
 ghost use Rattle.std.specs.Prelude.{◌≡◌};
 ghost use Rattle.std.specs.List.Sorted.{IsStrictlySortedBy};
+ghost use Rattle.std.proofs.lemmas.Map.Keys.{IsStrictlySortedBy-prop};
 ghost use Rattle.cv_match.specs.Keys.{name_cmp};
 
 use cv_base::{PackageName, Seq};
@@ -9,5 +10,5 @@ use cv_base::{PackageName, Seq};
 #[derive(Debug, PartialEq, Eq, Drop)]
 pub struct Touched {
     pub keys: Seq<PackageName>,
-    ghost sorted: { IsStrictlySortedBy name_cmp keys },
+    ghost sorted: { IsStrictlySortedBy name_cmp keys } by { IsStrictlySortedBy-prop name_cmp keys },
 }

@@ -96,7 +96,7 @@ of_feeds p (feed ∷ feeds) = of_append p (flat_map (found p feed.0) feed.1) (fo
 -- What the findings of packages have at a key.
 
 -- findings that tie have packages that do
-packages_tie : (f g : Finding) → finding_cmp f g ≡ Equal → package_cmp f.«package» g.«package» ≡ Equal
+pub packages_tie : (f g : Finding) → finding_cmp f g ≡ Equal → package_cmp f.«package» g.«package» ≡ Equal
 packages_tie f g h = (then_equal (package_cmp f.«package» g.«package») (ordering_then (text_cmp f.feed g.feed) (text_cmp f.advisory g.advisory)) h).0
 
 -- a package has a finding at a key of its own alone
@@ -106,7 +106,7 @@ own_key p feeds q f h =
     ap (package_cmp q.«package») (sym both.1) ∙ packages_tie q f both.0
 
 -- at a key of a package, packages have what it has there alone, if it is one of them
-last_part : (p : Package) (feeds : Feeds) (q : Finding) → package_cmp p q.«package» ≡ Equal → (ps : List Package)
+pub last_part : (p : Package) (feeds : Feeds) (q : Finding) → package_cmp p q.«package» ≡ Equal → (ps : List Package)
     → last_at finding_cmp (flat_map (found_in feeds) ps) q ≡ cond (has_package p ps) (last_at finding_cmp (found_in feeds p) q) None
 last_part p feeds q h [] = refl
 last_part p feeds q h (x ∷ xs) =
