@@ -11,7 +11,7 @@ use Rattle.cv_advdb.specs.contracts.feeds.Feeds as feeds
 use Rattle.cv_advdb.specs.contracts.list.RecordList as list
 use Rattle.cv_advdb.specs.contracts.record.PreparedRecord as record_of
 use Rattle.cv_advdb.specs.contracts.record.StoredRecord as stored
-use Rattle.cv_advdb.specs.contracts.stock.IndexedRecords as indexed
+use Rattle.cv_advdb.specs.contracts.indexed.IndexedRecords as indexed
 use Rattle.cv_advdb.specs.contracts.stock.Stock as stock
 
 record_send : IsSend record_of.the_row

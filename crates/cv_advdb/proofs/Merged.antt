@@ -15,8 +15,6 @@ use Rattle.cv_base.proofs.InOrder.{after_lower, in_order_sorted}
 use Rattle.cv_base.proofs.Orders.{turned}
 use Rattle.cv_base.specs.declared.advisory.Advisory.{Advisory}
 use Rattle.cv_advdb.specs.Feeds.{by_id, id_cmp, id_total}
-use Rattle.cv_advdb.proofs.NameLemmas.{never_below}
-use Rattle.cv_advdb.proofs.Walked.{rest_sorted}
 
 -- a key is before all of these
 abbrev Below : {K : Type 0} → (K → K → Ordering) → K → List K → Type 0

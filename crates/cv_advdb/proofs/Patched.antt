@@ -1,21 +1,23 @@
 -- The records of a feed after a patch: which of them the patch has, and which names it touches.
-use Rattle.std.specs.Prelude.{◌≡◌, ℕ, Bool, true, false, not, cond, ◌||◌, List, [], ◌∷◌, ◌++◌, filter, map, refl}
+use Rattle.std.specs.Prelude.{◌≡◌, ℕ, ◌+◌, ◌<◌, Bool, true, false, not, cond, ◌||◌, List, [], ◌∷◌, ◌++◌, filter, get_or, length, map, take, Option, Some, unwrap_or, refl}
 use Rattle.std.specs.BTreeMap.{is_at}
 use Rattle.std.specs.BTreeSet.{insert_key}
 use Rattle.std.specs.Cmp.{IsTotalOrder}
 use Rattle.std.specs.Cmp.Lexicographic.{nat_list_cmp_total, texts_ties}
-use Rattle.std.specs.List.{AllByRecursion, list_any}
+use Rattle.std.specs.List.{AllByRecursion, AllZip, list_any}
 use Rattle.std.specs.List.Sorted.{IsStrictlySortedBy}
+use Rattle.std.specs.Map.{lookup}
 use Rattle.std.specs.Ordering.{is_eq, match_ordering}
 use Rattle.std.specs.declared.cmp.Ordering.{Ordering}
 use Rattle.std.specs.declared.cmp.Ordering.TheVariants.{Less, Equal, Greater}
 use Rattle.std.proofs.Common.{ap, inl, inr, subst, sym, ◌∙◌}
 use Rattle.std.proofs.lemmas.Cmp.{tied_itself}
-use Rattle.std.proofs.lemmas.List.{append-nil}
+use Rattle.std.proofs.lemmas.List.{append-nil, take_more}
 use Rattle.std.proofs.lemmas.List.Elements.{filter-append, filter_agree}
 use Rattle.std.proofs.lemmas.List.Folds.{list_any-append}
 use Rattle.std.proofs.lemmas.List.Kept.{IsStrictlySortedBy-filter}
 use Rattle.std.proofs.lemmas.Map.Lookups.{exact_bytes}
+use Rattle.std.proofs.Math.Bool.{or-false}
 use Rattle.cv_base.proofs.AllItems.{all_kept}
 use Rattle.cv_base.proofs.InOrder.{any_order, in_order_sorted}
 use Rattle.cv_base.specs.InOrder.{in_order}
@@ -23,13 +25,14 @@ use Rattle.cv_base.specs.Texts.{has_text, same}
 use Rattle.cv_base.specs.declared.advisory.Advisory.{Advisory}
 use Rattle.cv_base.specs.declared.«package».PackageName.{PackageName}
 use Rattle.cv_match.specs.Findings.{text_cmp}
-use Rattle.cv_match.specs.Keys.{is_named}
+use Rattle.cv_match.specs.Keys.{is_key, is_named, name_cmp}
 use Rattle.cv_advdb.specs.Feeds.{by_id, id_cmp, id_total}
 use Rattle.cv_advdb.specs.Patch.{is_patched, patched_records}
-use Rattle.cv_advdb.specs.Touched.{IsTouched, records_under}
-use Rattle.cv_advdb.specs.code.Changes.{has_id}
+use Rattle.cv_advdb.specs.Touched.{IsTouched, has_name, records_under}
+use Rattle.cv_advdb.specs.code.Changes.{IsChange, has_id, put_together}
+use Rattle.cv_advdb.specs.code.Index.{AreIndexed, found_under}
 use Rattle.cv_advdb.proofs.Merged.{filter_order, order_again, sorted_order}
-use Rattle.cv_advdb.proofs.NameLemmas.{turned_eq}
+use Rattle.cv_advdb.proofs.NameLemmas.{has_append, key_is, turned_eq}
 use Rattle.cv_advdb.proofs.SortedLists.{Has, filter_has, has_filter, sorted_same}
 
 -- ---- ids
@@ -116,10 +119,6 @@ by_parts {K} {cmp} o test xs ys s t e f = sorted_same o xs ys s t (one xs ys e f
     by_test false d = (filter_has (λ x. not (test x)) z rs (subst (Has z) h (has_filter (λ x. not (test x)) z ls (ap not d) m))).0
 
 -- ---- the records after a patch, by whether the patch has their ids
-
--- those of other ids and the new ones, of which each has one of these ids, in order
-abbrev pub put_together : List (List ℕ) → List Advisory → List Advisory → List Advisory
-put_together ids olds news = by_id (filter (λ a. not (has_id ids a)) olds ++ news)
 
 new_part : (ids : List (List ℕ)) (olds news : List Advisory) → IsStrictlySortedBy id_cmp news → AllPass (has_id ids) news
     → filter (has_id ids) (put_together ids olds news) ≡ news
@@ -226,3 +225,68 @@ news_have records remove ids e = all_by_id records (all_have records (λ a m. ap
 
 pub patched_sorted : (olds records : List Advisory) (remove : List (List ℕ)) → IsStrictlySortedBy id_cmp (patched_records olds records remove)
 patched_sorted olds records remove = in_order_sorted id_total (filter (λ a. not (is_patched records remove a.id)) olds ++ records)
+
+-- ---- a prepared patch
+
+pub change_touches : (olds news gone all before after : List Advisory) (ids : List (List ℕ)) (keys : List PackageName) → IsChange olds ids news gone all
+    → before ≡ gone → after ≡ news → IsTouched before after keys → IsTouched olds all keys
+change_touches olds news gone all before after ids keys c e f t =
+    subst (λ (rs : List Advisory). IsTouched olds rs keys) (sym c.all_is)
+    (touched_is ids olds news keys c.olds_sorted c.news_sorted c.own
+    (subst (λ (rs : List Advisory). IsTouched rs news keys) (e ∙ c.gone_is) (subst (λ (rs : List Advisory). IsTouched before rs keys) f t)))
+
+-- the lists under names, of which those that it touches are recomputed
+pub change_indexed : (olds news gone all : List Advisory) (ids : List (List ℕ)) (keys : List PackageName) (entries : List (PackageName × List Advisory))
+    → IsChange olds ids news gone all → IsTouched olds all keys
+    → ((key : PackageName) → found_under key entries ≡ cond (has_name key keys) (put_together ids (records_under key olds) (records_under key news)) (records_under key olds))
+    → AreIndexed all entries
+change_indexed olds news gone all ids keys entries c t h = record {
+  sorted = subst (IsStrictlySortedBy id_cmp) (sym c.all_is) (in_order_sorted id_total (filter (λ a. not (has_id ids a)) olds ++ news));
+  indexed = λ key. h key ∙ by_test key (has_name key keys) refl;
+} where
+  by_test : (key : PackageName) (b : Bool) → has_name key keys ≡ b
+      → cond b (put_together ids (records_under key olds) (records_under key news)) (records_under key olds) ≡ records_under key all
+  by_test key true e = under_is ids olds news key c.olds_sorted c.news_sorted c.own ∙ ap (records_under key) (sym c.all_is)
+  by_test key false e = t.untouched key e
+
+-- what a map has at a key after a list was put at a name
+pub put_at : (name key : PackageName) (olds news : List (PackageName × List Advisory)) (records : List Advisory)
+    → lookup (is_at (name_cmp key)) news ≡ cond (is_eq (name_cmp name key)) (Some records) (lookup (is_at (name_cmp key)) olds)
+    → found_under key news ≡ cond (is_key key (Some name)) records (found_under key olds)
+put_at name key olds news records h = ap (λ (o : Option (List Advisory)). unwrap_or o []) h ∙ by_test (is_key key (Some name)) where
+  by_test : (b : Bool) → unwrap_or (cond b (Some records) (lookup (is_at (name_cmp key)) olds)) [] ≡ cond b records (found_under key olds)
+  by_test true = refl
+  by_test false = refl
+
+-- one more name, under which the list was recomputed
+pub one_more_put : (olds news : List Advisory) (ids : List (List ℕ)) (k key : PackageName) (keys : List PackageName) (i : ℕ) (new now : List Advisory) → i < length keys
+    → key ≡ get_or keys i key
+    → new ≡ cond (is_key k (Some key)) (put_together ids (records_under key olds) (records_under key news)) now
+    → now ≡ cond (has_name k (take i keys)) (put_together ids (records_under k olds) (records_under k news)) (records_under k olds)
+    → new ≡ cond (has_name k (take (i + 1) keys)) (put_together ids (records_under k olds) (records_under k news)) (records_under k olds)
+one_more_put olds news ids k key keys i new now lt at n h =
+    n ∙ by_tests (is_key k (Some key)) (has_name k (take i keys)) refl h
+    ∙ ap (λ (b : Bool). cond b (put_together ids (records_under k olds) (records_under k news)) (records_under k olds)) (sym more)
+  where
+    more : has_name k (take (i + 1) keys) ≡ (has_name k (take i keys) || is_key k (Some key))
+    more =
+        ap (has_name k) (take_more keys i key lt)
+        ∙ has_append k (take i keys) (get_or keys i key ∷ [])
+        ∙ ap (λ (n : PackageName). has_name k (take i keys) || (is_key k (Some n) || false)) (sym at)
+        ∙ ap (λ (b : Bool). has_name k (take i keys) || b) (or-false (is_key k (Some key)))
+
+    by_tests : (b c : Bool) → is_key k (Some key) ≡ b → now ≡ cond c (put_together ids (records_under k olds) (records_under k news)) (records_under k olds)
+        → cond b (put_together ids (records_under key olds) (records_under key news)) now
+        ≡ cond (c || b) (put_together ids (records_under k olds) (records_under k news)) (records_under k olds)
+    by_tests true true e g = ap (λ (n : PackageName). put_together ids (records_under n olds) (records_under n news)) (key_is k key e)
+    by_tests true false e g = ap (λ (n : PackageName). put_together ids (records_under n olds) (records_under n news)) (key_is k key e)
+    by_tests false true e g = g
+    by_tests false false e g = g
+
+-- a copy of lists under names whose names and lists are the same
+pub same_entries : (Same : PackageName → PackageName → Type 0) → ((x y : PackageName) → Same x y → y ≡ x) → (ms ns : List (PackageName × List Advisory))
+    → AllZip (λ p q. Same p.0 q.0 × (q.1 ≡ p.1)) ms ns → ns ≡ ms
+same_entries Same eq [] [] h = refl
+same_entries Same eq [] (n ∷ ns) h = absurd h
+same_entries Same eq (m ∷ ms) [] h = absurd h
+same_entries Same eq (m ∷ ms) (n ∷ ns) h = λ i. (eq m.0 n.0 h.0.0 i, h.0.1 i) ∷ same_entries Same eq ms ns h.1 i

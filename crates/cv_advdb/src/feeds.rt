@@ -87,7 +87,9 @@ impl Feeds {
     /// Patches a feed: removes the records of some ids and those of which the patch has new ones of the same id, adds the new
     /// ones, and returns the keys under which a record was added, removed or changed. An id to remove of which there is no record
     /// is passed over, and one that has a new record has it afterwards. Of new records that have one id the last one stays.
-    /// `NoFeed` is tested first. `TooManyRecords` comes if the feed would have more than 200,000 records, and says how many.
+    /// `NoFeed` is tested first. `TooManyRecords` comes if the feed would have more than 200,000 records, and says how many. The
+    /// time is n log n in the patch and in what stands under the names that it touches, and that of copying a pointer for each
+    /// record of the feed; other feeds cost nothing.
     pub fn patch(
         &mut self,
         alloc: Global,
@@ -107,8 +109,7 @@ impl Feeds {
         let Some(stock) = self.feeds.get(feed) else {
             return Err(PatchError::NoFeed);
         };
-        let stock = stock.patched(alloc, records, remove)?;
-        let touched = self.touched_by(alloc, feed, &stock)?;
+        let (stock, touched) = stock.patched(alloc, records, remove)?;
         self.put_copied(feed, stock)?;
         Ok(touched)
     }

@@ -77,3 +77,16 @@ fn add_under(
     index.insert(name.clone()?, list)?;
     Ok(())
 }
+
+/// The records under a name in such a map, and none if it has no such name.
+pub fn list_under<'a>(
+    index: &'a BTreeMap<PackageName, RecordList>,
+    key: &PackageName,
+) -> &'a [StoredRecord]
+    ensures { result.now ≡ found_under key.now index.now.entries }
+{
+    match index.get(key) {
+        Some(list) => list.as_slice(),
+        None => &[],
+    }
+}

@@ -12,6 +12,7 @@ mod difference;
 mod error;
 mod feeds;
 mod index;
+mod indexed;
 mod laws;
 mod list;
 mod lookup;

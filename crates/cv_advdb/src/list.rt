@@ -2,7 +2,7 @@ ghost use Rattle.std.specs.Prelude.{◌≡◌, ◌++◌, ◌∷◌, [], OnOk};
 
 use crate::record::StoredRecord;
 use cv_base::NoMemory;
-use std::alloc::Global;
+use std::alloc::{AllocError, Global};
 use std::marker::Model;
 
 /// The records under one name. Contracts see them as a list.
@@ -30,6 +30,13 @@ impl RecordList {
         }
     }
 
+    /// A list of these records.
+    pub fn of(records: Vec<StoredRecord>) -> RecordList
+        ensures { result ≡ records.items }
+    {
+        RecordList { records }
+    }
+
     /// Appends a record.
     pub fn push(&mut self, stored: StoredRecord) -> Result<(), NoMemory>
         ensures { OnOk result (self.new ≡ self.old ++ stored ∷ []) }
@@ -43,5 +50,16 @@ impl RecordList {
         ensures { result.now ≡ self.now }
     {
         self.records.as_slice()
+    }
+}
+
+/// A clone shares the records with its source.
+impl Clone for RecordList {
+    ghost is_clone = { λ x y. y ≡ x };
+
+    fn clone(&self) -> Result<RecordList, AllocError> {
+        Ok(RecordList {
+            records: self.records.clone()?,
+        })
     }
 }

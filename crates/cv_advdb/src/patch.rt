@@ -3,13 +3,47 @@ ghost use Rattle.std.specs.List.Sorted.{IsStrictlySortedBy};
 ghost use Rattle.cv_base.specs.InOrder.{in_order};
 ghost use Rattle.cv_match.specs.Findings.{text_cmp};
 ghost use Rattle.cv_advdb.specs.Feeds.{by_id, id_cmp};
-ghost use Rattle.cv_advdb.specs.code.Changes.{has_id};
+ghost use Rattle.cv_advdb.specs.Patch.{patched_records};
+ghost use Rattle.cv_advdb.specs.code.Changes.{IsChange, has_id};
 
-use crate::record::StoredRecord;
-use cv_base::{Advisory, NoMemory, Text};
+use crate::record::{StoredRecord, in_id_order};
+use cv_base::{Advisory, NoMemory, Seq, Text};
 use std::alloc::Global;
 use std::cmp::Ordering;
 use std::collections::BTreeSet;
+
+/// A patch of some records, prepared: the ids of which it says something, its own records and the records that go, both in the
+/// order of their ids, and all records after it.
+#[derive(Drop)]
+pub struct Change {
+    pub ids: BTreeSet<Text>,
+    pub news: Vec<StoredRecord>,
+    pub gone: Vec<StoredRecord>,
+    pub all: Vec<StoredRecord>,
+}
+
+/// Prepares a patch of sorted records. The time is n log n in the patch, and linear in the records but for a search of each id.
+pub fn change_of(
+    alloc: Global,
+    olds: &[StoredRecord],
+    records: Seq<Advisory>,
+    remove: &[Text],
+) -> Result<Change, NoMemory>
+    requires { IsStrictlySortedBy id_cmp olds.now }
+    ensures change { IfOk result (λ change. IsChange olds.now change.ids.keys change.news.items change.gone.items change.all.items) }
+    ensures value { IfOk result (λ change. change.all.items ≡ patched_records olds.now records remove.now) }
+{
+    let ids = patch_ids(alloc, records.as_slice(), remove)?;
+    let news = in_id_order(alloc, records.into_vec())?;
+    let (others, gone) = split_by(alloc, olds, &ids)?;
+    let all = merge(alloc, &others, &news)?;
+    Ok(Change {
+        ids,
+        news,
+        gone,
+        all,
+    })
+}
 
 /// All ids of which a patch says something. The time is n log n in them.
 pub fn patch_ids(

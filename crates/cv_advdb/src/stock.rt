@@ -4,16 +4,17 @@ ghost use Rattle.cv_base.specs.declared.limits.TheConstants.{MAX_ADVISORIES};
 ghost use Rattle.cv_match.specs.Keys.{is_named};
 ghost use Rattle.cv_advdb.specs.Feeds.{by_id, id_cmp};
 ghost use Rattle.cv_advdb.specs.Patch.{CountsTooMany, patched_records};
+ghost use Rattle.cv_advdb.specs.Touched.{IsTouched};
+ghost use Rattle.cv_advdb.specs.code.Changes.{IsChange};
 ghost use Rattle.cv_advdb.specs.declared.error.PatchError.TheVariants.{NoFeed};
 
 use crate::error::PatchError;
-use crate::index::index_records;
-use crate::list::RecordList;
-use crate::patch::{merge, patch_ids, split_by};
+use crate::indexed::IndexedRecords;
+use crate::patch::{Change, change_of};
 use crate::record::{StoredRecord, in_id_order};
+use crate::touch::Touched;
 use cv_base::{Advisory, MAX_ADVISORIES, NoMemory, PackageName, Seq, Text};
 use std::alloc::{AllocError, Global};
-use std::collections::BTreeMap;
 use std::marker::Model;
 use std::sync::Arc;
 
@@ -33,51 +34,6 @@ impl Model for Stock {
     ghost view = { λ s. arc_value s.inner };
 }
 
-/// Records in the order of their ids, and those under each name.
-#[derive(Drop)]
-pub struct IndexedRecords {
-    records: Vec<StoredRecord>,
-    index: BTreeMap<PackageName, RecordList>,
-}
-
-impl Model for IndexedRecords {
-    ghost use Rattle.std.specs.Prelude.{List};
-    ghost use Rattle.cv_base.specs.declared.advisory.Advisory.{Advisory};
-    ghost use Rattle.cv_advdb.specs.code.Index.{AreIndexed};
-
-    ghost Value = { List Advisory };
-
-    ghost view = { λ s. s.records.items };
-
-    ghost invariant = { λ s. AreIndexed s.records.items s.index.entries };
-}
-
-impl IndexedRecords {
-    fn of(alloc: Global, records: Vec<StoredRecord>) -> Result<IndexedRecords, NoMemory>
-        requires { IsStrictlySortedBy id_cmp records.items }
-        ensures { IfOk result (λ indexed. indexed ≡ records.items) }
-    {
-        let index = index_records(alloc, &records)?;
-        Ok(IndexedRecords { records, index })
-    }
-
-    fn records(&self) -> &[StoredRecord]
-        ensures value { result.now ≡ self.now }
-        ensures sorted { IsStrictlySortedBy id_cmp self.now }
-    {
-        self.records.as_slice()
-    }
-
-    fn under(&self, key: &PackageName) -> &[StoredRecord]
-        ensures { result.now ≡ filter (is_named key.now) self.now }
-    {
-        match self.index.get(key) {
-            Some(list) => list.as_slice(),
-            None => &[],
-        }
-    }
-}
-
 impl Stock {
     /// Sorts, prepares and indexes the records of a feed.
     pub fn of(alloc: Global, records: Vec<Advisory>) -> Result<Stock, NoMemory>
@@ -87,41 +43,48 @@ impl Stock {
         Stock::sorted(alloc, sorted)
     }
 
-    /// The records after a patch, but not more than a feed may have.
+    /// The records after a patch, but not more than a feed may have, and the names under which other records stand then. The time
+    /// is n log n in what the patch has and what stands under these names, and that of copying a pointer for each record.
     pub fn patched(
         &self,
         alloc: Global,
         records: Seq<Advisory>,
         remove: &[Text],
-    ) -> Result<Stock, PatchError>
-        ensures value { IfOk result (λ stock. stock ≡ patched_records self.now records remove.now) }
+    ) -> Result<(Stock, Touched), PatchError>
+        ensures value { IfOk result (λ made. made.0 ≡ patched_records self.now records remove.now) }
+        ensures touched { IfOk result (λ made. IsTouched self.now (patched_records self.now records remove.now) made.1.keys) }
+        ensures sorted { IsStrictlySortedBy id_cmp self.now }
         ensures room { IfOk result (λ _. length (patched_records self.now records remove.now) ≤ MAX_ADVISORIES) }
         ensures too_many { IfErr result (CountsTooMany (length (patched_records self.now records remove.now))) }
         ensures stands { IfErr result (λ e. ¬ (e ≡ NoFeed)) }
     {
-        let all = self.merged(alloc, records, remove)?;
-        if all.len() > MAX_ADVISORIES {
+        let change = change_of(alloc, self.records(), records, remove)?;
+        if change.all.len() > MAX_ADVISORIES {
             return Err(PatchError::TooManyRecords {
-                would: all.len() as u64,
+                would: change.all.len() as u64,
             });
         }
-        Ok(Stock::sorted(alloc, all)?)
+        Ok(self.changed(alloc, change)?)
     }
 
-    /// The records after a patch, in the order of their ids.
-    fn merged(
-        &self,
-        alloc: Global,
-        records: Seq<Advisory>,
-        remove: &[Text],
-    ) -> Result<Vec<StoredRecord>, NoMemory>
-        ensures value { IfOk result (λ all. all.items ≡ patched_records self.now records remove.now) }
-        ensures sorted { IfOk result (λ all. IsStrictlySortedBy id_cmp all.items) }
+    /// The records after a change, and the names under which other records stand then.
+    fn changed(&self, alloc: Global, change: Change) -> Result<(Stock, Touched), NoMemory>
+        requires { IsChange self.now change.ids.keys change.news.items change.gone.items change.all.items }
+        ensures value { IfOk result (λ made. made.0 ≡ change.all.items) }
+        ensures touched { IfOk result (λ made. IsTouched self.now change.all.items made.1.keys) }
     {
-        let ids = patch_ids(alloc, records.as_slice(), remove)?;
-        let news = in_id_order(alloc, records.into_vec())?;
-        let (others, _) = split_by(alloc, self.records(), &ids)?;
-        merge(alloc, &others, &news)
+        let touched = self.inner.touched(alloc, &change)?;
+        let indexed = self.inner.changed(alloc, change, &touched)?;
+        let stock = Stock::indexed(alloc, indexed)?;
+        Ok((stock, touched))
+    }
+
+    fn indexed(alloc: Global, indexed: IndexedRecords) -> Result<Stock, NoMemory>
+        ensures { IfOk result (λ stock. stock ≡ indexed) }
+    {
+        Ok(Stock {
+            inner: Arc::new(alloc, indexed)?,
+        })
     }
 
     /// Indexes sorted records.
@@ -130,9 +93,7 @@ impl Stock {
         ensures { IfOk result (λ stock. stock ≡ records.items) }
     {
         let indexed = IndexedRecords::of(alloc, records)?;
-        Ok(Stock {
-            inner: Arc::new(alloc, indexed)?,
-        })
+        Stock::indexed(alloc, indexed)
     }
 
     /// The records, in the order of their ids.
