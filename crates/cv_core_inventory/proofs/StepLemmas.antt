@@ -123,20 +123,20 @@ counted_added tree r after k now hash image new state old count kept was all is 
     subst (λ (h : Holdings). count ≤ old + fresh_pairs (trees_of tree) (holding state h) (holding state (holdings_of after (feed_table h)))) was
     (subst (λ (a : Registrations). count ≤ old + fresh_pairs (trees_of tree) before (holding state (holdings_of a k.feeds)))
     (sym (is ∙ ap (λ (h : Holdings). with_image (registrations h) hash image) (sym was)))
-    (omega (arith, less, here, member_at_most (fresh_at (trees_of tree) before then) then.images hash image put, fresh_sum (trees_of tree) before then))) where
+    (omega (arith, less, here, member_at_most (fresh_at (trees_of tree) before later) later.images hash image put, fresh_sum (trees_of tree) before later))) where
       before : State
       before = holding state (holdings_of r k.feeds)
 
-      then : State
-      then = holding state (holdings_of (with_image r hash image) k.feeds)
+      later : State
+      later = holding state (holdings_of (with_image r hash image) k.feeds)
 
-      put : value_at then.images hash ≡ Some image
+      put : value_at later.images hash ≡ Some image
       put = value_put r.images hash image hash ∙ ap (λ b. cond b (Some image) (value_at r.images hash)) (same_self hash)
 
       absent : value_at r.images hash ≡ None
       absent = ap (λ (h : Holdings). value_at h.images hash) was ∙ none
 
-      here : outcome_pairs k.feeds.feeds (outcome_at k.facts k.feeds.feeds new) ≡ fresh_at (trees_of tree) before then (hash, image)
+      here : outcome_pairs k.feeds.feeds (outcome_at k.facts k.feeds.feeds new) ≡ fresh_at (trees_of tree) before later (hash, image)
       here =
           ap (λ (i : Image). outcome_pairs k.feeds.feeds (outcome_at k.facts k.feeds.feeds i)) same
           ∙ tries_are tree r.layers k.facts k.feeds.feeds image all kept.right
@@ -162,8 +162,8 @@ counted_entered tree r after k now known state old count kept was all right sort
     subst (λ (h : Holdings). count ≤ old + fresh_pairs (trees_of tree) (holding state h) (holding state (holdings_of after (feed_table h)))) was
     (subst (λ (a : Registrations). count ≤ old + fresh_pairs (trees_of tree) before (holding state (holdings_of a k.feeds)))
     (sym ((subst (λ (h : Holdings). HasEntered (registrations h) after known.digest) (sym was) enters).now))
-    (omega (arith, less, users_at_most tries (λ (e : List ℕ × Image). has_text e.1.layers layer) (fresh_at (trees_of tree) before then) r.images
-    (every (λ q image. tries q ≤ fresh_at (trees_of tree) before then (q, image)) r.images sorted one), fresh_sum (trees_of tree) before then))) where
+    (omega (arith, less, users_at_most tries (λ (e : List ℕ × Image). has_text e.1.layers layer) (fresh_at (trees_of tree) before later) r.images
+    (every (λ q image. tries q ≤ fresh_at (trees_of tree) before later (q, image)) r.images sorted one), fresh_sum (trees_of tree) before later))) where
       layer : List ℕ
       layer = known.digest
 
@@ -179,13 +179,13 @@ counted_entered tree r after k now known state old count kept was all right sort
       table : Layers
       table = with_value r.layers layer status.Indexed
 
-      then : State
-      then = holding state (holdings_of (record r { layers = table }) k.feeds)
+      later : State
+      later = holding state (holdings_of (record r { layers = table }) k.feeds)
 
       tries : List ℕ → ℕ
       tries = renew_pairs (outcome_at facts feeds) feeds r.images layer k.outcomes
 
-      one : (q : List ℕ) (image : Image) → value_at r.images q ≡ Some image → tries q ≤ fresh_at (trees_of tree) before then (q, image)
+      one : (q : List ℕ) (image : Image) → value_at r.images q ≡ Some image → tries q ≤ fresh_at (trees_of tree) before later (q, image)
       one q image found = let whole = is_tried in omega (arith, whole, by_waits (waits_for layer old_outcome) refl) where
         old_outcome : Outcome
         old_outcome = outcome_at k.facts feeds image
@@ -198,11 +198,11 @@ counted_entered tree r after k now known state old count kept was all right sort
         is_tried = λ i. cond (is_waiting layer (had i)) (pairs_of (outcome_at facts feeds) feeds (found i)) 0
 
         by_waits : (w : Bool) → waits_for layer old_outcome ≡ w
-            → cond w (outcome_pairs feeds (outcome_at facts feeds image)) 0 ≤ fresh_at (trees_of tree) before then (q, image)
+            → cond w (outcome_pairs feeds (outcome_at facts feeds image)) 0 ≤ fresh_at (trees_of tree) before later (q, image)
         by_waits true waits =
             let pending : is_complete r.layers (value_at r.images q) ≡ false =
             ap (is_complete r.layers) found ∙ ap is_none (sym (waiting_is tree r.layers k.facts feeds image kept.right)) ∙ waits_some layer old_outcome waits in
-            let here : outcome_pairs feeds (outcome_at facts feeds image) ≡ fresh_at (trees_of tree) before then (q, image) =
+            let here : outcome_pairs feeds (outcome_at facts feeds image) ≡ fresh_at (trees_of tree) before later (q, image) =
             tries_are tree table facts feeds image all (facts_entered tree r.layers k.facts layer known kept.right refl right)
             ∙ and_new (is_indexed table image.layers) (pair_count (packages_in (trees_of tree) image) feeds)
             ∙ (λ i. cond (is_indexed table image.layers && not (sym pending i)) (pair_count (packages_in (trees_of tree) image) feeds) 0) in
@@ -234,8 +234,10 @@ counted_update trees now state feed records old new full room = by_full (is_full
   feeds : Feeds
   feeds = with_value now.feeds feed (by_id records)
 
-  by_full : (b : Bool) → is_full (feed_table now) feed ≡ b
-      → CountsUpTo trees s (act.Update feed records) (cond b (s, reply.TooManyFeeds) (updated s feed feeds (rows_of trees s feeds))).0 old new
+  made : Bool → State × Reply
+  made b = cond b (s, reply.TooManyFeeds) (updated s feed feeds (rows_of trees s feeds))
+
+  by_full : (b : Bool) → is_full (feed_table now) feed ≡ b → CountsUpTo trees s (act.Update feed records) (made b).0 old new
   by_full true is keys touched = let less = full is in omega (arith, less)
   by_full false is keys touched =
       room keys (subst (λ (rs : List Advisory). IsTouched (records_of feed now.feeds) rs keys) (records_put now.feeds feed (by_id records)) touched)

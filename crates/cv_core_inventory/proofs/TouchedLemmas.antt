@@ -142,7 +142,8 @@ among_has : (keys : List (List ℕ)) (q : List ℕ) → is_among text_cmp keys q
 among_has [] q = refl
 among_has (k ∷ ks) q = λ i. (sym (nat_list_eq_equiv.symm k q ∙ texts_ties q k)) i || among_has ks q i
 
--- What holds of one image: the outcomes with those of these images recomputed by the touched keys are those with all recomputed, and so are the rows
+-- what holds of the outcome of one image and of its rows: those by the touched keys are those of matching all anew, and they stay
+-- where no package has such a key
 abbrev pub Again : Type 0
 Again = (facts : FactTable) (before after : Feeds) (touched : List PackageName) (image : Image) → AgreeOnUntouched touched before after
     → rematched_by touched after (outcome_at facts before image) ≡ outcome_at facts after image
@@ -156,10 +157,12 @@ Stays = (facts : FactTable) (before after : Feeds) (touched : List PackageName) 
     → has_touched touched (outcome_at facts before image) ≡ false
     → (outcome_at facts after image ≡ outcome_at facts before image) × (update_rows after hash (outcome_at facts before image) ≡ [])
 
+-- the outcomes with those of the images that name these layers recomputed by the touched keys are those with all recomputed, and so
+-- are the rows
 module _ (unlisted : Unlisted) (again_outcome : Again) (again_rows : AgainRows) (outcome_stays : Stays) (facts : FactTable) (images : Images) (before after : Feeds) (touched : List PackageName) (layers : List (List ℕ))
     (sorted : IsStrictlySortedBy text_cmp (keys_of images)) (untouched : AgreeOnUntouched touched before after)
     (named : (layer : List ℕ) → has_text layers layer ≡ list_any (λ (key : PackageName). has_name (value_at facts layer) key.name) touched) where
-  looked : List (List ℕ)
+  abbrev looked : List (List ℕ)
   looked = in_order text_cmp (flat_map (users_of images) layers)
 
   stays : (hash : List ℕ) (image : Image) → value_at images hash ≡ Some image → is_among text_cmp looked hash ≡ false

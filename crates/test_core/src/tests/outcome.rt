@@ -18,9 +18,10 @@ fn updated<L: Ledger>(blank: Blank, alloc: Global) -> Result<(u64, Vec<Row>), Fa
 {
     let mut steps = Steps::<L>::open(blank);
     let before = outcomes(alloc, &mut steps)?;
-    let feeds = flawed_feeds(alloc)?;
+    let (feeds, touched) = flawed_feeds(alloc)?;
     let mut rows = Vec::new(alloc);
-    let after = before.remake(alloc, &Rematch::<L>::new(&feeds), &mut rows, &mut steps)?;
+    let maker = Rematch::<L>::new(&feeds, &touched);
+    let after = before.remake(alloc, &maker, &mut rows, &mut steps)?;
     Ok((after.len(), rows))
 }
 

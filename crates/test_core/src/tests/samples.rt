@@ -1,5 +1,5 @@
 //! Outcomes of images whose layers are made in memory, and a feed that changes them.
-use cv_advdb::{AdvError, Feeds};
+use cv_advdb::{AdvError, Feeds, Touched};
 use cv_base::{Advisory, Digest, NoMemory, RangeKind, Seq, Steps, Text};
 use cv_core_outcome::{Outcome, outcome_of};
 use cv_facts::LayerFacts;
@@ -73,11 +73,11 @@ const FLAW: Flaw<'static> = Flaw {
     ranges: &[("0", Some("2"))],
 };
 
-/// One feed with the record of a flaw.
-pub fn flawed_feeds(alloc: Global) -> Result<Feeds, AdvError> {
+/// One feed with the record of a flaw, and the key that it touches.
+pub fn flawed_feeds(alloc: Global) -> Result<(Feeds, Touched), AdvError> {
     let mut feeds = Feeds::new(alloc, 1)?;
-    feeds.replace(alloc, Text::of(alloc, "deb")?, records(alloc)?)?;
-    Ok(feeds)
+    let touched = feeds.replace(alloc, Text::of(alloc, "deb")?, records(alloc)?)?;
+    Ok((feeds, touched))
 }
 
 fn records(alloc: Global) -> Result<Seq<Advisory>, NoMemory> {

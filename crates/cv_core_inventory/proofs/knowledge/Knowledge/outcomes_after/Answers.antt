@@ -1,11 +1,42 @@
-use Rattle.std.proofs.Common.{List, ℕ, ◌++◌, ap, ◌∙◌}
-use Rattle.cv_match.specs.Findings.{text_cmp}
+use Rattle.std.proofs.Common.{ℕ, List, ◌++◌, ap, ◌∙◌}
+use Rattle.std.specs.List.{flat_map, list_any}
+use Rattle.cv_base.specs.InOrder.{in_order}
 use Rattle.cv_base.specs.declared.finding.Row.{Row}
+use Rattle.cv_base.specs.declared.«package».PackageName.{PackageName}
+use Rattle.cv_match.specs.Findings.{text_cmp}
+use Rattle.cv_core_machine.specs.State.{value_at}
 use Rattle.cv_core_outcome.specs.Update.{rematch_pairs, rematched_by, rows_by}
-use Rattle.cv_tree.specs.Entries.{added_at, made_at, remade_entries, rows_of}
+use Rattle.cv_core_registry.specs.Registrations.{users_of}
+use Rattle.cv_tree.specs.Entries.{added_at, cost_at, costs_of, made_at, remade_entries, rows_of}
+use Rattle.cv_core_inventory.specs.code.Names.{has_name}
 use Rattle.cv_core_inventory.proofs.NamedLemmas.{order_sorted}
 use Rattle.cv_core_inventory.proofs.TouchedLemmas.{all_added, all_made, costs_within}
 use Rattle.cv_core_inventory.proofs.knowledge.Knowledge.outcomes_after.Goals as goal
 
 pub remake_at-requires : goal.remake_at-requires
 remake_at-requires g c = record { ascending = order_sorted c.deref-2.result.now _ (c.deref-2.ensures.value ∙ c.in_ok-images.ensures) }
+
+pub returns-clause-value : goal.returns-clause-value
+returns-clause-value g c =
+    let now = c.args.self.now in let images = c.args.registry.now.images in let laws = c.update_laws.ensures in
+    c.in_ok-outcomes.ensures.value
+    ∙ (λ i. remade_entries (made_at text_cmp c.deref-2.result.now (λ _. rematched_by (c.new.ensures.touched i).keys (c.new.ensures.feeds i).feeds)) now.outcomes)
+    ∙ all_made c.names_law.ensures.unlisted laws.again laws.again_rows laws.untouched now.facts images now.feeds.feeds c.args.feeds.now.feeds c.args.touched.now.keys
+    c.in_ok-layers.layers.items c.regular_law.ensures.images c.requires.untouched
+    (λ layer. c.in_ok-layers.ensures.named layer
+    ∙ ap (λ (ks : List PackageName). list_any (λ (key : PackageName). has_name (value_at now.facts layer) key.name) ks) c.as_slice-keys.ensures)
+    now.outcomes c.deref-2.result.now c.requires.made
+    (c.deref-2.ensures.value ∙ c.in_ok-images.ensures ∙ ap (λ (ls : List (List ℕ)). in_order text_cmp (flat_map (users_of images) ls)) c.deref.ensures.value)
+
+pub returns-clause-rows : goal.returns-clause-rows
+returns-clause-rows g c =
+    let now = c.args.self.now in let images = c.args.registry.now.images in let laws = c.update_laws.ensures in
+    c.in_ok-outcomes.ensures.rows
+    ∙ ap (λ (added : List Row). c.args.rows.now.items ++ added)
+    ((λ i. rows_of (added_at text_cmp c.deref-2.result.now (rows_by (c.new.ensures.touched i).keys (c.new.ensures.feeds i).feeds)) now.outcomes)
+    ∙ all_added c.names_law.ensures.unlisted laws.again laws.again_rows laws.untouched now.facts images now.feeds.feeds c.args.feeds.now.feeds c.args.touched.now.keys
+    c.in_ok-layers.layers.items c.regular_law.ensures.images c.requires.untouched
+    (λ layer. c.in_ok-layers.ensures.named layer
+    ∙ ap (λ (ks : List PackageName). list_any (λ (key : PackageName). has_name (value_at now.facts layer) key.name) ks) c.as_slice-keys.ensures)
+    now.outcomes c.deref-2.result.now c.requires.made
+    (c.deref-2.ensures.value ∙ c.in_ok-images.ensures ∙ ap (λ (ls : List (List ℕ)). in_order text_cmp (flat_map (users_of images) ls)) c.deref.ensures.value))
