@@ -1,6 +1,7 @@
 -- What serde_json makes of a tree, and how its members are found.
 use Rattle.std.specs.Prelude.{◌≡◌, ℕ, Bool, true, false, not, ◌||◌, cond, List, [], ◌∷◌, map, Option, Some, None, is_some, option_map, Ok, Err, refl}
 use Rattle.std.specs.Borrow.{Bor}
+use Rattle.std.specs.Option.{ok_or}
 use Rattle.std.specs.Str.{bytes_eq, is_utf8}
 use Rattle.std.specs.Cmp.Lexicographic.{bytes_decides}
 use Rattle.std.proofs.Common.{◌∙◌, sym, ap}
@@ -48,6 +49,18 @@ mutual
       let both = or_parts (has_bad_number j) (members_bad_number ms) h in
       rw (of_json_is j both.0) (of_members_is ms (put k (data_of j) found) both.1)
 
+-- one of the parts has such a number
+item_none : (j : json.Json) (js : json.Items) (bad : Bool) → has_bad_number j ≡ bad → (has_bad_number j ≡ true → of_json j ≡ None) → (items_bad_number js ≡ true → of_items js ≡ None)
+    → (bad || items_bad_number js) ≡ true → of_items (json.item j js) ≡ None
+item_none j js true e here later h = rw (here e) refl
+item_none j js false e here later h = rw (of_json_is j e, later h) refl
+
+member_none : (k : List ℕ) (j : json.Json) (ms : json.Members) (found : Members) (bad : Bool) → has_bad_number j ≡ bad → (has_bad_number j ≡ true → of_json j ≡ None)
+    → (members_bad_number ms ≡ true → of_members ms (put k (data_of j) found) ≡ None)
+    → (bad || members_bad_number ms) ≡ true → of_members (json.member k j ms) found ≡ None
+member_none k j ms found true e here later h = rw (here e) refl
+member_none k j ms found false e here later h = rw (of_json_is j e) (later h)
+
 -- serde_json has no value of a tree with a number that is out of range
 mutual
   pub of_json_none : (j : json.Json) → has_bad_number j ≡ true → of_json j ≡ None
@@ -60,20 +73,12 @@ mutual
 
   of_items_none : (js : json.Items) → items_bad_number js ≡ true → of_items js ≡ None
   of_items_none json.no_items h = absurd (cc)
-  of_items_none (json.item j js) h = item_none j js (has_bad_number j) refl h
-
-  item_none : (j : json.Json) (js : json.Items) (bad : Bool) → has_bad_number j ≡ bad → (bad || items_bad_number js) ≡ true → of_items (json.item j js) ≡ None
-  item_none j js true e h = rw (of_json_none j e) refl
-  item_none j js false e h = rw (of_json_is j e, of_items_none js h) refl
+  of_items_none (json.item j js) h = item_none j js (has_bad_number j) refl (λ e. of_json_none j e) (λ e. of_items_none js e) h
 
   of_members_none : (ms : json.Members) (found : Members) → members_bad_number ms ≡ true → of_members ms found ≡ None
   of_members_none json.no_members found h = absurd (cc)
-  of_members_none (json.member k j ms) found h = member_none k j ms found (has_bad_number j) refl h
-
-  member_none : (k : List ℕ) (j : json.Json) (ms : json.Members) (found : Members) (bad : Bool) → has_bad_number j ≡ bad → (bad || members_bad_number ms) ≡ true
-      → of_members (json.member k j ms) found ≡ None
-  member_none k j ms found true e h = rw (of_json_none j e) refl
-  member_none k j ms found false e h = rw (of_json_is j e) (of_members_none ms (put k (data_of j) found) h)
+  of_members_none (json.member k j ms) found h =
+      member_none k j ms found (has_bad_number j) refl (λ e. of_json_none j e) (λ e. of_members_none ms (put k (data_of j) found) e) h
 
 -- the last value of a key, or one that was found before
 abbrev found_or : Option json.Json → Option Data → Option Data
@@ -138,6 +143,14 @@ null_is (json.object ms) = refl
 pub items_are : {A : Type 0} (vs : List (Value A)) → items_of (map data_view vs) ≡ data_items (items_view vs)
 items_are [] = refl
 items_are (v ∷ vs) = ap (item (data_view v)) (items_are vs)
+
+some_found : {A E : Type 0} (o : Option A) (bad : E) (x : A) → ok_or o bad ≡ Ok x → o ≡ Some x
+some_found None bad x h = absurd (cc)
+some_found (Some y) bad x h = let same : y ≡ x = cc in ap Some same
+
+-- the tree of a line that is a text
+pub tree_found : (line text : List ℕ) (j : json.Json) → text ≡ line → ok_or (tree_of text) BadJson ≡ Ok j → tree_of line ≡ Some j
+tree_found line text j same h = ap tree_of (sym same) ∙ some_found (tree_of text) BadJson j h
 
 -- a line that is such a tree
 pub json_found : (line : List ℕ) (j : json.Json) → is_utf8 line ≡ true → tree_of line ≡ Some j → has_bad_number j ≡ false → json_or line ≡ Ok (data_of j)

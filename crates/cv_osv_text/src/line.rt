@@ -35,7 +35,7 @@ pub(crate) fn read_line(
 
 /// Reads a line as JSON, as `read_json` of cv_request does. The tree borrows from the line, or from `scratch` where a text has
 /// escapes. Its numbers are those that serde_json has in range.
-#[tactic(auto, using(cv_seq::proofs::Utf8::text_found, cv_seq::proofs::Utf8::none_found, crate::proofs::Data::json_found, crate::proofs::Data::json_number, crate::proofs::Data::json_none, crate::proofs::Data::json_bytes))]
+#[tactic(auto, using(crate::proofs::Data::json_none, crate::proofs::Data::json_bytes, cv_seq::proofs::Utf8::text_found, cv_seq::proofs::Utf8::none_found))]
 pub(crate) fn read_tree<'a>(
     alloc: Global,
     line: &'a [u8],
