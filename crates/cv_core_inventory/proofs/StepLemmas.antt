@@ -7,6 +7,7 @@ use Rattle.std.specs.Map.{keys_of}
 use Rattle.std.specs.Option.{is_none, option_map, unwrap_or}
 use Rattle.std.specs.Ordering.{is_eq}
 use Rattle.std.proofs.Common.{ap, arith, subst, sym, ◌∙◌}
+use Rattle.std.proofs.lemmas.List.Sums.{sum_by-cons}
 use Rattle.std.proofs.lemmas.Option.{same_Some}
 use Rattle.cv_advdb.specs.Feeds.{by_id, is_full, records_of}
 use Rattle.cv_advdb.specs.Touched.{IsTouched}
@@ -52,21 +53,21 @@ use Rattle.cv_core_inventory.proofs.TouchedLemmas.{every}
 
 sum_filter : {X : Type 0} (f : X → ℕ) (p : X → Bool) (xs : List X) → sum_by (λ x. cond (p x) (f x) 0) xs ≡ sum_by f (filter p xs)
 sum_filter f p [] = refl
-sum_filter f p (x ∷ xs) = by_test (p x) (sum_filter f p xs) where
+sum_filter f p (x ∷ xs) = sum_by-cons (λ x. cond (p x) (f x) 0) x xs ∙ by_test (p x) (sum_filter f p xs) where
   by_test : (b : Bool) → sum_by (λ x. cond (p x) (f x) 0) xs ≡ sum_by f (filter p xs)
       → cond b (f x) 0 + sum_by (λ x. cond (p x) (f x) 0) xs ≡ sum_by f (cond b (x ∷ filter p xs) (filter p xs))
-  by_test true h = ap (λ (n : ℕ). f x + n) h
-  by_test false h = h
+  by_test true h = ap (λ (n : ℕ). f x + n) h ∙ sym (sum_by-cons f x (filter p xs))
+  by_test false h = omega (arith, h)
 
 -- one entry is no more than all
 member_at_most : (c : (List ℕ × Image) → ℕ) (es : Images) (q : List ℕ) (image : Image) → value_at es q ≡ Some image → c (q, image) ≤ sum_by c es
 member_at_most c [] q image is = absurd (cc is)
 member_at_most c (e ∷ es) q image is = by_test (is_eq (text_cmp q e.0)) refl is (member_at_most c es q image) where
   by_test : (b : Bool) → is_eq (text_cmp q e.0) ≡ b → cond b (Some e.1) (value_at es q) ≡ Some image → (value_at es q ≡ Some image → c (q, image) ≤ sum_by c es)
-      → c (q, image) ≤ c e + sum_by c es
+      → c (q, image) ≤ sum_by c (e ∷ es)
   by_test true key found more =
-      let here : c (q, image) ≡ c e = λ i. c (same_is q e.0 (texts_ties q e.0 ∙ key) i, sym (same_Some e.1 image found) i) in omega (arith, here)
-  by_test false key found more = omega (arith, more found)
+      let here : c (q, image) ≡ c e = λ i. c (same_is q e.0 (texts_ties q e.0 ∙ key) i, sym (same_Some e.1 image found) i) in omega (arith, here, sum_by-cons c e es)
+  by_test false key found more = omega (arith, more found, sum_by-cons c e es)
 
 -- what some entries give by their keys is no more than what all are
 users_at_most : (f : List ℕ → ℕ) (p : (List ℕ × Image) → Bool) (c : (List ℕ × Image) → ℕ) (es : Images) → AllByRecursion (λ (e : List ℕ × Image). f e.0 ≤ c e) es
@@ -74,9 +75,9 @@ users_at_most : (f : List ℕ → ℕ) (p : (List ℕ × Image) → Bool) (c : (
 users_at_most f p c [] h = omega arith
 users_at_most f p c (e ∷ es) h = by_test (p e) (users_at_most f p c es h.1) where
   by_test : (b : Bool) → sum_by f (map (λ (x : List ℕ × Image). x.0) (filter p es)) ≤ sum_by c es
-      → sum_by f (map (λ (x : List ℕ × Image). x.0) (cond b (e ∷ filter p es) (filter p es))) ≤ c e + sum_by c es
-  by_test true rest = omega (arith, h.0, rest)
-  by_test false rest = omega (arith, rest)
+      → sum_by f (map (λ (x : List ℕ × Image). x.0) (cond b (e ∷ filter p es) (filter p es))) ≤ sum_by c (e ∷ es)
+  by_test true rest = omega (arith, h.0, rest, sum_by-cons c e es, sum_by-cons f e.0 (map (λ (x : List ℕ × Image). x.0) (filter p es)))
+  by_test false rest = omega (arith, rest, sum_by-cons c e es)
 
 -- ---- the tries of one image
 

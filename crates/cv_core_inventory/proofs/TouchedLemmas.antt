@@ -1,4 +1,4 @@
--- An update by the images that have a layer with a touched name: the outcomes and the rows are those of making all anew.
+-- An update by the images that have a layer with a touched name: the outcomes and the rows are those of recomputing all.
 use Rattle.std.specs.Prelude.{◌≡◌, ℕ, ◌+◌, ◌≤◌, Bool, true, false, ◌||◌, cond, List, [], ◌∷◌, ◌++◌, map, Option, Some, None, refl}
 use Rattle.std.specs.Cmp.Lexicographic.{nat_list_cmp_total, nat_list_eq_equiv, texts_ties}
 use Rattle.std.specs.List.{AllByRecursion, cons_option, flat_map, list_any}
@@ -142,7 +142,7 @@ among_has : (keys : List (List ℕ)) (q : List ℕ) → is_among text_cmp keys q
 among_has [] q = refl
 among_has (k ∷ ks) q = λ i. (sym (nat_list_eq_equiv.symm k q ∙ texts_ties q k)) i || among_has ks q i
 
--- what holds of the outcome of one image and of its rows: those by the touched keys are those of matching all anew, and they stay
+-- what holds of the outcome of one image and of its rows: those by the touched keys are those of matching all again, and they stay
 -- where no package has such a key
 abbrev pub Again : Type 0
 Again = (facts : FactTable) (before after : Feeds) (touched : List PackageName) (image : Image) → AgreeOnUntouched touched before after
