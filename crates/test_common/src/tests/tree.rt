@@ -1,4 +1,4 @@
-use cv_base::{Digest, NoMemory, Text};
+use cv_base::{Digest, NoMemory, PackageName, Text};
 use cv_tree::{Remake, Share, Shared, Tree};
 use std::alloc::Global;
 use std::test::Fail;
@@ -71,11 +71,37 @@ fn shared_values_stand_under_digests(rt: HostRuntime) -> Result<(), Fail> {
     Ok(())
 }
 
-/// Doubles the even values, and gives a row for each.
+/// The name of a package of Debian 12.
+fn debian_name(alloc: Global, name: &str) -> Result<PackageName, NoMemory> {
+    Ok(PackageName {
+        ecosystem: Text::of(alloc, "Debian:12")?,
+        name: Text::of(alloc, name)?,
+    })
+}
+
+#[test]
+fn names_of_packages_are_keys(rt: HostRuntime) -> Result<(), Fail> {
+    let openssl = debian_name(rt.alloc(), "openssl")?;
+    let zlib = debian_name(rt.alloc(), "zlib")?;
+    let one = Tree::new().set(rt.alloc(), zlib.share()?, 2)?;
+    let two = one.set(rt.alloc(), openssl.share()?, 1)?;
+    assert_eq!(rt;
+        (two.get(&openssl).copied(), two.get(&zlib).copied()),
+        (Some(1), Some(2))
+    );
+    assert!(rt; two.without(rt.alloc(), &openssl)?.get(&openssl).is_none());
+    assert_eq!(rt;
+        two.keys(rt.alloc())?.as_slice(),
+        [openssl, zlib].as_slice()
+    );
+    Ok(())
+}
+
+/// Doubles the even values, and gives the key of each as a row.
 struct Doubled;
 
-impl Remake<u64, u64> for Doubled {
-    type Row = u64;
+impl<K: Share + Drop> Remake<K, u64> for Doubled {
+    type Row = K;
 
     type Tally = u64;
 
@@ -92,12 +118,12 @@ impl Remake<u64, u64> for Doubled {
     fn remake(
         &self,
         _alloc: Global,
-        key: &u64,
+        key: &K,
         old: &u64,
-        rows: &mut Vec<u64>,
+        rows: &mut Vec<K>,
         tally: &mut u64,
     ) -> Result<Option<u64>, NoMemory> {
-        rows.push(*key)?;
+        rows.push(key.share()?)?;
         *tally = tally.saturating_add(1);
         if *old % 2 != 0 {
             return Ok(None);
@@ -121,5 +147,40 @@ fn values_are_made_anew(rt: HostRuntime) -> Result<(), Fail> {
     );
     assert_eq!(rt; rows.as_slice(), [1, 2, 3].as_slice());
     assert_eq!(rt; tally, 3);
+    Ok(())
+}
+
+/// Of the chosen keys, 2 and 20 have no value.
+#[test]
+fn values_are_made_anew_at_chosen_keys(rt: HostRuntime) -> Result<(), Fail> {
+    let tree = filled(rt.alloc(), &[1, 3, 5, 7, 9, 11, 13])?;
+    let mut rows = Vec::new(rt.alloc());
+    let mut tally = 0;
+    let keys = [2, 3, 9, 20];
+    let new = tree.remake_at(rt.alloc(), &keys, &Doubled, &mut rows, &mut tally)?;
+    for (key, want) in [(1, 2), (3, 8), (5, 6), (7, 8), (9, 20), (11, 12), (13, 14)] {
+        assert_eq!(rt; new.get(&key).copied(), Some(want), "at {key}");
+    }
+    assert_eq!(rt; rows.as_slice(), [3, 9].as_slice());
+    assert_eq!(rt; tally, 2);
+    Ok(())
+}
+
+#[test]
+fn values_are_made_anew_at_a_name(rt: HostRuntime) -> Result<(), Fail> {
+    let openssl = debian_name(rt.alloc(), "openssl")?;
+    let zlib = debian_name(rt.alloc(), "zlib")?;
+    let tree = Tree::new()
+        .set(rt.alloc(), openssl.share()?, 10)?
+        .set(rt.alloc(), zlib.share()?, 20)?;
+    let mut rows = Vec::new(rt.alloc());
+    let mut tally = 0;
+    let keys = [zlib.share()?];
+    let new = tree.remake_at(rt.alloc(), &keys, &Doubled, &mut rows, &mut tally)?;
+    assert_eq!(rt;
+        (new.get(&openssl).copied(), new.get(&zlib).copied()),
+        (Some(10), Some(40))
+    );
+    assert_eq!(rt; rows.as_slice(), [zlib].as_slice());
     Ok(())
 }
