@@ -1,11 +1,11 @@
 ghost use Rattle.std.specs.Prelude.{◌≡◌, ◌<◌};
 
-use cv_advdb::Feeds;
+use cv_advdb::{Feeds, Touched};
 use cv_base::{
     Advisory, Affected, Finding, NoMemory, Package, PackageName, Range, RangeKind, Seq, Steps,
     Text, Turn,
 };
-use cv_findings::match_all;
+use cv_findings::{any_touched, match_all, rematch};
 use std::alloc::Global;
 use std::marker::Brand;
 use std::sync::ledger::{Blank, Ledger};
@@ -112,5 +112,57 @@ fn named(alloc: Global, finding: &Finding) -> Result<String, NoMemory> {
 #[test]
 fn packages_are_matched_under_whole_and_short_ecosystems(rt: HostRuntime) -> Result<(), Fail> {
     assert_eq!(rt; findings(rt.alloc())?.as_str(), "curl b X-1\nzlib a X-2\n");
+    Ok(())
+}
+
+fn match_again<L: Ledger>(
+    blank: Blank,
+    alloc: Global,
+    packages: &[Package],
+    before: &[Finding],
+    feeds: &Feeds,
+    touched: &Touched,
+) -> Result<Seq<Finding>, NoMemory>
+    requires name { blank.name ≡ L.name }
+    requires parts { blank.parts ≡ L.parts }
+    requires has_parts { 0 < L.parts }
+{
+    let mut steps = Steps::<L>::open(blank);
+    rematch(alloc, packages, before, feeds, touched, &mut steps)
+}
+
+fn matched_again(
+    alloc: Global,
+    packages: &[Package],
+    before: &[Finding],
+    feeds: &Feeds,
+    touched: &Touched,
+) -> Result<Seq<Finding>, NoMemory> {
+    match_again::<Brand>(Blank::new(1), alloc, packages, before, feeds, touched)
+}
+
+/// The record about zlib goes, one about curl comes, and another one about curl stays in another feed.
+#[test]
+fn touched_packages_are_matched_again(rt: HostRuntime) -> Result<(), Fail> {
+    let alloc = rt.alloc();
+    let installed = vec![in alloc;
+        debian_package(alloc, "curl")?,
+        debian_package(alloc, "zlib")?,
+    ]?;
+    let mut feeds = feeds(alloc)?;
+    let before = matched(alloc, &installed, &feeds)?;
+    let another = record(alloc, "X-3", "curl", ("Debian:12", "Debian"))?;
+    let touched = feeds.replace(
+        alloc,
+        Text::of(alloc, "a")?,
+        Seq::of(vec![in alloc; another]?),
+    )?;
+    assert!(rt; any_touched(&touched, &installed));
+    let after = matched_again(alloc, &installed, before.as_slice(), &feeds, &touched)?;
+    let mut names = String::new(alloc);
+    for finding in after.as_slice() {
+        names.push_str(named(alloc, finding)?.as_str())?;
+    }
+    assert_eq!(rt; names.as_str(), "curl a X-3\ncurl b X-1\n");
     Ok(())
 }
