@@ -1,5 +1,5 @@
 -- The value of an entry has no number with a point and nests at most six deep.
-use Rattle.std.proofs.Common.{◌≡◌, ℕ, suc, ◌≤◌, Bool, true, false, List, [], ◌∷◌, map, Ordering, Less, Equal, Greater, refl, arith}
+use Rattle.std.proofs.Common.{◌≡◌, ℕ, ◌≤◌, Bool, true, false, List, [], ◌∷◌, map, Ordering, Less, Equal, Greater, refl, arith}
 use Rattle.std.proofs.lemmas.Bool.{or_parts}
 use Rattle.std.specs.Prelude.{codes, cond, Option, Some, None, is_some}
 use Rattle.std.specs.List.{list_any}

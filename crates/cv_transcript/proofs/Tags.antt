@@ -1,5 +1,5 @@
 -- The tag of the value of an entry is the entry's own.
-use Rattle.std.proofs.Common.{◌≡◌, ℕ, ◌==◌, Bool, true, false, List, [], ◌∷◌, Some, None, refl, sym, ap, ◌∙◌, true≢false, ◌≤◌, subst, arith}
+use Rattle.std.proofs.Common.{◌≡◌, ℕ, ◌==◌, Bool, true, false, List, Some, None, refl, sym, ap, ◌∙◌, true≢false, ◌≤◌, subst, arith}
 use Rattle.std.specs.Prelude.{codes, cond, Option, is_some, option_and_then, Result, Ok, Err, OnOk}
 use Rattle.std.specs.Cmp.Lexicographic.{pointwise, nat_list_eq_equiv}
 use Rattle.std.specs.List.{list_any}
@@ -12,7 +12,6 @@ use Rattle.cv_core_records.specs.declared.event.Act.{Act}
 use Rattle.cv_core_records.specs.declared.event.Act.TheVariants as act
 use Rattle.cv_core_records.specs.declared.event.By.{By}
 use Rattle.cv_core_records.specs.declared.event.By.TheVariants as by
-use Rattle.cv_core_records.specs.declared.event.EventEntry.{EventEntry}
 use Rattle.cv_core_records.specs.declared.read.Answer.{Answer}
 use Rattle.cv_core_records.specs.declared.read.Answer.TheVariants as answer
 use Rattle.cv_core_records.specs.declared.read.PageOutcome.{PageOutcome}
@@ -27,11 +26,11 @@ use Rattle.cv_request.specs.declared.error.RequestWhat.{RequestWhat}
 use Rattle.cv_transcript.specs.declared.entry.Entry.{Entry}
 use Rattle.cv_transcript.specs.declared.entry.Entry.TheVariants.{Refused, Event, Read}
 use Rattle.cv_transcript.specs.Entry.{entry_data, entry_json}
-use Rattle.cv_transcript.specs.Event.{act_name, event_data, put_by, put_details, put_reply, put_seals, put_subject}
+use Rattle.cv_transcript.specs.Event.{act_name, put_by, put_details, put_reply, put_seals, put_subject}
 use Rattle.cv_transcript.specs.Members.{put_number, put_text, seals_data}
 use Rattle.cv_transcript.specs.Read.{answer_members}
 use Rattle.cv_scan_output.specs.Refusal.{bad_request_data, refusal_data}
-use Rattle.cv_transcript.specs.Tag.{Tag, RefusedLine, LaneEvent, WorkerEvent, LaneRead, entry_tag, event_tag, is_no_memory_answer, is_no_memory_error, layer_of, tag_of, tag_of_json}
+use Rattle.cv_transcript.specs.Tag.{RefusedLine, LaneEvent, WorkerEvent, LaneRead, entry_tag, event_tag, is_no_memory_answer, is_no_memory_error, layer_of, tag_of, tag_of_json}
 use Rattle.cv_scan_output.proofs.Requests.{each_request}
 use Rattle.cv_transcript.proofs.Plain.{entry_plain}
 

@@ -9,10 +9,8 @@ use Rattle.cv_core_records.specs.declared.event.Act.{Act}
 use Rattle.cv_core_records.specs.declared.event.Act.TheVariants as act
 use Rattle.cv_core_records.specs.declared.event.By.{By}
 use Rattle.cv_core_records.specs.declared.event.By.TheVariants as by
-use Rattle.cv_core_records.specs.declared.event.EventEntry.{EventEntry}
 use Rattle.cv_core_records.specs.declared.read.Answer.{Answer}
 use Rattle.cv_core_records.specs.declared.read.Answer.TheVariants as answer
-use Rattle.cv_core_records.specs.declared.read.ReadEntry.{ReadEntry}
 use Rattle.cv_request.specs.declared.error.RequestError.{RequestError}
 use Rattle.cv_request.specs.declared.error.RequestError.TheVariants as error
 use Rattle.cv_transcript.specs.declared.entry.Entry.{Entry}
