@@ -22,8 +22,8 @@ const UPDATES: [(&str, u64); 3] = [
 
 const WORKER: u32 = 0;
 
-/// What is done: so many images are registered and indexed, one more image comes and goes so many times, and so many updates
-/// of each kind follow, of a feed with so many records.
+/// What is done: a number of images is registered and indexed, one more image comes and goes a number of times, and a number of updates
+/// of each kind follows, of a feed with a number of records.
 #[derive(Clone, Copy, Debug)]
 struct Plan {
     images: u64,
@@ -112,7 +112,7 @@ impl<L: Ledger> Session<'_, L> {
         self.update_all(plan)
     }
 
-    /// Registers and indexes the first image, makes so many notifications about it, and then updates the whole feed.
+    /// Registers and indexes the first image, makes this number of notifications about it, and then updates the whole feed.
     fn notify(&mut self, plan: Plan) -> Result<(), NoMemory> {
         self.fill(0..1)?;
         for _ in 0..plan.times {
@@ -135,7 +135,7 @@ impl<L: Ledger> Session<'_, L> {
         Ok(())
     }
 
-    /// The image of a number comes and goes so many times: with a new layer, and with layers that are indexed. Each time a
+    /// The image of a number comes and goes this number of times: with a new layer, and with layers that are indexed. Each time a
     /// notification is acknowledged.
     fn come_and_go(&mut self, image: u32, times: u64) -> Result<(), NoMemory> {
         let facts = image_facts(self.rt.alloc(), last_layer(image))?;
@@ -166,7 +166,7 @@ impl<L: Ledger> Session<'_, L> {
         self.apply("drop-indexed", Event::DropImage(hash(image)))
     }
 
-    /// Updates the feed so many times in each way. Each time a notification is acknowledged.
+    /// Updates the feed this number of times in each way. Each time a notification is acknowledged.
     fn update_all(&mut self, plan: Plan) -> Result<(), NoMemory> {
         for (name, every) in UPDATES {
             self.update("update-first", records(plan.records, every))?;

@@ -27,7 +27,7 @@ const LIMITS: Limits = Limits {
 
 const WORKER: u32 = 0;
 
-/// Does what the arguments say, `[IMAGES [TIMES]]`: the hub has so many images, and 1, 2, 4 and 8 threads do each kind of work so many
+/// Does what the arguments say, `[IMAGES [TIMES]]`: the hub has that number of images, and 1, 2, 4 and 8 threads do each kind of work that number of
 /// times in all. Prints each kind of work, the threads, how often all of them did it and, with arguments, how often in a second and the
 /// nanoseconds of processor time for one.
 pub fn report<W: Threads + Wait + Clock + CpuClock + Sync>(
@@ -55,7 +55,7 @@ fn print_speeds(rt: &HostRuntime, speeds: &[Speed], timed: bool) -> io::Result<(
 }
 
 /// Registers and indexes images at a hub, at least one and at most as many as there may be besides one for each seat. Then threads
-/// submit so many events in all, and look up so many reports.
+/// submit this number of events in all, and look up this number of reports.
 fn speeds_of<W: Threads + Wait + Clock + CpuClock + Sync>(
     rt: &W,
     alloc: Global,
@@ -100,7 +100,7 @@ fn measured<L: Identity + Send + Sync, W: Threads + Wait + Clock + CpuClock + Sy
     measure_all(rt, alloc, &hub, lanes.as_mut_slice(), images, times)
 }
 
-/// How fast each number of threads does each kind of work so many times in all.
+/// How fast each number of threads does each kind of work this number of times in all.
 fn measure_all<L: Identity + Send + Sync, W: Threads + Wait + Clock + CpuClock + Sync>(
     rt: &W,
     alloc: Global,
@@ -193,7 +193,7 @@ impl<L: Identity, W: Wait> Client<'_, L, W> {
     }
 }
 
-/// How fast so many threads do a task.
+/// How fast this number of threads does a task.
 fn speed<L: Identity + Send + Sync, W: Threads + Wait + Clock + CpuClock + Sync>(
     rt: &W,
     hub: &Hub<SampleDesk, L>,

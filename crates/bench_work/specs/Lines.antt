@@ -4,7 +4,7 @@ use Rattle.cv_io.specs.declared.line.LineError.{LineError}
 use Rattle.cv_io.specs.declared.line.LineError.TheVariants.{ReadFault, LineTooLong, InputTooLong, NoMemory}
 use Rattle.cv_io.specs.Lines.{Reading, Finished, LongLine, LongInput}
 
--- the reading came to the end of the input, and has so many lines
+-- the reading came to the end of the input, and has this number of lines
 pub record IsWholeCount (reading : Reading) (count : ℕ) : Type 0 where
   pub finished : reading.stop ≡ Finished
   pub lines : count ≡ length reading.lines

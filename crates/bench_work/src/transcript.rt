@@ -4,7 +4,7 @@ use cv_transcript::{Entry, entry_line};
 use std::alloc::Global;
 use test_data::{Installed, hash, last_layer, package};
 
-/// Makes so many lines of a transcript, of five entries in turn, and counts their bytes.
+/// Makes this number of lines of a transcript, of five entries in turn, and counts their bytes.
 pub fn entry_bytes(alloc: Global, count: u64) -> Result<u64, NoMemory> {
     let entries = entries(alloc)?;
     let mut bytes: u64 = 0;

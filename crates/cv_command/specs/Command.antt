@@ -57,7 +57,7 @@ module _ {A : Type 0} (first_of : List ℕ → Result A InputFault) (later : Lat
       × Appends before.written now.written [] × Lists first before.counts now.counts
 
   -- how the command ends: nothing is written and the desk was not used if the input could not be read, or is too long,
-  -- before a line is refused. More than 2 to the power of 36 bytes are never taken, and so many if the input is too long
+  -- before a line is refused. More than 2 to the power of 36 bytes are never taken, and exactly that number if the input is too long
   abbrev pub CommandEnds : World → World → Status → Type 0
   CommandEnds before now status.LineTooLong = IsRequestOf before.remaining TooLongLine × IsTakenWithin (2 ^ 36) before.remaining now.remaining × IsIdle before now
   CommandEnds before now status.InputTooLong = IsRequestOf before.remaining TooLongInput × IsTaken (2 ^ 36) before.remaining now.remaining × IsIdle before now

@@ -16,7 +16,7 @@ use std::mem;
 use std::sync::Wait;
 use std::sync::ledger::Book;
 
-/// The list of events under the lock, with the entries since the last taking and the ledger that counts the events.
+/// The list of events under the lock, with the entries since the last drain and the ledger that counts the events.
 pub struct EventList<D: Desk, L: Identity> {
     pub(crate) head: ListLength<L>,
     pub(crate) front: Prefix<D, L>,
@@ -114,7 +114,7 @@ impl<D: Desk, L: Identity> EventList<D, L> {
         self.front = next;
     }
 
-    /// The entries since the last taking, by all seats of the hub.
+    /// The entries since the last drain, by all seats of the hub.
     pub fn take(&mut self, seats: &mut [Seat<D, L>]) -> Vec<EventEntry>
         requires all { length seats.old ≡ L.parts }
         requires has_seats { 0 < length seats.old }

@@ -22,7 +22,7 @@ use std::sync::{Mutex, Wait};
 /// How many events a hub applies at most: their numbers have 64 bits.
 const MOST_EVENTS: u64 = 1 << 63;
 
-/// A core that threads share, with the one list of its events. Contracts see the list up to the last taking.
+/// A core that threads share, with the one list of its events. Contracts see the list up to the last drain.
 pub struct Hub<D: Desk, L: Identity> {
     locked: Mutex<Option<Locked<D, L>>>,
     taken: Prefix<D, L>,
@@ -48,7 +48,7 @@ impl<D: Desk, L: Identity> Model for Hub<D, L> {
 }
 
 impl<D: Desk + Drop, L: Identity> Hub<D, L> {
-    /// A hub of a core that has applied no event, with so many seats.
+    /// A hub of a core that has applied no event, with this number of seats.
     pub fn start(
         alloc: Global,
         blank: Blank,
@@ -80,7 +80,7 @@ impl<D: Desk + Drop, L: Identity> Hub<D, L> {
     }
 
     /// Applies an event that a seat submits for a lane or a worker. The receipt has its number in the list, the machine's reply there
-    /// and a note of the list up to it, which the seat has then seen. If memory runs out, the event is spent, the seat is as before, and
+    /// and a note of the list up to it, which the seat has then seen. If memory runs out, the event is consumed, the seat is as before, and
     /// the list has no event of this call, as the next taking shows. It waits for the lock, and if 2^63 events were applied it does not
     /// return.
     pub fn submit<W: Wait>(
@@ -121,7 +121,7 @@ impl<D: Desk + Drop, L: Identity> Hub<D, L> {
     }
 
     /// The layers that are queued after exactly the events that were taken, in ascending order. It waits for the lock, and if an event
-    /// came after the last taking it does not return.
+    /// came after the last drain it does not return.
     pub fn queued<W: Wait>(&self, rt: &W, alloc: Global) -> Result<Seq<Digest>, NoMemory>
         ensures { StatesEveryLayer D.tree → IfOk result (λ layers. layers ≡ queued (state_of (trees_of D.tree) L.limits self.now).layers) }
     {
@@ -134,7 +134,7 @@ impl<D: Desk + Drop, L: Identity> Hub<D, L> {
         unreachable!()
     }
 
-    /// The entries of the events since the last taking, in order, by all seats of the hub: up to a number that is at least what any of
+    /// The entries of the events since the last drain, in order, by all seats of the hub: up to a number that is at least what any of
     /// them has seen. The seats stay as they are. It takes no memory, and waits for the lock.
     pub fn take_events<W: Wait>(&mut self, rt: &W, seats: &mut [Seat<D, L>]) -> Vec<EventEntry>
         requires all { length seats.old ≡ L.parts }
@@ -158,7 +158,7 @@ impl<D: Desk + Drop, L: Identity> Hub<D, L> {
         let _ = (self, seats);
     }
 
-    /// The list with the entries since the last taking.
+    /// The list with the entries since the last drain.
     fn take<W: Wait>(&self, rt: &W, seats: &mut [Seat<D, L>]) -> (Prefix<D, L>, Vec<EventEntry>)
         requires all { length seats.old ≡ L.parts }
         requires has_seats { 0 < length seats.old }

@@ -89,7 +89,7 @@ impl<D: Desk + Drop, L: Identity> Locked<D, L> {
         self.events.taken
     }
 
-    /// Applies an event of a seat. If memory runs out, the event is spent, and all else is as before.
+    /// Applies an event of a seat. If memory runs out, the event is consumed, and all else is as before.
     pub fn submit<W: Wait>(
         mut self,
         rt: &W,
@@ -120,7 +120,7 @@ impl<D: Desk + Drop, L: Identity> Locked<D, L> {
         }
     }
 
-    /// The entries since the last taking, by all seats of the hub.
+    /// The entries since the last drain, by all seats of the hub.
     pub fn take(self, seats: &mut [Seat<D, L>]) -> (Locked<D, L>, Vec<EventEntry>)
         requires all { length seats.old ≡ L.parts }
         requires has_seats { 0 < length seats.old }

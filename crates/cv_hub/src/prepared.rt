@@ -24,7 +24,7 @@ pub struct PreparedEvent<D: Desk> {
 }
 
 impl<D: Desk + Drop> PreparedEvent<D> {
-    /// Plans an event for a core. If memory runs out, the event is spent and the core comes back as it was.
+    /// Plans an event for a core. If memory runs out, the event is consumed and the core comes back as it was.
     pub fn of(
         alloc: Global,
         core: Core<D>,

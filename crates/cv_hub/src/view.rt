@@ -112,7 +112,7 @@ impl<'a, D: Desk + Drop, L: Identity> View<'a, D, L> {
         &self.front
     }
 
-    /// Applies an event of a seat. If memory runs out, the event is spent, and all else is as before.
+    /// Applies an event of a seat. If memory runs out, the event is consumed, and all else is as before.
     pub fn submit<W: Wait>(
         &mut self,
         rt: &W,
@@ -136,7 +136,7 @@ impl<'a, D: Desk + Drop, L: Identity> View<'a, D, L> {
         result
     }
 
-    /// The entries since the last taking, by all seats of the hub, if so many events were taken before.
+    /// The entries since the last drain, by all seats of the hub, if this number of events was taken before.
     pub fn take(&mut self, taken: u64, seats: &mut [Seat<D, L>]) -> Option<Vec<EventEntry>>
         requires all { length seats.old ≡ L.parts }
         requires has_seats { 0 < length seats.old }

@@ -37,7 +37,7 @@ pub struct Parts<D: Desk, L: Identity> {
 }
 
 impl Blank {
-    /// One for a hub with so many seats. It takes no memory.
+    /// One for a hub with this number of seats. It takes no memory.
     pub fn new(seats: u64) -> Blank
         ensures { result.parts ≡ seats }
     {

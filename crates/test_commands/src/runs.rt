@@ -26,8 +26,8 @@ pub fn runs_to<R: Threads + Wait + Sync>(
     is_ended(alloc, &ended, status, text)
 }
 
-/// Runs the program over two desks, each of which waits at each listing until so many of them have begun. Returns how it ended, what
-/// it printed, and whether each desk listed a layer and saw so many.
+/// Runs the program over two desks, each of which waits at each listing until this number of them has begun. Returns how it ended, what
+/// it printed, and whether each desk listed a layer and saw that number.
 pub fn run_by_two<R: Threads + Wait + Sync>(
     rt: &R,
     alloc: Global,

@@ -18,7 +18,7 @@ impl Cost {
     }
 }
 
-/// Adds work of a kind that began at a time, ends now, and made so many rows.
+/// Adds work of a kind that began at a time, ends now, and made this number of rows.
 pub fn add<R: CpuClock>(
     rt: &R,
     kinds: &mut Vec<Cost>,

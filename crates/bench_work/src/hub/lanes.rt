@@ -9,12 +9,12 @@ use std::sync::Wait;
 use std::thread::{self, Threads};
 use test_data::{SampleDesk, hash};
 
-/// What a lane does so many times.
+/// What a lane does, and how often.
 #[derive(Clone, Copy, Debug, PartialEq, Eq)]
 pub enum Work {
     /// Submits an event: its worker claims the lane's layer, or gives it back.
     Submit,
-    /// Takes a view, and looks up the report of one of the images, of which there are so many.
+    /// Takes a view, and looks up the report of one of the images, of which this is the number.
     Report { images: u32 },
 }
 
@@ -28,7 +28,7 @@ impl Work {
     }
 }
 
-/// What all lanes do, each so many times.
+/// What all lanes do, each this number of times.
 #[derive(Clone, Copy, Debug)]
 pub struct Task {
     pub alloc: Global,

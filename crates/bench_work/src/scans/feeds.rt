@@ -8,7 +8,7 @@ use std::marker::Brand;
 use std::sync::ledger::{Blank, Ledger};
 use test_data::{FeedRecords, Installed, numbered, package};
 
-/// Makes so many records so many times, and counts the last ones.
+/// Makes a number of records a number of times, and counts the last ones.
 pub fn make_records(alloc: Global, count: u64, times: u64) -> Result<u64, NoMemory> {
     let sample = records(count, 0);
     let mut made = 0;
@@ -18,7 +18,7 @@ pub fn make_records(alloc: Global, count: u64, times: u64) -> Result<u64, NoMemo
     Ok(made)
 }
 
-/// Makes a feed of so many records, and then makes and replaces its records so many times. One of `every` new records differs from
+/// Makes a feed of a number of records, and then makes and replaces its records a number of times. One of `every` new records differs from
 /// the one before, and none if that is 0. Counts the keys that the last replacement touched.
 pub fn replace_records(alloc: Global, count: u64, every: u64, times: u64) -> Result<u64, NoMemory> {
     let sample = records(count, every);
@@ -30,7 +30,7 @@ pub fn replace_records(alloc: Global, count: u64, every: u64, times: u64) -> Res
     Ok(keys)
 }
 
-/// Matches so many packages so many times with a feed of so many records, and counts the findings of the last time.
+/// Matches a number of packages a number of times with a feed of a number of records, and counts the findings of the last time.
 pub fn match_packages(
     alloc: Global,
     count: u64,

@@ -8,7 +8,7 @@ use std::marker::Brand;
 use std::sync::ledger::{Blank, Ledger};
 use test_data::{Flaw, Installed, advisory, package};
 
-/// Prepares the record of a sample so many times, and then asks so many times whether it affects the package. Counts how often it
+/// Prepares the record of a sample this number of times, and then asks as often whether it affects the package. Counts how often it
 /// does.
 pub fn match_record(alloc: Global, sample: &Sample, pairs: u64, times: u64) -> Result<u64, NoMemory>
     ensures { IfOk result (λ hits. hits ≤ pairs) }

@@ -43,8 +43,8 @@ const ALPINE: [&str; 8] = [
     "3.2.1-r1",
 ];
 
-/// Compares so many pairs, and counts those whose first version is less. They are of usual versions, or of two versions that have
-/// so many bytes and differ in the last one, where a length is given.
+/// Compares this number of pairs, and counts those whose first version is less. They are of usual versions, or of two versions that have
+/// the given number of bytes and differ in the last one, where a length is given.
 pub fn compare_pairs(alloc: Global, order: Order, pairs: u64, length: u64) -> Result<u64, NoMemory>
     ensures { IfOk result (λ less. less ≤ pairs) }
 {

@@ -10,7 +10,7 @@ const FOLDER: u32 = 100;
 /// How far the names of files move from one layer to the next.
 const STEP: u64 = 13;
 
-/// Lays ten layers of so many entries on each other, and counts the entries of the root. Of each layer's entries so many are
+/// Lays ten layers of this number of entries on each other, and counts the entries of the root. Of each layer's entries that number is
 /// whiteouts of files of the layer below.
 pub fn lay_layers(alloc: Global, entries: u64, whiteouts: u64) -> Result<u64, NoMemory> {
     let entries = u32::try_from(entries).unwrap_or(u32::MAX);

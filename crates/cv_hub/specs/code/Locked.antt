@@ -19,7 +19,7 @@ pub record EventListView : Type 0 where
   pub taken : ℕ
   pub room : ℕ
 
--- the entries since the last taking are those of the events, and the ledger counts all events
+-- the entries since the last drain are those of the events, and the ledger counts all events
 pub record IsListed (list : List Submission) (taken : ℕ) (entries : List EventEntry) (total : ℕ) : Type 0 where
   pub entries_are : entries ≡ entries_from (taken + 1) (drop taken list)
   pub taken_before : taken ≤ length list

@@ -2,7 +2,7 @@
 use Rattle.std.specs.Prelude.{◌≡◌, ℕ, ◌+◌, ◌≤◌, ◌^◌, List, Option, length}
 use Rattle.std.specs.Io.KnownBytes.{Consumes}
 
--- the first bytes were taken, and the reader then took so many
+-- the first bytes were taken, and the reader then took this number
 pub record IsTakenTo (was is : ℕ) (before now : Option (List ℕ)) : Type 0 where
   pub bytes : List ℕ
   pub front : Consumes before now bytes

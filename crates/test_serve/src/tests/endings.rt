@@ -50,7 +50,7 @@ impl Source for TextThen {
     }
 }
 
-/// A sink with memory for so many writes.
+/// A sink with memory for this number of writes.
 #[derive(Drop)]
 struct Scarce {
     sink: CalmSink,
@@ -82,7 +82,7 @@ impl Table for NoLayer {
     }
 }
 
-/// Serves two rounds, and then what follows them, over a sink with memory for so many writes. Whether the service ends so, and wrote
+/// Serves two rounds, and then what follows them, over a sink with memory for this number of writes. Whether the service ends so, and wrote
 /// the first round alone.
 fn ends_after_a_round<W: Threads + Wait + Sync>(
     rt: &W,

@@ -8,7 +8,7 @@ use std::thread::yield_now;
 const TURNS: u32 = 10_000_000;
 
 /// A team whose parts wait for each other: each raises the count of those that have begun, and takes turns until it is the goal. A part
-/// is whether it saw so many.
+/// is whether it saw that number.
 #[derive(Drop)]
 struct Meeting {
     begun: AtomicU64,
