@@ -57,10 +57,11 @@ costs_within keys f es old new h = omega (arith, h, costs_at_most keys f es)
 -- what one of these items gives, all give
 flat_gives : (f : List ℕ → List (List ℕ)) (xs : List (List ℕ)) (x q : List ℕ) → has_text xs x ≡ true → has_text (f x) q ≡ true → has_text (flat_map f xs) q ≡ true
 flat_gives f [] x q h g = absurd (cc h)
-flat_gives f (y ∷ ys) x q h g = list_any-append (λ (other : List ℕ). same other q) (f y) (flat_map f ys) ∙ by_test (same y x) refl h where
-  by_test : (b : Bool) → same y x ≡ b → (b || has_text ys x) ≡ true → (has_text (f y) q || has_text (flat_map f ys) q) ≡ true
-  by_test true key more = or_left (has_text (f y) q) (has_text (flat_map f ys) q) (ap (λ (k : List ℕ). has_text (f k) q) (same_is y x key) ∙ g)
-  by_test false key more = or_right (has_text (f y) q) (has_text (flat_map f ys) q) (flat_gives f ys x q more g)
+flat_gives f (y ∷ ys) x q h g = list_any-append (λ (other : List ℕ). same other q) (f y) (flat_map f ys) ∙ by_test (same y x) refl h (λ more. flat_gives f ys x q more g) where
+  by_test : (b : Bool) → same y x ≡ b → (b || has_text ys x) ≡ true → (has_text ys x ≡ true → has_text (flat_map f ys) q ≡ true)
+      → (has_text (f y) q || has_text (flat_map f ys) q) ≡ true
+  by_test true key more rest = or_left (has_text (f y) q) (has_text (flat_map f ys) q) (ap (λ (k : List ℕ). has_text (f k) q) (same_is y x key) ∙ g)
+  by_test false key more rest = or_right (has_text (f y) q) (has_text (flat_map f ys) q) (rest more)
 
 -- a layer of such an image is none of these layers
 layer_out : (images : Images) (layers : List (List ℕ)) (hash : List ℕ) (image : Image) → value_at images hash ≡ Some image

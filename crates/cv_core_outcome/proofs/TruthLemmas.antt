@@ -2,7 +2,7 @@
 use Rattle.std.specs.Prelude.{◌≡◌, ℕ, ◌+◌, not, cond, List, [], ◌∷◌, ◌++◌, filter, map, Option, Some, None, IsSome, Result, Ok, Err, refl}
 use Rattle.std.specs.List.{cons_option, flat_map, sum_by}
 use Rattle.std.specs.Option.{is_none, is_some, unwrap_or}
-use Rattle.std.proofs.Common.{ap, sym, ◌∙◌}
+use Rattle.std.proofs.Common.{ap, arith, sym, ◌∙◌}
 use Rattle.std.proofs.lemmas.List.Sums.{sum_by-cons}
 use Rattle.cv_base.specs.declared.finding.Row.{Row}
 use Rattle.cv_base.specs.declared.«package».Package.{Package}
@@ -182,7 +182,7 @@ pairs_more : (first : Option (List ℕ)) (image : List ℕ × Image) (others : I
     (found : Result (List Package) ImageFault) (rest : ℕ)
     → pairs image ≡ pair_count (touched_packages touched (packages_or_none found)) after → rest ≡ sum_by pairs others
     → rematch_pairs touched after (outcome_by first before (answer_of found)) + rest ≡ sum_by pairs (cond (is_none first) (image ∷ others) others)
-pairs_more (Some l) image others pairs before after touched found rest e h = h
+pairs_more (Some l) image others pairs before after touched found rest e h = omega (arith, h)
 pairs_more None image others pairs before after touched (Ok ps) rest e h = (λ i. sym e i + h i) ∙ sym (sum_by-cons pairs image others)
 pairs_more None image others pairs before after touched (Err bad) rest e h = (λ i. sym e i + h i) ∙ sym (sum_by-cons pairs image others)
 

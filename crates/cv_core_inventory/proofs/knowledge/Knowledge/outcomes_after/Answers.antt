@@ -14,7 +14,7 @@ use Rattle.cv_core_inventory.proofs.TouchedLemmas.{all_added, all_made, costs_wi
 use Rattle.cv_core_inventory.proofs.knowledge.Knowledge.outcomes_after.Goals as goal
 
 pub remake_at-requires : goal.remake_at-requires
-remake_at-requires g c = record { ascending = order_sorted c.deref-2.result.now _ (c.deref-2.ensures.value ∙ c.in_ok-images.ensures) }
+remake_at-requires g c = record { ascending = order_sorted c.deref-2.result.now (flat_map (users_of c.args.registry.now.images) c.deref.result.now) (c.deref-2.ensures.value ∙ c.in_ok-images.ensures) }
 
 pub returns-clause-value : goal.returns-clause-value
 returns-clause-value g c =
