@@ -143,7 +143,7 @@ counted_added tree r after k now hash image new state old count kept was all is 
           ∙ tries_are tree r.layers k.facts k.feeds.feeds image all kept.right
           ∙ and_new (is_indexed r.layers image.layers) (pair_count (packages_in (trees_of tree) image) k.feeds.feeds)
           ∙ (λ i. cond (is_none (first_alike r.layers (entered r.layers image.layers) image.layers (λ q. sym (entered_indexed r.layers image.layers q)) i)
-            && not (is_complete r.layers (sym absent i))) (pair_count (packages_in (trees_of tree) image) k.feeds.feeds) 0)
+          && not (is_complete r.layers (sym absent i))) (pair_count (packages_in (trees_of tree) image) k.feeds.feeds) 0)
 
 -- ---- Indexed
 
@@ -163,8 +163,13 @@ counted_entered tree r after k now known state old count kept was all right sort
     subst (λ (h : Holdings). count ≤ old + fresh_pairs (trees_of tree) (holding state h) (holding state (holdings_of after (feed_table h)))) was
     (subst (λ (a : Registrations). count ≤ old + fresh_pairs (trees_of tree) before (holding state (holdings_of a k.feeds)))
     (sym ((subst (λ (h : Holdings). HasEntered (registrations h) after known.digest) (sym was) enters).now))
-    (omega (arith, less, users_at_most tries (λ (e : List ℕ × Image). has_text e.1.layers layer) (fresh_at (trees_of tree) before later) r.images
-    (every (λ q image. tries q ≤ fresh_at (trees_of tree) before later (q, image)) r.images sorted one), fresh_sum (trees_of tree) before later))) where
+    (omega (
+      arith,
+      less,
+      users_at_most tries (λ (e : List ℕ × Image). has_text e.1.layers layer) (fresh_at (trees_of tree) before later) r.images
+          (every (λ q image. tries q ≤ fresh_at (trees_of tree) before later (q, image)) r.images sorted one),
+      fresh_sum (trees_of tree) before later,
+    ))) where
       layer : List ℕ
       layer = known.digest
 

@@ -85,8 +85,21 @@ impl<D: Desk + Drop> Facts<D> {
         requires new { has_facts self.now known.digest ≡ false }
         ensures { IfOk result (λ after. after ≡ with_value self.now known.digest known) }
     {
-        let layer = known.digest();
         let named = named_with(alloc, &self.layers, &self.named, &known)?;
+        self.with_named(alloc, known, named)
+    }
+
+    /// The facts with those of a layer, where these are the sets of names after it.
+    fn with_named(
+        &self,
+        alloc: Global,
+        known: LayerFacts<D>,
+        named: Named,
+    ) -> Result<Facts<D>, NoMemory>
+        requires { AreNamed (with_value self.now known.digest known) named }
+        ensures { IfOk result (λ after. after ≡ with_value self.now known.digest known) }
+    {
+        let layer = known.digest();
         let shared = Shared::of(alloc, known)?;
         let layers = self.layers.set(alloc, layer, shared)?;
         Ok(Facts::of(layers, named))

@@ -1,8 +1,10 @@
-use Rattle.std.proofs.Common.{ap, arith}
+use Rattle.std.proofs.Common.{ap, arith, ◌∙◌}
 use Rattle.cv_advdb.specs.Feeds.{FeedTable, records_of}
 use Rattle.cv_advdb.specs.Patch.{patched_records}
+use Rattle.cv_core_machine.specs.Rows.{rows_of}
 use Rattle.cv_core_machine.specs.Scans.{trees_of}
 use Rattle.cv_core_machine.specs.State.{with_value}
+use Rattle.cv_core_inventory.specs.Holdings.{holding}
 use Rattle.cv_core_inventory.proofs.KeptLemmas.{counted_by, patched_within_limit}
 use Rattle.cv_core_inventory.proofs.inventory.Inventory.patch.Goals as goal
 
@@ -25,3 +27,8 @@ returns-clause-counted g c = λ all state keys touched.
     let now = c.args.self.now in let feed = c.args.feed.now in let after = patched_records (records_of feed now.feeds) c.args.records c.args.remove.now in
     counted_by c.touched_laws.ensures.unique (trees_of g.D.Desk.tree) now state (records_of feed now.feeds) after c.in_ok-feeds.feeds (with_value now.feeds feed after)
     c.in_ok-feeds.touched.keys keys _ _ c.in_ok-feeds.ensures.touched touched (ap (λ (t : FeedTable). t.feeds) c.in_ok-feeds.ensures.value) (c.with_feeds.ensures.counted all state)
+
+pub returns-clause-rows : goal.returns-clause-rows
+returns-clause-rows g c = λ all state.
+    c.in_ok-with_feeds.ensures.rows all state
+    ∙ ap (rows_of (trees_of g.D.Desk.tree) (holding state c.args.self.now)) (ap (λ (t : FeedTable). t.feeds) c.in_ok-feeds.ensures.value)

@@ -1,7 +1,9 @@
-use Rattle.std.proofs.Common.{ap, arith}
+use Rattle.std.proofs.Common.{ap, arith, ◌∙◌}
 use Rattle.cv_advdb.specs.Feeds.{FeedTable, by_id, records_of}
+use Rattle.cv_core_machine.specs.Rows.{rows_of}
 use Rattle.cv_core_machine.specs.Scans.{trees_of}
 use Rattle.cv_core_machine.specs.State.{with_value}
+use Rattle.cv_core_inventory.specs.Holdings.{holding}
 use Rattle.cv_core_inventory.proofs.KeptLemmas.{counted_by, replaced_within_limit}
 use Rattle.cv_core_inventory.proofs.StepLemmas.{counted_update}
 use Rattle.cv_core_inventory.proofs.inventory.Inventory.update.Goals as goal
@@ -27,3 +29,8 @@ returns-clause-counted g c = λ all state.
     counted_update (trees_of g.D.Desk.tree) now state feed records _ _ (λ full. absurd (cc (full, c.in_ok-feeds.ensures.room)))
     (λ keys touched. counted_by c.touched_laws.ensures.unique (trees_of g.D.Desk.tree) now state (records_of feed now.feeds) (by_id records) feeds (with_value now.feeds feed (by_id records))
     c.in_ok-feeds.touched.keys keys _ _ c.in_ok-feeds.ensures.touched touched (ap (λ (t : FeedTable). t.feeds) c.in_ok-feeds.ensures.value) (c.with_feeds.ensures.counted all state))
+
+pub returns-clause-rows : goal.returns-clause-rows
+returns-clause-rows g c = λ all state.
+    c.in_ok-with_feeds.ensures.rows all state
+    ∙ ap (rows_of (trees_of g.D.Desk.tree) (holding state c.args.self.now)) (ap (λ (t : FeedTable). t.feeds) c.in_ok-feeds.ensures.value)

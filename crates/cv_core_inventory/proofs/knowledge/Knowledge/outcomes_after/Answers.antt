@@ -1,4 +1,4 @@
-use Rattle.std.proofs.Common.{ℕ, List, ◌++◌, ap, ◌∙◌}
+use Rattle.std.proofs.Common.{ℕ, List, ◌++◌, ◌+◌, ◌≤◌, ap, subst, ◌∙◌}
 use Rattle.std.specs.List.{flat_map, list_any}
 use Rattle.cv_base.specs.InOrder.{in_order}
 use Rattle.cv_base.specs.declared.finding.Row.{Row}
@@ -20,7 +20,7 @@ pub returns-clause-value : goal.returns-clause-value
 returns-clause-value g c =
     let now = c.args.self.now in let images = c.args.registry.now.images in let laws = c.update_laws.ensures in
     c.in_ok-outcomes.ensures.value
-    ∙ (λ i. remade_entries (made_at text_cmp c.deref-2.result.now (λ _. rematched_by (c.new.ensures.touched i).keys (c.new.ensures.feeds i).feeds)) now.outcomes)
+    ∙ (λ i. remade_entries (made_at text_cmp c.deref-2.result.now (λ _. rematched_by (c.new-maker.ensures.touched i).keys (c.new-maker.ensures.feeds i).feeds)) now.outcomes)
     ∙ all_made c.names_law.ensures.unlisted laws.again laws.again_rows laws.untouched now.facts images now.feeds.feeds c.args.feeds.now.feeds c.args.touched.now.keys
     c.in_ok-layers.layers.items c.regular_law.ensures.images c.requires.untouched
     (λ layer. c.in_ok-layers.ensures.named layer
@@ -33,10 +33,26 @@ returns-clause-rows g c =
     let now = c.args.self.now in let images = c.args.registry.now.images in let laws = c.update_laws.ensures in
     c.in_ok-outcomes.ensures.rows
     ∙ ap (λ (added : List Row). c.args.rows.now.items ++ added)
-    ((λ i. rows_of (added_at text_cmp c.deref-2.result.now (rows_by (c.new.ensures.touched i).keys (c.new.ensures.feeds i).feeds)) now.outcomes)
+    ((λ i. rows_of (added_at text_cmp c.deref-2.result.now (rows_by (c.new-maker.ensures.touched i).keys (c.new-maker.ensures.feeds i).feeds)) now.outcomes)
     ∙ all_added c.names_law.ensures.unlisted laws.again laws.again_rows laws.untouched now.facts images now.feeds.feeds c.args.feeds.now.feeds c.args.touched.now.keys
     c.in_ok-layers.layers.items c.regular_law.ensures.images c.requires.untouched
     (λ layer. c.in_ok-layers.ensures.named layer
     ∙ ap (λ (ks : List PackageName). list_any (λ (key : PackageName). has_name (value_at now.facts layer) key.name) ks) c.as_slice-keys.ensures)
     now.outcomes c.deref-2.result.now c.requires.made
     (c.deref-2.ensures.value ∙ c.in_ok-images.ensures ∙ ap (λ (ls : List (List ℕ)). in_order text_cmp (flat_map (users_of images) ls)) c.deref.ensures.value))
+
+pub returns-in_err-outcomes-clause-counted : goal.returns-in_err-outcomes-clause-counted
+returns-in_err-outcomes-clause-counted g c =
+    let now = c.args.self.now in
+    costs_within c.deref-2.result.now (λ _. rematch_pairs c.args.touched.now.keys c.args.feeds.now.feeds) now.outcomes _ _
+    (subst (λ (n : ℕ). c.remake_at.new.tally ≤ c.args.steps.now + n)
+    (λ i. costs_of (cost_at text_cmp c.deref-2.result.now (λ _. rematch_pairs (c.new-maker.ensures.touched i).keys (c.new-maker.ensures.feeds i).feeds)) now.outcomes)
+    c.remake_at.ensures.counted)
+
+pub returns-clause-counted : goal.returns-clause-counted
+returns-clause-counted g c =
+    let now = c.args.self.now in
+    costs_within c.deref-2.result.now (λ _. rematch_pairs c.args.touched.now.keys c.args.feeds.now.feeds) now.outcomes _ _
+    (subst (λ (n : ℕ). c.remake_at.new.tally ≤ c.args.steps.now + n)
+    (λ i. costs_of (cost_at text_cmp c.deref-2.result.now (λ _. rematch_pairs (c.new-maker.ensures.touched i).keys (c.new-maker.ensures.feeds i).feeds)) now.outcomes)
+    c.remake_at.ensures.counted)
