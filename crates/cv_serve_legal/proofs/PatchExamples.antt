@@ -1,5 +1,5 @@
 -- A round of patches, computed.
-use Rattle.std.specs.Prelude.{◌≡◌, ⊥, ℕ, ◌==◌, Bool, true, false, List, [], ◌∷◌, codes, None, Some, Ok, refl}
+use Rattle.std.specs.Prelude.{◌≡◌, ℕ, ◌==◌, Bool, true, false, List, [], ◌∷◌, codes, None, Ok, refl}
 use Rattle.std.specs.List.{AllZip}
 use Rattle.std.specs.Str.{chars, is_utf8}
 use Rattle.std.proofs.Common.{ap, subst, sym, ◌∙◌}
