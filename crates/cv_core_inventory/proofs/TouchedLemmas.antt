@@ -5,7 +5,7 @@ use Rattle.std.specs.List.{AllByRecursion, cons_option, flat_map, list_any}
 use Rattle.std.specs.List.Sorted.{IsStrictlySortedBy}
 use Rattle.std.specs.Map.{keys_of}
 use Rattle.std.specs.Ordering.{is_eq}
-use Rattle.std.proofs.Common.{ap, arith, sym, ◌∙◌}
+use Rattle.std.proofs.Common.{ap, arith, subst, sym, ◌∙◌}
 use Rattle.std.proofs.lemmas.Bool.{or_left, or_right}
 use Rattle.std.proofs.lemmas.List.Folds.{list_any-append}
 use Rattle.cv_advdb.specs.Touched.{is_touched}
@@ -33,7 +33,7 @@ use Rattle.cv_core_outcome.proofs.TruthLemmas.{rematched_is}
 use Rattle.cv_core_registry.specs.Registrations.{users_of}
 use Rattle.cv_core_registry.proofs.ListLemmas.{at_head, past_head}
 use Rattle.cv_tree.specs.Entries.{added_at, cost_at, costs_of, is_among, made_at, map_values, remade_entries, rows_of}
-use Rattle.cv_core_inventory.specs.Knowledge.{Outcomes}
+use Rattle.cv_core_inventory.specs.Knowledge.{KnowledgeView, Outcomes}
 use Rattle.cv_core_inventory.specs.code.Names.{has_name}
 use Rattle.cv_core_inventory.proofs.NamedLemmas.{text_ties}
 use Rattle.cv_core_inventory.proofs.RenewedLemmas.{is_user}
@@ -199,3 +199,26 @@ module _ (unlisted : Unlisted) (again_outcome : Again) (again_rows : AgainRows) 
   all_added outcomes keys shown is = rw (shown, is)
       (rows_alike (added_at text_cmp looked (rows_by touched after)) (update_rows after) (outcome_at facts before) images
       (every (λ hash image. added_at text_cmp looked (rows_by touched after) hash (outcome_at facts before image) ≡ update_rows after hash (outcome_at facts before image)) images sorted one_added))
+
+-- the same for what is known, where it is named twice
+module _ (unlisted : Unlisted) (again_outcome : Again) (again_rows : AgainRows) (outcome_stays : Stays) (k now : KnowledgeView) (images : Images) (after : Feeds)
+    (touched : List PackageName) (layers keys : List (List ℕ)) (was : k ≡ now) (sorted : IsStrictlySortedBy text_cmp (keys_of images))
+    (untouched : AgreeOnUntouched touched now.feeds.feeds after)
+    (named : (layer : List ℕ) → has_text layers layer ≡ list_any (λ (key : PackageName). has_name (value_at k.facts layer) key.name) touched)
+    (shown : now.outcomes ≡ map_values (outcome_at now.facts now.feeds.feeds) images) (is : keys ≡ in_order text_cmp (flat_map (users_of images) layers)) where
+  pub made_known : (made : Outcomes) → made ≡ remade_entries (made_at text_cmp keys (λ _. rematched_by touched after)) k.outcomes
+      → made ≡ remade_entries (λ _. rematched after) now.outcomes
+  made_known made given =
+      subst (λ (n : KnowledgeView). AgreeOnUntouched touched n.feeds.feeds after → n.outcomes ≡ map_values (outcome_at n.facts n.feeds.feeds) images
+      → made ≡ remade_entries (λ _. rematched after) n.outcomes) was
+      (λ agree same. given
+      ∙ all_made unlisted again_outcome again_rows outcome_stays k.facts images k.feeds.feeds after touched layers sorted agree named k.outcomes keys same is) untouched shown
+
+  pub added_known : (old new : List Row) → new ≡ old ++ rows_of (added_at text_cmp keys (rows_by touched after)) k.outcomes
+      → new ≡ old ++ rows_of (update_rows after) now.outcomes
+  added_known old new given =
+      subst (λ (n : KnowledgeView). AgreeOnUntouched touched n.feeds.feeds after → n.outcomes ≡ map_values (outcome_at n.facts n.feeds.feeds) images
+      → new ≡ old ++ rows_of (update_rows after) n.outcomes) was
+      (λ agree same. given
+      ∙ ap (λ (rows : List Row). old ++ rows)
+      (all_added unlisted again_outcome again_rows outcome_stays k.facts images k.feeds.feeds after touched layers sorted agree named k.outcomes keys same is)) untouched shown
