@@ -1,6 +1,6 @@
 //! The outcome of an image: all that a report of it is read from, so that reports are read without matching. It is made from
-//! the facts of the image's layers, their stated seals and the feeds, and an update of the feeds makes it anew from the packages
-//! that it keeps.
+//! the facts of the image's layers, their stated seals and the feeds, and an update of the feeds matches again, of the packages
+//! that it keeps, those alone that have a touched key.
 //!
 //! ```text
 //! match outcome_of(alloc, &facts, &feeds, &layers, &seals, &mut steps)? {
