@@ -1,6 +1,7 @@
 use cv_base::Digest;
+use cv_osv::NewTexts;
 use cv_osv_text::read_request;
-use cv_request::{Act, Request, RequestError, RequestFault};
+use cv_request::{Act, Request, RequestError, RequestFault, read_json, read_value};
 use std::alloc::Global;
 use std::test::Fail;
 
@@ -231,6 +232,46 @@ fn the_first_fault_of_a_line_is_the_answer(rt: HostRuntime) -> Result<(), Fail> 
             let answer = answer(rt.alloc(), line.as_bytes())?;
             assert_eq!(rt; answer.as_str(), *want, "{line}");
         }
+    }
+    Ok(())
+}
+
+/// What a line is by a value that owns its texts.
+fn owned(alloc: Global, line: &[u8]) -> Result<String, Fail> {
+    let value = match read_json(alloc, line) {
+        Ok(value) => value,
+        Err(error) => return fault(alloc, error),
+    };
+    match read_value(alloc, &mut NewTexts, &value) {
+        Ok(request) => Ok(format!(in alloc; "{request:?}")?),
+        Err(error) => fault(alloc, error),
+    }
+}
+
+#[test]
+fn an_owned_value_gives_the_same_answer(rt: HostRuntime) -> Result<(), Fail> {
+    for (_, lines) in REFUSED {
+        for line in *lines {
+            assert_eq!(rt;
+                owned(rt.alloc(), line.as_bytes())?,
+                answer(rt.alloc(), line.as_bytes())?,
+                "{line}"
+            );
+        }
+    }
+    for line in [DROP, REPORT, REGISTER, UPDATE] {
+        assert_eq!(rt;
+            owned(rt.alloc(), line.as_bytes())?,
+            answer(rt.alloc(), line.as_bytes())?,
+            "{line}"
+        );
+    }
+    for (line, _) in PATCHES {
+        assert_eq!(rt;
+            owned(rt.alloc(), line.as_bytes())?,
+            answer(rt.alloc(), line.as_bytes())?,
+            "{line}"
+        );
     }
     Ok(())
 }
