@@ -23,6 +23,7 @@ use Rattle.cv_core_machine.proofs.image.Image.TheSendSync as image
 use Rattle.cv_core_registry.proofs.layer_status.LayerStatus.TheSendSync as layer_status
 use Rattle.cv_core_registry.specs.contracts.layer_table.LayerTable as layer_table
 use Rattle.cv_core_registry.specs.contracts.registry.Registry as registry
+use Rattle.cv_core_inventory.specs.contracts.facts.Facts as known
 use Rattle.cv_core_inventory.specs.contracts.knowledge.Knowledge as knowledge
 use Rattle.cv_core_inventory.specs.contracts.inventory.Inventory as inventory
 use Rattle.cv_core.specs.contracts.board.Board as board
@@ -76,11 +77,17 @@ registry_sync = search (image.the_send, image.the_sync, layers_sync, small, send
 ruleset parts = (feeds_send, feeds_sync, outcome.the_send, outcome.the_sync, notices.the_send, notices.the_sync, facts.the_send, facts.the_sync, small)
 
 module _ (D : RattleType) (g : desk.Ghosts D.Denot) where
+  known_send : IsSend D → IsSync D → IsSend (known.the_row D g)
+  known_send s y = search (parts, sendable, declared_send) depth 30 fits 5000
+
+  known_sync : IsSend D → IsSync D → IsSync (known.the_row D g)
+  known_sync s y = search (parts, sendable, declared_sync) depth 30 fits 5000
+
   knowledge_send : IsSend D → IsSync D → IsSend (knowledge.the_row D g)
-  knowledge_send s y = search (parts, sendable, declared_send) depth 30 fits 5000
+  knowledge_send s y = search (known_send, parts, sendable, declared_send) depth 30 fits 5000
 
   knowledge_sync : IsSend D → IsSync D → IsSync (knowledge.the_row D g)
-  knowledge_sync s y = search (parts, sendable, declared_sync) depth 30 fits 5000
+  knowledge_sync s y = search (known_sync, parts, sendable, declared_sync) depth 30 fits 5000
 
   inventory_send : IsSend D → IsSync D → IsSend (inventory.the_row D g)
   inventory_send s y = search (registry_send, knowledge_send, sendable, declared_send) depth 30 fits 5000

@@ -1,4 +1,5 @@
 ghost use Rattle.std.specs.Prelude.{◌≡◌, ◌+◌, ◌^◌, ◌<◌, true, false, IfOk, OnErr};
+ghost use Rattle.cv_core_machine.specs.Matching.{IsStepCount};
 ghost use Rattle.cv_core_machine.specs.Scans.{StatesEveryLayer, Trees, trees_of};
 ghost use Rattle.cv_core_machine.specs.Step.{step};
 ghost use Rattle.cv_core.specs.Core.{IsSound, IsUpdated, act_of, counted, is_update};
@@ -26,6 +27,7 @@ impl<D: Desk + Drop> Core<D> {
         ensures others { (trees : Trees) → is_update (act_of event) ≡ false → IfOk result (λ reply. (self.new, reply) ≡ counted self.old (step trees self.old.state (act_of event))) }
         ensures update { is_update (act_of event) ≡ true → IfOk result (λ reply. IsUpdated self.old (act_of event) (self.new, reply)) }
         ensures count { IfOk result (λ _. self.new.count ≡ self.old.count + 1) }
+        ensures tries { StatesEveryLayer D.tree → IsStepCount (trees_of D.tree) self.old.state (act_of event) steps.old steps.new }
         ensures err { OnErr result (self.new ≡ self.old) }
     {
         let (core, reply) = event.after(alloc, self, steps)?;

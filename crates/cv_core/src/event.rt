@@ -1,5 +1,6 @@
 ghost use Rattle.std.specs.Prelude.{◌≡◌, ◌+◌, ◌^◌, ◌<◌, true, false, IfOk};
 ghost use Rattle.cv_core_machine.specs.History.{act_name};
+ghost use Rattle.cv_core_machine.specs.Matching.{IsStepCount};
 ghost use Rattle.cv_core_machine.specs.Scans.{StatesEveryLayer, Trees, trees_of};
 ghost use Rattle.cv_core_machine.specs.Step.{step};
 ghost use Rattle.cv_core.specs.Core.{IsSound, IsUpdated, act_of, counted, is_update};
@@ -96,6 +97,7 @@ impl<D: Desk + Drop> Event<D> {
         ensures others { (trees : Trees) → is_update (act_of self) ≡ false → IfOk result (λ after. after ≡ counted core.now (step trees core.now.state (act_of self))) }
         ensures update { is_update (act_of self) ≡ true → IfOk result (λ after. IsUpdated core.now (act_of self) after) }
         ensures count { IfOk result (λ after. after.0.count ≡ core.now.count + 1) }
+        ensures tries { StatesEveryLayer D.tree → IsStepCount (trees_of D.tree) core.now.state (act_of self) steps.old steps.new }
     {
         match self {
             Event::Register(manifest) => core.register(alloc, &manifest, steps),

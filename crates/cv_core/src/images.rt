@@ -1,6 +1,9 @@
 ghost use Rattle.std.specs.Prelude.{◌<◌, ◌^◌, ◌≡◌, ◌≤◌, IfOk, length};
 ghost use Rattle.cv_base.specs.declared.limits.TheConstants.{MAX_LAYERS};
+ghost use Rattle.cv_core_machine.specs.Matching.{IsStepCount};
+ghost use Rattle.cv_core_machine.specs.Scans.{StatesEveryLayer, trees_of};
 ghost use Rattle.cv_core_machine.specs.Step.{drop_image, register};
+ghost use Rattle.cv_core_machine.specs.declared.event.MachineEvent.{MachineEvent};
 ghost use Rattle.cv_core.specs.Core.{counted};
 
 use crate::machine::Core;
@@ -20,7 +23,8 @@ impl<D: Desk + Drop> Core<D> {
         requires room { self.now.count < 2 ^ 63 }
         requires at_most_128_layers { length manifest.now.layers ≤ MAX_LAYERS }
         requires as_many_seals { length manifest.now.seals ≡ length manifest.now.layers }
-        ensures { IfOk result (λ after. after ≡ counted self.now (register self.now.state manifest.now)) }
+        ensures value { IfOk result (λ after. after ≡ counted self.now (register self.now.state manifest.now)) }
+        ensures tries { StatesEveryLayer D.tree → IsStepCount (trees_of D.tree) self.now.state (MachineEvent.Register manifest.now) steps.old steps.new }
     {
         let (inventory, reply) = self.inventory.register(alloc, manifest, steps)?;
         self.with_inventory(inventory, reply)

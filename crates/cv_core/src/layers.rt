@@ -1,5 +1,8 @@
 ghost use Rattle.std.specs.Prelude.{◌<◌, ◌^◌, ◌≡◌, IfOk};
+ghost use Rattle.cv_core_machine.specs.Matching.{IsStepCount};
+ghost use Rattle.cv_core_machine.specs.Scans.{StatesEveryLayer, trees_of};
 ghost use Rattle.cv_core_machine.specs.Step.{claim, finish};
+ghost use Rattle.cv_core_machine.specs.declared.event.MachineEvent.{MachineEvent};
 ghost use Rattle.cv_core.specs.Core.{counted};
 
 use crate::machine::Core;
@@ -29,7 +32,8 @@ impl<D: Desk + Drop> Core<D> {
         steps: &mut Steps<L>,
     ) -> Replied<Core<D>>
         requires room { self.now.count < 2 ^ 63 }
-        ensures { IfOk result (λ after. after ≡ counted self.now (finish self.now.state facts.digest worker Status.Indexed Reply.Entered)) }
+        ensures value { IfOk result (λ after. after ≡ counted self.now (finish self.now.state facts.digest worker Status.Indexed Reply.Entered)) }
+        ensures tries { StatesEveryLayer D.tree → IsStepCount (trees_of D.tree) self.now.state (MachineEvent.Indexed facts.digest worker) steps.old steps.new }
     {
         let (inventory, reply) = self.inventory.index(alloc, facts, worker, steps)?;
         self.with_inventory(inventory, reply)

@@ -1,5 +1,6 @@
 ghost use Rattle.std.specs.Prelude.{◌≡◌, ◌+◌, ◌^◌, ◌<◌, true, IfOk};
 ghost use Rattle.cv_advdb.specs.Feeds.{has_feed};
+ghost use Rattle.cv_core_machine.specs.Matching.{IsStepCount};
 ghost use Rattle.cv_core_machine.specs.Scans.{StatesEveryLayer, trees_of};
 ghost use Rattle.cv_core_machine.specs.State.{feed_generation};
 ghost use Rattle.cv_core_machine.specs.Step.{patch};
@@ -30,6 +31,7 @@ impl<D: Desk + Drop> Core<D> {
         ensures stepped { StatesEveryLayer D.tree → IfOk result (λ after. after ≡ counted self.now (patch (trees_of D.tree) self.now.state feed base records remove.now)) }
         ensures known { IfOk result (λ after. IsUpdated self.now (MachineEvent.Patch feed base records remove.now) after) }
         ensures count { IfOk result (λ after. after.0.count ≡ self.now.count + 1) }
+        ensures tries { StatesEveryLayer D.tree → IsStepCount (trees_of D.tree) self.now.state (MachineEvent.Patch feed base records remove.now) steps.old steps.new }
     {
         if !self.inventory().has_feed(&feed) {
             return self.unchanged(Reply::NoFeed);
@@ -55,6 +57,7 @@ impl<D: Desk + Drop> Core<D> {
         ensures stepped { StatesEveryLayer D.tree → IfOk result (λ after. after ≡ counted self.now (patch (trees_of D.tree) self.now.state feed (feed_generation self.now.state feed) records remove.now)) }
         ensures known { IfOk result (λ after. IsUpdated self.now (MachineEvent.Patch feed (feed_generation self.now.state feed) records remove.now) after) }
         ensures count { IfOk result (λ after. after.0.count ≡ self.now.count + 1) }
+        ensures tries { StatesEveryLayer D.tree → IsStepCount (trees_of D.tree) self.now.state (MachineEvent.Patch feed (feed_generation self.now.state feed) records remove.now) steps.old steps.new }
     {
         match self.inventory.patch(alloc, &feed, records, remove, steps) {
             Ok((inventory, rows)) => self.updated(alloc, feed, inventory, rows),

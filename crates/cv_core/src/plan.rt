@@ -1,5 +1,6 @@
 ghost use Rattle.std.specs.Prelude.{◌≡◌, ◌+◌, ◌^◌, ◌<◌, true, false, IfOk, IfErr};
 ghost use Rattle.cv_core_machine.specs.Board.{board_of};
+ghost use Rattle.cv_core_machine.specs.Matching.{IsStepCount};
 ghost use Rattle.cv_core_machine.specs.Scans.{StatesEveryLayer, Trees, trees_of};
 ghost use Rattle.cv_core_machine.specs.Step.{step};
 ghost use Rattle.cv_core.specs.Boards.{ShowsWaiting};
@@ -58,6 +59,7 @@ impl<D: Desk + Drop> Core<D> {
         ensures others { (trees : Trees) → is_update (act_of event) ≡ false → IfOk result (λ planned. planned ≡ plan_of self (counted self (step trees self.state (act_of event)))) }
         ensures update { is_update (act_of event) ≡ true → IfOk result (λ planned. IsUpdated self (act_of event) (planned.after, planned.reply)) }
         ensures count { IfOk result (λ planned. planned.after.count ≡ self.count + 1) }
+        ensures tries { StatesEveryLayer D.tree → IsStepCount (trees_of D.tree) self.state (act_of event) steps.old steps.new }
         ensures before { IfOk result (λ planned. planned.before ≡ self) }
         ensures err { IfErr result (λ refused. refused.0 ≡ self) }
     {

@@ -1,6 +1,7 @@
 ghost use Rattle.std.specs.Prelude.{◌≡◌, ◌+◌, ◌^◌, ◌<◌, All, IfOk};
 ghost use Rattle.std.specs.Map.{keys_of};
 ghost use Rattle.cv_core_inventory.specs.Holdings.{holding};
+ghost use Rattle.cv_core_machine.specs.Matching.{IsStepCount};
 ghost use Rattle.cv_core_machine.specs.Scans.{StatesEveryLayer, trees_of};
 ghost use Rattle.cv_core_machine.specs.Step.{notified, update, updated};
 ghost use Rattle.cv_core_machine.specs.declared.event.MachineEvent.{MachineEvent};
@@ -29,6 +30,7 @@ impl<D: Desk + Drop> Core<D> {
         ensures stepped { StatesEveryLayer D.tree → IfOk result (λ after. after ≡ counted self.now (update (trees_of D.tree) self.now.state feed records)) }
         ensures known { IfOk result (λ after. IsUpdated self.now (MachineEvent.Update feed records) after) }
         ensures count { IfOk result (λ after. after.0.count ≡ self.now.count + 1) }
+        ensures tries { StatesEveryLayer D.tree → IsStepCount (trees_of D.tree) self.now.state (MachineEvent.Update feed records) steps.old steps.new }
     {
         let name = feed.share()?;
         match self.inventory.update(alloc, feed, records, steps) {
