@@ -100,7 +100,7 @@ pub feed_cases : (P : MachineEvent → State × Reply → Type 0) (trees : Trees
     → ((a : MachineEvent) → IsAside s (step trees s a) → ((feed : List ℕ) → is_of_feed feed a ≡ false) → P a (step trees s a))
     → ((a : MachineEvent) (answer : Reply) → is_updated answer ≡ false → P a (s, answer))
     → ((a : MachineEvent) (feed : List ℕ) (records : List Advisory) → ((q : List ℕ) → is_of_feed q a ≡ same feed q) → records_after s.feeds a ≡ records
-      → P a (updated s feed (with_value s.feeds feed records) (rows_of trees s (with_value s.feeds feed records))))
+    → P a (updated s feed (with_value s.feeds feed records) (rows_of trees s (with_value s.feeds feed records))))
     → (a : MachineEvent) → P a (step trees s a)
 feed_cases P trees s aside refused made =
     event_cases P trees s aside
@@ -159,9 +159,10 @@ given_found trees s =
     feed_cases (HasGiven s) trees s
     (λ a kept none q generation count key is. not_updated (step trees s a).1 generation count kept.plain is)
     (λ a answer plain q generation count key is. not_updated answer generation count plain is)
-    (λ a feed records named records_are q generation count key is.
-    (put_here s.feeds feed q records (sym (named q) ∙ key) ∙ ap Some (sym records_are),
-    put_here s.since feed q (s.generation + 1) (sym (named q) ∙ key) ∙ ap (λ r. Some (generation_in r)) is))
+    (λ a feed records named records_are q generation count key is. (
+      put_here s.feeds feed q records (sym (named q) ∙ key) ∙ ap Some (sym records_are),
+      put_here s.since feed q (s.generation + 1) (sym (named q) ∙ key) ∙ ap (λ r. Some (generation_in r)) is,
+    ))
 
 -- Exactly the feeds that stand have a generation.
 
