@@ -149,7 +149,8 @@ fn a_patch_removes_the_records_of_its_ids(rt: HostRuntime) -> Result<(), Fail> {
         ("X-3", "1", "bash"),
     ];
     let mut feeds = Feeds::new(alloc, 1)?;
-    let _touched = replaced(alloc, &mut feeds, "deb", &rows)?;
+    let first = replaced(alloc, &mut feeds, "deb", &rows)?;
+    assert_eq!(rt; first.as_str(), "bash,curl,");
     let none = Seq::of(Vec::new(alloc));
     let touched = patched(alloc, &mut feeds, "deb", none, &["X-1", "Q"])?;
     assert_eq!(rt; touched.as_str(), "curl,");
@@ -165,7 +166,8 @@ fn a_patch_replaces_the_records_of_its_ids(rt: HostRuntime) -> Result<(), Fail> 
     let alloc = rt.alloc();
     let rows = [("X-1", "1", "curl"), ("X-2", "1", "bash")];
     let mut feeds = Feeds::new(alloc, 1)?;
-    let _touched = replaced(alloc, &mut feeds, "deb", &rows)?;
+    let first = replaced(alloc, &mut feeds, "deb", &rows)?;
+    assert_eq!(rt; first.as_str(), "bash,curl,");
     let before = feeds.copy()?;
     let news = records(alloc, &[("X-1", "2", "zlib"), ("X-0", "1", "bash")])?;
     let touched = patched(alloc, &mut feeds, "deb", news, &[])?;
