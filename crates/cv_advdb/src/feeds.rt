@@ -148,6 +148,13 @@ impl Feeds {
         None
     }
 
+    /// Whether there is a feed of this name. It takes no memory.
+    pub fn has_feed(&self, feed: &Text) -> bool
+        ensures { result ≡ has_feed feed.now self.now.feeds }
+    {
+        self.feeds.contains_key(feed)
+    }
+
     /// Whether this feed is new, and there are as many as there may be.
     fn is_full(&self, feed: &Text) -> bool
         ensures value { result ≡ is_full self.now feed.now }
