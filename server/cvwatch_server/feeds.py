@@ -164,7 +164,7 @@ class Feeds:
         answer: dict[str, Any] = {}
         if known is not None:
             answer = await self.keeper.ask(patch(part.name, known.generation, change))
-        # the first time, at `stale_base` or `no_feed`, or where the child knows no patches
+        # the first time, and at `stale_base`, `no_feed` or `too_many_records`
         if answer.get("reply") != "updated":
             answer = await self.keeper.ask(update(part.name, lines))
         if answer.get("reply") != "updated":

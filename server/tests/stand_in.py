@@ -1,5 +1,5 @@
 #!/usr/bin/python3
-"""A stand-in for a cvwatch with the commands `keep` and `sbom` and the request `patch`, made of one that has `serve` alone.
+"""A stand-in for a cvwatch with the command `keep`, made of one that has `serve`. Its `sbom` lists packages of status files alone.
 
 It keeps the rounds of its input in a file, and plays them again at its start. The program is that of the environment variable STANDS_FOR.
 """
@@ -39,7 +39,6 @@ class Kept:
         self.line = 0
         self.events = 0
         self.generation = 0
-        self.feeds: dict[str, tuple[int, dict[str, Any]]] = {}
         # the lines that the child got so far, with the empty ones
         self.base = 0
 
@@ -60,54 +59,26 @@ class Kept:
     def run(self, requests: list[dict[str, Any]]) -> Iterator[dict[str, Any]]:
         """The answers to a round. Their numbers are those of this input."""
         first = self.line + 1
-        answered = [self.patched(first + place, request) for place, request in enumerate(requests)]
-        sent = [request for request, _ in answered if request is not None]
-        numbers = [first + place for place, (request, _) in enumerate(answered) if request is not None]
         self.line += len(requests) + 1
         assert self.child.stdin is not None and self.child.stdout is not None
-        yield from (answer for _, answer in answered if answer is not None)
         # a last request says where the round ends
-        text = "".join(json.dumps(request) + "\n" for request in sent)
+        text = "".join(json.dumps(request) + "\n" for request in requests)
         self.child.stdin.write((text + '{"do":"list"}\n\n{"do":"list"}\n\n').encode())
         self.child.stdin.flush()
         ends = 0
         while ends < 2:
             answer = json.loads(self.child.stdout.readline())
             self.events = max(self.events, answer.get("at", 0))
+            if answer.get("reply") == "updated":
+                self.generation = answer["generation"]
             place = answer.get("line", 0) - self.base - 1
-            if "line" in answer and place >= len(sent):
+            if "line" in answer and place >= len(requests):
                 ends += 1
             elif "line" in answer:
-                yield self.taken(requests[numbers[place] - first], {**answer, "line": numbers[place]})
+                yield {**answer, "line": first + place}
             else:
                 yield answer
-        self.base += len(sent) + 4
-
-    def patched(self, number: int, request: dict[str, Any]) -> tuple[dict[str, Any] | None, dict[str, Any] | None]:
-        """The request to the child, or the answer that is clear without it."""
-        if request.get("do") != "patch":
-            return request, None
-        generation, records = self.feeds.get(request["feed"], (0, {}))
-        reply = {"event": "patch", "feed": request["feed"], "lane": request.get("lane", 0), "line": number}
-        if request["feed"] not in self.feeds:
-            return None, {**reply, "reply": "no_feed"}
-        if generation != request["base"]:
-            return None, {**reply, "kept": generation, "reply": "stale_base"}
-        records = {name: record for name, record in records.items() if name not in request.get("remove", [])}
-        records.update({record["id"]: record for record in request["advisories"]})
-        return {"do": "update", "feed": request["feed"], "advisories": list(records.values()), "lane": request.get("lane", 0)}, None
-
-    def taken(self, request: dict[str, Any], answer: dict[str, Any]) -> dict[str, Any]:
-        """Notes the records that a feed has now."""
-        if answer.get("reply") != "updated":
-            return answer
-        self.generation = answer["generation"]
-        records = {} if request["do"] == "update" else dict(self.feeds[request["feed"]][1])
-        for name in request.get("remove", []):
-            records.pop(name, None)
-        records.update({record["id"]: record for record in request["advisories"]})
-        self.feeds[request["feed"]] = (self.generation, records)
-        return {**answer, "event": request["do"]}
+        self.base += len(requests) + 4
 
     def serve(self) -> None:
         """Keeps and runs rounds until the input ends."""

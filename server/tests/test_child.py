@@ -66,9 +66,7 @@ def test_refused_lines(with_child: Callable[..., Any]) -> None:
         return await asyncio.gather(*map(child.ask, requests))
 
     answers, status = with_child(work)
-    assert [answer.get("refused") or answer["reply"] for answer in answers][:3] == ["bad_request", "list", "bad_json"]
-    # a program that knows patches says that there is no such feed
-    assert answers[3].get("what") == "bad_do" or answers[3].get("reply") == "no_feed"
+    assert [answer.get("refused") or answer["reply"] for answer in answers] == ["bad_request", "list", "bad_json", "no_feed"]
     assert status == 0
 
 

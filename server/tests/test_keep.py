@@ -1,4 +1,4 @@
-"""A child that keeps its events, knows patches and lists packages: here a stand-in, so that the server can be tried with each cvwatch."""
+"""A child that keeps its events and lists packages: here a stand-in, made of a program that has `serve`."""
 
 import json
 import os
