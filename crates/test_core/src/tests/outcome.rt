@@ -1,7 +1,7 @@
 ghost use Rattle.std.specs.Prelude.{◌≡◌, ◌<◌};
 
 use crate::tests::samples::{digest, flawed_feeds, outcomes};
-use cv_base::{Digest, Reason, Row, Steps};
+use cv_base::{Digest, Reason, Row, Seq, Steps, Text};
 use cv_core_outcome::{Findings, Outcome, Rematch};
 use cv_tree::Tree;
 use std::alloc::Global;
@@ -36,6 +36,38 @@ fn an_update_matches_images_and_adds_rows(rt: HostRuntime) -> Result<(), Fail> {
     assert_eq!(rt; row.reason, Reason::Added);
     let want = "Deb var/lib/dpkg/status curl 1 of curl 1 amd64 Debian:12: deb X-1, fixed in 2";
     assert_eq!(rt; finding_text(rt.alloc(), &row.finding)?.as_str(), want);
+    Ok(())
+}
+
+/// The rows of a patch that removes the record of a flaw, after an update by it.
+fn patched<L: Ledger>(blank: Blank, alloc: Global) -> Result<Vec<Row>, Fail>
+    requires name { blank.name ≡ L.name }
+    requires parts { blank.parts ≡ L.parts }
+    requires has_parts { 0 < L.parts }
+{
+    let mut steps = Steps::<L>::open(blank);
+    let before = outcomes(alloc, &mut steps)?;
+    let (mut feeds, touched) = flawed_feeds(alloc)?;
+    let mut rows = Vec::new(alloc);
+    let maker = Rematch::<L>::new(&feeds, &touched);
+    let flawed = before.remake(alloc, &maker, &mut rows, &mut steps)?;
+    let remove = vec![in alloc; Text::of(alloc, "X-1")?]?;
+    let none = Seq::of(Vec::new(alloc));
+    let touched = feeds.patch(alloc, &Text::of(alloc, "deb")?, none, &remove)?;
+    let mut rows = Vec::new(alloc);
+    let maker = Rematch::<L>::new(&feeds, &touched);
+    flawed.remake(alloc, &maker, &mut rows, &mut steps)?;
+    Ok(rows)
+}
+
+#[test]
+fn a_patch_that_removes_a_record_tells_what_goes(rt: HostRuntime) -> Result<(), Fail> {
+    let rows = patched::<Brand>(Blank::new(1), rt.alloc())?;
+    let [row] = rows.as_slice() else {
+        return Err(Fail::from("there is not one row"));
+    };
+    assert!(rt; row.image == digest(1));
+    assert_eq!(rt; row.reason, Reason::Removed);
     Ok(())
 }
 
