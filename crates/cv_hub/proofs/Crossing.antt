@@ -9,7 +9,7 @@ use Rattle.cv_desk.specs.declared.desk.Desk as desk
 use Rattle.cv_hub_seats.proofs.Crossing.{front_send, front_sync}
 use Rattle.cv_hub_seats.specs.contracts.prefix.Prefix as front
 use Rattle.cv_hub_seats.specs.declared.identity.Identity as identity
-use Rattle.cv_hub.proofs.ViewCrossing.{locked_row, locked_send}
+use Rattle.cv_hub.proofs.HoldCrossing.{locked_row, locked_send}
 use Rattle.cv_hub.specs.contracts.hub.Hub as hub
 
 module _ (D L : RattleType) (d : desk.Ghosts D.Denot) (i : identity.Ghosts L.Denot) (l : ledger.Ghosts L.Denot) where

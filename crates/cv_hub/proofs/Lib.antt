@@ -6,4 +6,4 @@ pub mod Listed
 pub mod LockedCrossing
 pub mod Receipts
 pub mod Replays
-pub mod ViewCrossing
+pub mod HoldCrossing

@@ -1,7 +1,5 @@
 -- One more event after a list.
-use Rattle.std.proofs.Common.{◌≡◌, ℕ, ◌+◌, List, [], ◌∷◌, ◌++◌, map, length, refl, ap, sym, ◌∙◌, arith, length-append}
-use Rattle.std.proofs.lemmas.List.{map-append}
-use Rattle.cv_core_records.specs.declared.reply.Reply.{Reply}
+use Rattle.std.proofs.Common.{◌≡◌, ◌+◌, List, [], ◌∷◌, ◌++◌, refl, ap, sym, ◌∙◌, arith, length-append}
 use Rattle.cv_core_machine.specs.History.{replies, state_after}
 use Rattle.cv_core_machine.specs.Scans.{StatesEveryLayer, Trees, trees_of}
 use Rattle.cv_core_machine.specs.State.{State, opening}
@@ -11,7 +9,7 @@ use Rattle.cv_core_machine.specs.declared.limits.Limits.{Limits}
 use Rattle.cv_core.specs.Core.{CoreView, counted}
 use Rattle.cv_core.specs.Planned.{PlannedView, plan_of}
 use Rattle.cv_hub_seats.specs.Events.{DeskTrees, IsReplayed, acts_of, replies_of, state_of}
-use Rattle.cv_hub.specs.code.Locked.{IsAfter, IsEventPrepared}
+use Rattle.cv_hub.specs.code.Locked.{IsAfter}
 use Rattle.cv_hub_seats.specs.declared.submission.Submission.{Submission}
 
 after_more : (trees : Trees) (state : State) (acts : List MachineEvent) (act : MachineEvent) → state_after trees state (acts ++ act ∷ []) ≡ (step trees (state_after trees state acts) act).0

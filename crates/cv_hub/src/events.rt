@@ -5,11 +5,14 @@ ghost use Rattle.cv_core.specs.Core.{act_of};
 ghost use Rattle.cv_hub_seats.specs.Events.{IsReplayed, entries_from};
 ghost use Rattle.cv_hub_seats.specs.Seats.{AreAllReceipts, AreNumbered, HaveSeen, seat_of};
 ghost use Rattle.cv_hub_seats.specs.code.Book.{submission_of};
+ghost use Rattle.left_right.specs.Sides.{view};
 
 use cv_base::NoMemory;
 use cv_core_records::{Act, EventEntry, Reply};
 use cv_desk::Desk;
-use cv_hub_seats::{Identity, ListLength, Prefix, Seat, SubmittedEvent, counted, empty_share};
+use cv_hub_seats::{
+    Identity, ListLength, PostReader, Prefix, Seat, SubmittedEvent, counted, empty_share,
+};
 use std::alloc::Global;
 use std::marker::Model;
 use std::mem;
@@ -82,27 +85,48 @@ impl<D: Desk, L: Identity> EventList<D, L> {
         Ok(())
     }
 
-    /// Adds an event of a seat.
-    pub fn add<W: Wait>(
-        &mut self,
+    /// The list with one more event. Under the lock nobody else adds one, so the first try succeeds.
+    pub fn added<W: Wait>(
+        &self,
         rt: &W,
+        seat: &Seat<D, L>,
+        submitted: &SubmittedEvent<D>,
+    ) -> Prefix<D, L>
+        requires below_2_63_events { length self.now.list < 2 ^ 63 }
+        requires seat { submitted.now.seat ≡ seat.now.index }
+        requires replayed { IsReplayed D.tree L.limits (self.now.list ++ submission_of submitted.now ∷ []) }
+        ensures { result ≡ self.now.list ++ submission_of submitted.now ∷ [] }
+    {
+        let _index = seat.index();
+        for _ in rt.forever() {
+            if let Some(next) = self.front.add(&self.head, submitted) {
+                return next;
+            }
+        }
+        unreachable!()
+    }
+
+    /// Keeps the list with one more event, `next`, with the entry of that event and its seat's receipt.
+    pub fn keep(
+        &mut self,
+        next: Prefix<D, L>,
         seat: &mut Seat<D, L>,
         submitted: SubmittedEvent<D>,
         name: Act,
         reply: Reply,
+        reader: PostReader<D, L>,
     )
+        requires next { next ≡ self.old.list ++ submission_of submitted ∷ [] }
         requires room { 0 < self.old.room }
-        requires below_2_63_events { length self.old.list < 2 ^ 63 }
         requires seat { submitted.seat ≡ seat.old.index }
         requires seen { IsPrefix seat.old.list self.old.list }
         requires name { name ≡ act_name (act_of submitted.event.value) }
         requires reply { reply ≡ submitted.reply.value }
-        requires replayed { IsReplayed D.tree L.limits (self.old.list ++ submission_of submitted ∷ []) }
-        ensures list { self.new.list ≡ self.old.list ++ submission_of submitted ∷ [] }
+        requires known { length next ≤ view reader.place }
+        ensures list { self.new.list ≡ next }
         ensures taken { self.new.taken ≡ self.old.taken }
-        ensures seat { seat.new ≡ seat_of seat.old.index self.new.list (seat.old.count + 1) }
+        ensures seat { seat.new ≡ seat_of seat.old.index next (seat.old.count + 1) seat.old.refused }
     {
-        let next = added(rt, &self.front, &self.head, seat, &submitted);
         let entry = EventEntry {
             number: next.len(),
             by: submitted.by,
@@ -110,7 +134,7 @@ impl<D: Desk, L: Identity> EventList<D, L> {
             reply,
         };
         self.entries.push_reserved(entry);
-        seat.receive(&mut self.book, &next);
+        seat.receive(&mut self.book, &next, reader);
         self.front = next;
     }
 
@@ -132,26 +156,4 @@ impl<D: Desk, L: Identity> EventList<D, L> {
         let none = Vec::new(*self.entries.allocator());
         mem::replace(&mut self.entries, none)
     }
-}
-
-/// The list with one more event. Under the lock nobody else adds one, so the first try succeeds.
-fn added<W: Wait, D: Desk, L: Identity>(
-    rt: &W,
-    front: &Prefix<D, L>,
-    head: &ListLength<L>,
-    seat: &Seat<D, L>,
-    submitted: &SubmittedEvent<D>,
-) -> Prefix<D, L>
-    requires room { length front.now < 2 ^ 63 }
-    requires seat { submitted.now.seat ≡ seat.now.index }
-    requires replayed { IsReplayed D.tree L.limits (front.now ++ submission_of submitted.now ∷ []) }
-    ensures { result ≡ front.now ++ submission_of submitted.now ∷ [] }
-{
-    let _index = seat.index();
-    for _ in rt.forever() {
-        if let Some(next) = front.add(head, submitted) {
-            return next;
-        }
-    }
-    unreachable!()
 }

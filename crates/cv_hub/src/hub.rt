@@ -8,8 +8,9 @@ ghost use Rattle.cv_hub_seats.specs.Events.{IsReplayed, entries_from, state_of};
 ghost use Rattle.cv_hub_seats.specs.Seats.{AreAllReceipts, AreFresh, AreNumbered, HaveSeen, IsApplied, seat_of};
 ghost use Rattle.cv_hub_seats.specs.declared.submission.Submission.{Submission};
 
+use crate::hold::Hold;
 use crate::locked::{Locked, Receipt};
-use crate::view::View;
+use crate::posting::{end_writer, opened_writer};
 use cv_base::{Digest, NoMemory, Seq};
 use cv_core::{Core, Event};
 use cv_core_records::{By, EventEntry};
@@ -22,20 +23,11 @@ use std::sync::{Mutex, Wait};
 /// How many events a hub applies at most: their numbers have 64 bits.
 const MOST_EVENTS: u64 = 1 << 63;
 
-/// A core that threads share, with the one list of its events. Contracts see the list up to the last drain.
+/// A core that threads share, with the one list of its events. Contracts see the list up to the last drain. It is not `Drop`: who owns
+/// a hub ends it by `end`.
 pub struct Hub<D: Desk, L: Identity> {
     locked: Mutex<Option<Locked<D, L>>>,
     taken: Prefix<D, L>,
-}
-
-/// Written out, so that the crates above call it, and do not prove anew how each part is dropped.
-impl<D: Desk + Drop, L: Identity> Drop for Hub<D, L> {
-    fn drop(self) {
-        let Hub {
-            locked: _,
-            taken: _,
-        } = self;
-    }
 }
 
 impl<D: Desk, L: Identity> Model for Hub<D, L> {
@@ -48,8 +40,10 @@ impl<D: Desk, L: Identity> Model for Hub<D, L> {
 }
 
 impl<D: Desk + Drop, L: Identity> Hub<D, L> {
-    /// A hub of a core that has applied no event, with this number of seats.
-    pub fn start(
+    /// A hub of a core that has applied no event, with this number of seats. It publishes the board before all events. If memory runs
+    /// out, what was made is ended.
+    pub fn start<W: Wait>(
+        rt: &W,
         alloc: Global,
         blank: Blank,
         core: Core<D>,
@@ -70,19 +64,28 @@ impl<D: Desk + Drop, L: Identity> Hub<D, L> {
             share,
         } = blank.open::<D, L>();
         let taken = front.again();
-        let locked = Locked::new(alloc, core, head, front, book);
-        let hub = Hub {
-            locked: Mutex::new(Some(locked)),
-            taken,
-        };
-        let seats = fresh_seats(alloc, &hub.taken, share, seats)?;
-        Ok((hub, seats))
+        let writer = opened_writer(rt, alloc, &core, &taken, seats)?;
+        match fresh_seats(rt, alloc, &taken, share, seats, &writer) {
+            Ok(made) => {
+                let locked = Locked::new(alloc, core, head, front, book, writer);
+                let hub = Hub {
+                    locked: Mutex::new(Some(locked)),
+                    taken,
+                };
+                Ok((hub, made))
+            }
+            Err(NoMemory) => {
+                end_writer(rt, writer);
+                Err(NoMemory)
+            }
+        }
     }
 
     /// Applies an event that a seat submits for a lane or a worker. The receipt has its number in the list, the machine's reply there
-    /// and a note of the list up to it, which the seat has then seen. If memory runs out, the event is consumed, the seat is as before, and
-    /// the list has no event of this call, as the next taking shows. It waits for the lock, and if 2^63 events were applied it does not
-    /// return.
+    /// and a note of the list up to it, which the seat has then seen. If memory runs out, or so many notes live that no reader has a
+    /// place, the event is consumed, the seat is as before, and the list has no event of this call, as the next taking shows. It waits
+    /// for the lock, and there for each view of the board before the last one: so a thread has no view open when it submits. If 2^63
+    /// events were applied it does not return.
     pub fn submit<W: Wait>(
         &self,
         rt: &W,
@@ -100,24 +103,18 @@ impl<D: Desk + Drop, L: Identity> Hub<D, L> {
         held.submit(rt, alloc, seat, by, event)
     }
 
-    /// A note of the list, with at least all events that were taken. It takes no memory. It waits for the lock.
+    /// A note of the list, with at least all events that were taken. It takes no memory. It waits for the lock, and until a reader has a
+    /// place.
     pub fn note<W: Wait>(&self, rt: &W) -> Note<D, L>
         ensures { IsPrefix self.now result }
     {
-        let held = self.hold(rt, &self.taken);
-        Note::of(held.seen().again())
-    }
-
-    /// A view, with at least all events that the seat has seen; the seat has then seen those of the view. It waits for the lock, and
-    /// holds it.
-    pub fn view<W: Wait>(&self, rt: &W, seat: &mut Seat<D, L>) -> View<'_, D, L>
-        ensures taken { IsPrefix self.now result }
-        ensures seen { IsPrefix seat.old.list result }
-        ensures seat { seat.new ≡ seat_of seat.old.index result seat.old.count }
-    {
-        let held = self.hold(rt, seat.seen());
-        seat.see(held.seen());
-        held
+        for _ in rt.forever() {
+            let mut held = self.hold(rt, &self.taken);
+            if let Some(note) = held.note() {
+                return note;
+            }
+        }
+        unreachable!()
     }
 
     /// The layers that are queued after exactly the events that were taken, in ascending order. It waits for the lock, and if an event
@@ -153,9 +150,13 @@ impl<D: Desk + Drop, L: Identity> Hub<D, L> {
         entries
     }
 
-    /// Ends the hub and its seats. It takes no memory.
-    pub fn end(self, seats: Vec<Seat<D, L>>) {
-        let _ = (self, seats);
+    /// Ends the hub and its seats. It takes no memory, and waits for those who read a board.
+    pub fn end<W: Wait>(self, rt: &W, seats: Vec<Seat<D, L>>) {
+        let Hub { locked, taken: _ } = self;
+        if let Some(locked) = locked.into_inner() {
+            locked.end(rt);
+        }
+        drop(seats);
     }
 
     /// The list with the entries since the last drain.
@@ -172,7 +173,7 @@ impl<D: Desk + Drop, L: Identity> Hub<D, L> {
         for _ in rt.forever() {
             let mut held = self.hold(rt, &self.taken);
             if have_seen(held.seen(), seats) {
-                if let Some(entries) = held.take(self.taken.len(), seats) {
+                if let Some(entries) = held.take(rt, self.taken.len(), seats) {
                     return (held.seen().again(), entries);
                 }
             }
@@ -181,7 +182,7 @@ impl<D: Desk + Drop, L: Identity> Hub<D, L> {
     }
 
     /// Holds the lock, with room for one more event.
-    fn hold_with_room<W: Wait>(&self, rt: &W, seen: &Prefix<D, L>) -> View<'_, D, L>
+    fn hold_with_room<W: Wait>(&self, rt: &W, seen: &Prefix<D, L>) -> Hold<'_, D, L>
         ensures seen { IsPrefix seen.now result }
         ensures taken { IsPrefix self.now result }
         ensures below_2_63_events { length result < 2 ^ 63 }
@@ -196,12 +197,12 @@ impl<D: Desk + Drop, L: Identity> Hub<D, L> {
     }
 
     /// Holds the lock. A hold that finds fewer events than were seen or taken is given up and tried again.
-    fn hold<W: Wait>(&self, rt: &W, seen: &Prefix<D, L>) -> View<'_, D, L>
+    fn hold<W: Wait>(&self, rt: &W, seen: &Prefix<D, L>) -> Hold<'_, D, L>
         ensures seen { IsPrefix seen.now result }
         ensures taken { IsPrefix self.now result }
     {
         for _ in rt.forever() {
-            if let Some(held) = View::of(self.locked.lock(rt)) {
+            if let Some(held) = Hold::of(self.locked.lock(rt)) {
                 if seen.begins(held.seen()) && self.taken.begins(held.seen()) {
                     return held;
                 }

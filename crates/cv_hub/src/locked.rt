@@ -1,17 +1,22 @@
-ghost use Rattle.std.specs.Prelude.{◌≡◌, ◌+◌, ◌≤◌, ◌<◌, ◌^◌, [], drop, length, IfOk, OnErr};
+ghost use Rattle.std.specs.Prelude.{◌≡◌, ◌+◌, ◌≤◌, ◌<◌, ◌^◌, [], drop, length, IfOk, IfSome, OnErr};
 ghost use mathlib.Core.List.{IsPrefix};
 ghost use Rattle.cv_core.specs.Core.{IsSound, act_of, opened};
 ghost use Rattle.cv_hub_seats.specs.Events.{entries_from};
 ghost use Rattle.cv_hub_seats.specs.Seats.{AreAllReceipts, AreNumbered, HaveSeen, IsApplied};
+ghost use Rattle.left_right.specs.Sides.{view};
 ghost use Rattle.cv_hub.specs.code.Locked.{IsAfter, IsEventPrepared};
+ghost use Rattle.cv_hub.specs.code.Posting.{IsPublished};
 
 use crate::events::EventList;
+use crate::posting::{end_writer, publish, told_one};
 use crate::prepared::PreparedEvent;
 use cv_base::NoMemory;
 use cv_core::{Core, Event};
 use cv_core_records::{By, EventEntry, Reply};
 use cv_desk::Desk;
-use cv_hub_seats::{Identity, ListLength, Note, Prefix, Seat, SubmittedEvent};
+use cv_hub_seats::{
+    Identity, ListLength, Note, PostReader, PostWriter, Prefix, Seat, SubmittedEvent, told,
+};
 use std::alloc::Global;
 use std::marker::Model;
 use std::snapshot::Snapshot;
@@ -26,46 +31,51 @@ pub struct Receipt<D: Desk, L: Identity> {
     pub note: Note<D, L>,
 }
 
-/// What lies under the lock of a hub: the core, and the list of the events that it applied.
+/// What lies under the lock of a hub: the core, the list of the events that it applied, and the writer of its boards. It is not
+/// `Drop`, since a writer is not: end it by `end`.
 pub struct Locked<D: Desk, L: Identity> {
     pub(crate) core: Core<D>,
     pub(crate) events: EventList<D, L>,
-}
-
-/// Written out, so that the crates above call it, and do not prove anew how each part is dropped.
-impl<D: Desk + Drop, L: Identity> Drop for Locked<D, L> {
-    fn drop(self) {
-        let Locked { core: _, events: _ } = self;
-    }
+    pub(crate) writer: PostWriter<D, L>,
 }
 
 impl<D: Desk, L: Identity> Model for Locked<D, L> {
+    ghost use Rattle.std.specs.Prelude.{drop};
+    ghost use Rattle.left_right.specs.Sides.{view as known};
     ghost use Rattle.cv_hub.specs.code.Locked.{IsAfter, LockedView};
+    ghost use Rattle.cv_hub.specs.code.Posting.{IsPublished};
 
     ghost Value = { LockedView };
 
     ghost view = { λ l. record { list = l.events.list; taken = l.events.taken } };
 
-    ghost invariant = { λ l. IsAfter D.tree L.limits l.events.list l.core };
+    ghost invariant = { λ l. IsAfter D.tree L.limits l.events.list l.core
+        × IsPublished l.events.list l.writer.desk.shown.value.list (drop l.writer.behind l.writer.log.items) (known l.writer.desk.place) };
 }
 
 impl<D: Desk + Drop, L: Identity> Locked<D, L> {
-    /// A core that has applied no event, with the list before all events.
+    /// A core that has applied no event, with the list before all events and a writer that shows its board.
     pub fn new(
         alloc: Global,
         core: Core<D>,
         head: ListLength<L>,
         front: Prefix<D, L>,
         book: Book<L>,
+        writer: PostWriter<D, L>,
     ) -> Locked<D, L>
         requires core { core ≡ opened L.limits }
         requires front { front ≡ [] }
         requires book { book.total ≡ 0 }
+        requires published { IsPublished [] writer.desk.shown.value.list (drop writer.behind writer.log.items) (view writer.desk.place) }
         ensures list { result.list ≡ [] }
         ensures taken { result.taken ≡ 0 }
     {
         let events = EventList::new(alloc, head, front, book);
-        Locked { core, events }
+        Locked {
+            core,
+            events,
+            writer,
+        }
     }
 
     /// The core after the events of the list.
@@ -89,9 +99,20 @@ impl<D: Desk + Drop, L: Identity> Locked<D, L> {
         self.events.taken
     }
 
-    /// Applies an event of a seat. If memory runs out, the event is consumed, and all else is as before.
+    /// A note of the list, unless all places for readers are in use.
+    pub fn note(&mut self) -> Option<Note<D, L>>
+        ensures note { IfSome result (λ note. note ≡ self.old.list) }
+        ensures same { self.new ≡ self.old }
+    {
+        let _facts = self.events.front.len();
+        let reader = told(&mut self.writer)?;
+        Some(Note::of(reader, self.events.front.again()))
+    }
+
+    /// Applies an event of a seat. If memory runs out, or all places for readers are in use, the event is consumed, and all else is as
+    /// before.
     pub fn submit<W: Wait>(
-        mut self,
+        self,
         rt: &W,
         alloc: Global,
         seat: &mut Seat<D, L>,
@@ -107,14 +128,30 @@ impl<D: Desk + Drop, L: Identity> Locked<D, L> {
         ensures same { OnErr result.1 (result.0.list ≡ self.list) }
         ensures taken { result.0.taken ≡ self.taken }
     {
-        if self.events.reserve().is_err() {
-            return (self, Err(NoMemory));
-        }
-        let Locked { core, events } = self;
+        let Locked {
+            core,
+            mut events,
+            mut writer,
+        } = self;
+        let Ok(place) = room(&mut events, &mut writer) else {
+            let same = Locked {
+                core,
+                events,
+                writer,
+            };
+            return (same, Err(NoMemory));
+        };
         match PreparedEvent::of(alloc, core, event) {
-            Err((core, NoMemory)) => (Locked { core, events }, Err(NoMemory)),
+            Err((core, NoMemory)) => {
+                let same = Locked {
+                    core,
+                    events,
+                    writer,
+                };
+                (same, Err(NoMemory))
+            }
             Ok(prepared) => {
-                let (locked, receipt) = enter(rt, events, seat, by, prepared);
+                let (locked, receipt) = enter(rt, events, writer, place, seat, by, prepared);
                 (locked, Ok(receipt))
             }
         }
@@ -132,24 +169,66 @@ impl<D: Desk + Drop, L: Identity> Locked<D, L> {
         ensures receipts { AreAllReceipts self.list seats.old }
         ensures seats { seats.new ≡ seats.old }
     {
-        let Locked { core, mut events } = self;
+        let Locked {
+            core,
+            mut events,
+            writer,
+        } = self;
         let entries = events.take(seats);
-        (Locked { core, events }, entries)
+        (
+            Locked {
+                core,
+                events,
+                writer,
+            },
+            entries,
+        )
+    }
+
+    /// Ends it. It waits for those who read a board.
+    pub fn end<W: Wait>(self, rt: &W) {
+        let Locked {
+            core: _,
+            events: _,
+            writer,
+        } = self;
+        end_writer(rt, writer);
     }
 }
 
-/// Enters an event that took all its memory into the list, and gives the core after it.
+/// Makes room for one more event: for its entry, and for one more reader, which keeps its place.
+fn room<D: Desk, L: Identity>(
+    events: &mut EventList<D, L>,
+    writer: &mut PostWriter<D, L>,
+) -> Result<PostReader<D, L>, NoMemory>
+    ensures list { events.new.list ≡ events.old.list }
+    ensures taken { events.new.taken ≡ events.old.taken }
+    ensures room { IfOk result (λ _. 0 < events.new.room) }
+    ensures shown { writer.new.desk.shown ≡ writer.old.desk.shown }
+    ensures pending { drop writer.new.behind writer.new.log.items ≡ drop writer.old.behind writer.old.log.items }
+    ensures same { view writer.new.desk.place ≡ view writer.old.desk.place }
+{
+    let place = told(writer).ok_or(NoMemory)?;
+    events.reserve()?;
+    Ok(place)
+}
+
+/// Enters an event that took all its memory into the list, publishes the board after it, and gives the core after it. The reader that
+/// kept a place gives it to the next reader of the seat.
 fn enter<W: Wait, D: Desk + Drop, L: Identity>(
     rt: &W,
     mut events: EventList<D, L>,
+    writer: PostWriter<D, L>,
+    place: PostReader<D, L>,
     seat: &mut Seat<D, L>,
     by: By,
     prepared: PreparedEvent<D>,
 ) -> (Locked<D, L>, Receipt<D, L>)
     requires room { 0 < events.room }
     requires below_2_63_events { length events.list < 2 ^ 63 }
+    requires published { IsPublished events.list writer.desk.shown.value.list (drop writer.behind writer.log.items) (view writer.desk.place) }
     requires seen { IsPrefix seat.old.list events.list }
-    requires prepared { IsEventPrepared D.tree prepared.planned.before (act_of prepared.event.value) prepared.planned prepared.name prepared.reply }
+    requires prepared { IsEventPrepared D.tree prepared.planned.before (act_of prepared.event.value) prepared.planned prepared.board prepared.name prepared.reply }
     requires after { IsAfter D.tree L.limits events.list prepared.planned.before }
     ensures applied { IsApplied D.tree L.limits events.list seat.old by (act_of prepared.event.value) result.1.number result.1.reply result.1.note seat.new }
     ensures list { result.0.list ≡ result.1.note }
@@ -157,6 +236,7 @@ fn enter<W: Wait, D: Desk + Drop, L: Identity>(
 {
     let PreparedEvent {
         planned,
+        board,
         event,
         name,
         reply,
@@ -168,13 +248,26 @@ fn enter<W: Wait, D: Desk + Drop, L: Identity>(
         event,
         reply: Snapshot::of(&reply),
     };
-    events.add(rt, seat, submitted, name, reply);
-    let (core, reply) = planned.commit();
+    let next = events.added(rt, seat, &submitted);
+    let mut writer = publish(rt, writer, board, &next);
+    drop(place);
+    let reader = told_one(rt, &mut writer);
+    events.keep(next, seat, submitted, name, reply, reader);
     let front = events.front.again();
+    let number = front.len();
+    let note = Note::of(told_one(rt, &mut writer), front);
+    let (core, reply) = planned.commit();
     let receipt = Receipt {
-        number: front.len(),
+        number,
         reply,
-        note: Note::of(front),
+        note,
     };
-    (Locked { core, events }, receipt)
+    (
+        Locked {
+            core,
+            events,
+            writer,
+        },
+        receipt,
+    )
 }

@@ -6,7 +6,7 @@ ghost use Rattle.cv_core.specs.Planned.{plan_of};
 ghost use Rattle.cv_hub.specs.code.Locked.{IsEventPrepared};
 
 use cv_base::{NoMemory, Steps};
-use cv_core::{Core, Event, Planned};
+use cv_core::{Board, Core, Event, Planned};
 use cv_core_records::{Act, Reply};
 use cv_desk::Desk;
 use std::alloc::Global;
@@ -18,6 +18,7 @@ use std::sync::ledger::{Blank, Ledger};
 #[derive(Drop)]
 pub struct PreparedEvent<D: Desk> {
     pub planned: Planned<D>,
+    pub board: Board,
     pub event: Snapshot<Event<D>>,
     pub name: Act,
     pub reply: Reply,
@@ -32,7 +33,7 @@ impl<D: Desk + Drop> PreparedEvent<D> {
     ) -> Result<PreparedEvent<D>, (Core<D>, NoMemory)>
         requires room { core.count < 2 ^ 63 }
         requires sound { IsSound (act_of event) }
-        ensures prepared { IfOk result (λ prepared. IsEventPrepared D.tree core (act_of event) prepared.planned prepared.name prepared.reply) }
+        ensures prepared { IfOk result (λ prepared. IsEventPrepared D.tree core (act_of event) prepared.planned prepared.board prepared.name prepared.reply) }
         ensures event { IfOk result (λ prepared. prepared.event.value ≡ event) }
         ensures err { IfErr result (λ refused. refused.0 ≡ core) }
     {
@@ -41,15 +42,19 @@ impl<D: Desk + Drop> PreparedEvent<D> {
         };
         let snapshot = Snapshot::of(&event);
         let planned = plan_counted::<D, Brand>(alloc, Blank::new(1), core, event)?;
-        match planned.reply().clone() {
-            Ok(reply) => Ok(PreparedEvent {
-                planned,
-                event: snapshot,
-                name,
-                reply,
-            }),
-            Err(_) => Err((planned.cancel(), NoMemory)),
-        }
+        let Ok(board) = planned.board() else {
+            return Err((planned.cancel(), NoMemory));
+        };
+        let Ok(reply) = planned.reply().clone() else {
+            return Err((planned.cancel(), NoMemory));
+        };
+        Ok(PreparedEvent {
+            planned,
+            board,
+            event: snapshot,
+            name,
+            reply,
+        })
     }
 }
 

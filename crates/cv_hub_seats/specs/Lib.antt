@@ -1,3 +1,4 @@
 pub mod Events
+pub mod Posts
 pub mod Seats
 pub mod code

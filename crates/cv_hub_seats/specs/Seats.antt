@@ -11,15 +11,16 @@ use Rattle.cv_core_machine.specs.declared.limits.Limits.{Limits}
 use Rattle.cv_hub_seats.specs.Events.{DeskTrees, state_of}
 use Rattle.cv_hub_seats.specs.declared.submission.Submission.{Submission}
 
--- the number of a seat, from 0; what it has seen of the list; how many receipts it got
+-- the number of a seat, from 0; what it has seen of the list; how many receipts it got; how often its door was refused
 pub record SeatView : Type 0 where
   pub index : ℕ
   pub list : List Submission
   pub count : ℕ
+  pub refused : ℕ
 
 -- the seat with these parts
-abbrev pub seat_of : ℕ → List Submission → ℕ → SeatView
-seat_of index list count = record { index = index; list = list; count = count }
+abbrev pub seat_of : ℕ → List Submission → ℕ → ℕ → SeatView
+seat_of index list count refused = record { index = index; list = list; count = count; refused = refused }
 
 -- 1 where a test holds, and else 0
 abbrev pub one_if : Bool → ℕ
@@ -38,13 +39,13 @@ pub record IsApplied (tree : DeskTrees) (limits : Limits) (list : List Submissio
   pub at_most_2_63 : number ≤ 2 ^ 63
   pub reply_is : StatesEveryLayer tree → reply ≡ (step (trees_of tree) (state_of (trees_of tree) limits list) act).1
   pub note_is : note ≡ list ++ record { seat = before.index; by = by; act = act; reply = reply } ∷ []
-  pub seat_is : after ≡ seat_of before.index note (before.count + 1)
+  pub seat_is : after ≡ seat_of before.index note (before.count + 1) before.refused
   pub seen : IsPrefix before.list list
 
--- seats that have these numbers in turn, and that saw and submitted nothing
+-- seats that have these numbers in turn, that saw and submitted nothing, and whose doors were never refused
 abbrev pub AreFresh : ℕ → List SeatView → Type 0
 AreFresh index [] = Unit {0}
-AreFresh index (seat ∷ seats) = (seat ≡ seat_of index [] 0) × AreFresh (index + 1) seats
+AreFresh index (seat ∷ seats) = (seat ≡ seat_of index [] 0 0) × AreFresh (index + 1) seats
 
 -- seats that have these numbers in turn
 abbrev pub AreNumbered : ℕ → List SeatView → Type 0

@@ -86,18 +86,6 @@ impl<D: Desk, L: Identity> Prefix<D, L> {
         self.number <= other.number
     }
 
-    /// One of two, which begins with the other.
-    pub fn longer(&self, other: &Prefix<D, L>) -> Prefix<D, L>
-        ensures this { IsPrefix self.now result }
-        ensures that { IsPrefix other.now result }
-    {
-        if self.begins(other) {
-            other.again()
-        } else {
-            self.again()
-        }
-    }
-
     /// With one more event. `None` says that the list may have others after these.
     pub fn add(&self, head: &ListLength<L>, submitted: &SubmittedEvent<D>) -> Option<Prefix<D, L>>
         requires room { length self.now < 2 ^ 63 }

@@ -2,11 +2,14 @@ ghost use Rattle.std.specs.Prelude.{◌≡◌, [], true, length, IfOk};
 ghost use Rattle.cv_hub_seats.specs.Seats.{AreFresh, HaveSeen};
 
 use crate::identity::Identity;
+use crate::post::PostWriter;
 use crate::prefix::Prefix;
 use crate::seat::Seat;
+use crate::telling::seated;
 use cv_base::NoMemory;
 use cv_desk::Desk;
 use std::alloc::Global;
+use std::sync::Wait;
 use std::sync::ledger::Share;
 
 /// If true, each seat has seen no more than a beginning of the list.
@@ -19,12 +22,15 @@ pub fn have_seen<D: Desk, L: Identity>(front: &Prefix<D, L>, seats: &[Seat<D, L>
     }
 }
 
-/// So many seats, which share the parts of the ledger.
-pub fn fresh_seats<D: Desk, L: Identity>(
+/// So many seats, which share the parts of the ledger, each with a reader of what is published. It waits while no place for a reader
+/// is free.
+pub fn fresh_seats<W: Wait, D: Desk, L: Identity>(
+    rt: &W,
     alloc: Global,
     front: &Prefix<D, L>,
     mut share: Share<L>,
     seats: u32,
+    writer: &PostWriter<D, L>,
 ) -> Result<Vec<Seat<D, L>>, NoMemory>
     requires front { front.now ≡ [] }
     requires parts { share.parts ≡ L.parts }
@@ -36,7 +42,8 @@ pub fn fresh_seats<D: Desk, L: Identity>(
     let mut made = Vec::new(alloc);
     for index in 0..seats {
         let part = share.split_off(1, 0);
-        made.push(Seat::fresh(u64::from(index), front, part))?;
+        let reader = seated(rt, writer);
+        made.push(Seat::fresh(u64::from(index), front, part, reader))?;
     }
     Ok(made)
 }

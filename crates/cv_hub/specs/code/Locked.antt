@@ -3,6 +3,7 @@ use Rattle.std.specs.Prelude.{◌≡◌, ℕ, ◌+◌, ◌≤◌, List, length, 
 use Rattle.cv_core_records.specs.declared.event.Act.{Act}
 use Rattle.cv_core_records.specs.declared.event.EventEntry.{EventEntry}
 use Rattle.cv_core_records.specs.declared.reply.Reply.{Reply}
+use Rattle.cv_core_machine.specs.Board.{BoardView, board_of}
 use Rattle.cv_core_machine.specs.History.{act_name}
 use Rattle.cv_core_machine.specs.Scans.{StatesEveryLayer, trees_of}
 use Rattle.cv_core_machine.specs.Step.{step}
@@ -35,10 +36,11 @@ pub record IsAfter (tree : DeskTrees) (limits : Limits) (list : List Submission)
   pub count_is : core.count ≡ length list
   pub state_is : StatesEveryLayer tree → core.state ≡ state_of (trees_of tree) limits list
 
--- an event of a core is planned, and named and replied to as the plan says
-pub record IsEventPrepared (tree : DeskTrees) (core : CoreView) (act : MachineEvent) (plan : PlannedView) (name : Act) (reply : Reply) : Type 0 where
+-- an event of a core is planned, and named, shown and replied to as the plan says
+pub record IsEventPrepared (tree : DeskTrees) (core : CoreView) (act : MachineEvent) (plan : PlannedView) (board : BoardView) (name : Act) (reply : Reply) : Type 0 where
   pub name_is : name ≡ act_name act
   pub reply_is : reply ≡ plan.reply
+  pub board_is : StatesEveryLayer tree → board ≡ board_of (trees_of tree) plan.after.state
   pub before_is : plan.before ≡ core
   pub count_is : plan.after.count ≡ core.count + 1
   pub stepped : StatesEveryLayer tree → plan ≡ plan_of core (counted core (step (trees_of tree) core.state act))

@@ -1,5 +1,5 @@
 -- What an audit of the ledger finds.
-use Rattle.std.specs.Prelude.{◌≡◌, ℕ, ◌+◌, ◌≤◌, List, [], ◌∷◌}
+use Rattle.std.specs.Prelude.{ℕ, ◌+◌, ◌≤◌, List, [], ◌∷◌}
 use Rattle.cv_hub_seats.specs.Seats.{SeatView, made_by}
 
 -- how many receipts seats got

@@ -1,5 +1,5 @@
 -- The rule of the book that keeps the list of events, and what the step that adds one says.
-use Rattle.std.specs.Prelude.{◌≡◌, ℕ, ◌+◌, ◌≤◌, ◌<◌, ◌^◌, ◌==◌, true, List, [], ◌∷◌, ◌++◌, length, MatchBool}
+use Rattle.std.specs.Prelude.{◌≡◌, ℕ, ◌≤◌, ◌<◌, ◌^◌, ◌==◌, true, List, [], ◌∷◌, ◌++◌, length, MatchBool}
 use Rattle.std.specs.List.{AllByRecursion}
 use Rattle.logbook.specs.Pages.{Book, Cell, Named, Step, View}
 use Rattle.cv_core_machine.specs.declared.limits.Limits.{Limits}

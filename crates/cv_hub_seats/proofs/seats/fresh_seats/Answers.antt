@@ -1,5 +1,5 @@
-use Rattle.std.proofs.Common.{◌≡◌, ◌+◌, List, [], ◌∷◌, ◌++◌, length, ap, sym, ◌∙◌, arith, length-append}
-use Rattle.cv_hub_seats.specs.Seats.{AreFresh, SeatView, seat_of}
+use Rattle.std.proofs.Common.{◌≡◌, [], ◌∷◌, ◌++◌, length, ap, sym, ◌∙◌, arith, length-append}
+use Rattle.cv_hub_seats.specs.Seats.{seat_of}
 use Rattle.cv_hub_seats.proofs.Fresh.{fresh_more}
 use Rattle.cv_hub_seats.proofs.seats.fresh_seats.Goals as goal
 
@@ -9,7 +9,7 @@ loop-index-preserved g c =
     let before = c.loop-index.invariant in
     let items : c.push.new.self.items ≡ made ++ c.fresh.result ∷ [] = c.in_ok-push.ensures.items in
     let place : c.loop-index.index ≡ length made = sym before.2 in
-    let seat : c.fresh.result ≡ seat_of (length made) [] 0 = c.fresh.ensures ∙ ap (λ n. seat_of n [] 0) (c.from.ensures ∙ place) in (
+    let seat : c.fresh.result ≡ seat_of (length made) [] 0 0 = c.fresh.ensures ∙ ap (λ n. seat_of n [] 0 0) (c.from.ensures ∙ place) in (
       omega (arith, before.0, c.split_off-part.ensures.parts_left),
       omega (arith, before.1, c.split_off-part.ensures.amount_left),
       ap length items ∙ omega (arith, length-append made (c.fresh.result ∷ []), before.2),

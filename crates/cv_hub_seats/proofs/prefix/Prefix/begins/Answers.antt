@@ -1,5 +1,4 @@
-use Rattle.std.proofs.Common.{◌≤◌, List, length, ap, subst, arith, MatchBool, true, false, Bool, ◌≡◌}
-use Rattle.std.proofs.lemmas.Bool.Decides.{nat_tests}
+use Rattle.std.proofs.Common.{List, ap, subst}
 use mathlib.Core.List.{IsPrefix}
 use Rattle.cv_hub_seats.specs.declared.submission.Submission.{Submission}
 use Rattle.cv_hub_seats.proofs.Comparing.{begins_one}
