@@ -51,7 +51,7 @@ use Rattle.cv_core_machine.specs.Layers.{queued}
 use Rattle.cv_core_machine.specs.Scans.{Trees}
 use Rattle.cv_core_machine.specs.declared.event.MachineEvent.{MachineEvent}
 use Rattle.cv_core_machine.specs.declared.event.MachineEvent.TheVariants as whole
-use Rattle.cv_serve_legal.specs.Legal.{AreLast, AreLegal, IsLegal}
+use Rattle.cv_serve_legal.specs.Legal.{AreLast, AreLegal, IsLegal, IsLegalFrom}
 use Rattle.cv_serve_legal.specs.Parts.{claim_in, claims_of, event_by, events_by, lines_answered, times}
 use Rattle.cv_serve_legal.specs.Replay.{Moment, Replays, beginning, moment_after, read_of, submitted}
 use Rattle.cv_serve_legal.specs.Round.{AreReadsOrdered, IsLegalRound}
@@ -438,6 +438,91 @@ legal = record {
   lines = record { text = sym texts; tags = tags };
   after = indexed;
   legal = subst (λ cut. AreLegal trees 1 beginning cut (first_entries ++ second_entries) indexed) (sym rounds) two_rounds;
+  reached = refl;
+}
+
+-- ---- a transcript that goes on: the image was registered before it, and the layer is Queued
+
+-- the input has one line, and the events have the numbers after that of the registration
+abbrev later_input : List ℕ
+later_input = report_line ++ codes "\n"
+
+abbrev later_round : Round
+later_round = line 1 report_line ∷ []
+
+abbrev later_entries : List Entry
+later_entries =
+    entry.Event claim_event ∷ entry.Event indexed_event
+    ∷ entry.Read (record { front = 3; lane = 0; line = 1; answer = answer.Report image (report.Good 0 []) }) ∷ []
+
+later_rounds : rounds_of round_limits later_input true ≡ later_round ∷ []
+unfolding lines_of
+later_rounds = refl
+
+later_legal : IsLegalRound trees 1 registered later_round later_entries indexed
+unfolding rows_of scan image_packages root_entries packages findings affects fixed
+later_legal = record {
+  taken = asks 1 (request.Report image) ∷ [];
+  answers = (record { number = refl; answer = reports }, tt);
+  others = later_entries;
+  parts = refl;
+  replays = (
+    claimed,
+    record { act = whole.Claim layer 0; source = refl; is = refl; next = refl },
+    (
+      indexed,
+      record { act = whole.Indexed layer 0; source = refl; is = refl; next = refl },
+      (record { act = request.Report image; source = refl; front = refl; is = inr refl }, refl),
+    ),
+  );
+  ordered = ((tt, (tt, tt)), ((tt, tt), (tt, tt)));
+  lanes = λ lane. one_line 1 (request.Report image) (0 == lane);
+  claims = λ other. refl;
+  claimers = (omega arith, (tt, tt));
+  works = λ worker. worker_works (0 == worker);
+}
+
+-- no layer is Queued after it
+later_whole : AreLegal trees 1 registered (later_round ∷ []) later_entries indexed
+later_whole = record {
+  between = indexed;
+  first = later_entries;
+  last = [];
+  parts = refl;
+  input = (indexed, later_entries, [], refl, later_legal, (refl, refl));
+  further = (refl, refl);
+}
+
+abbrev later_good_text : List ℕ
+later_good_text = codes "{\"at\":3,\"findings\":[],\"generation\":0,\"image\":\"sha256:0000000000000000000000000000000000000000000000000000000000000000\",\"lane\":0,\"line\":1,\"read\":\"report\",\"reply\":\"good\"}"
+
+later_good_json : entry_json (entry.Read (record { front = 3; lane = 0; line = 1; answer = answer.Report image (report.Good 0 []) })) ≡ later_good_text
+unfolding entry_json serde_json_on_literals encode_with digits
+later_good_json = refl
+
+abbrev later_output : List ℕ
+later_output = claim_text ++ 10 ∷ indexed_text ++ 10 ∷ later_good_text ++ 10 ∷ []
+
+later_texts : flat_map entry_text later_entries ≡ later_output
+unfolding entry_text line_text entry_json serde_json_on_literals encode_with digits
+later_texts = refl
+
+later_tags : AllByRecursion HasTag later_entries
+unfolding is_utf8 chars serde_json_on_literals encode_with
+later_tags = (
+  has_tag _ claim_text claim_json refl,
+  (
+    has_tag _ indexed_text indexed_json refl,
+    (has_tag _ later_good_text later_good_json refl, tt),
+  ),
+)
+
+later : IsLegalFrom trees registered later_input later_output 1 indexed.state
+later = record {
+  entries = later_entries;
+  lines = record { text = sym later_texts; tags = later_tags };
+  after = indexed;
+  legal = subst (λ cut. AreLegal trees 1 registered cut later_entries indexed) (sym later_rounds) later_whole;
   reached = refl;
 }
 

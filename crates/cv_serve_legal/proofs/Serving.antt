@@ -9,7 +9,7 @@ use Rattle.cv_transcript.specs.declared.entry.Entry.{Entry}
 use Rattle.cv_core_machine.specs.Layers.{queued}
 use Rattle.cv_core_machine.specs.Scans.{Trees}
 use Rattle.cv_serve_legal.specs.Legal.{AreLast, AreLegal, AreLegalRounds}
-use Rattle.cv_serve_legal.specs.Replay.{Moment, beginning}
+use Rattle.cv_serve_legal.specs.Replay.{Moment}
 use Rattle.cv_serve_legal.specs.Round.{IsLegalRound}
 use Rattle.cv_serve_legal.specs.Rounds.{Cut, Round, RoundLimits, counted, cut_line, cut_lines, end_round, put_line}
 use Rattle.cv_serve_legal.specs.ParsedLine.{IsTaken}
@@ -55,13 +55,13 @@ rise_later (first ∷ lines) last more h most =
 
 -- ---- what a service did
 
-pub begins : (trees : Trees) (workers : ℕ) (limits : RoundLimits) → Served trees workers (cut_lines limits []) 0 [] 0 [] beginning
-begins trees workers limits = record { rounds = (refl, refl); begun = tt; ascend = tt; size = refl }
+pub begins : (trees : Trees) (workers : ℕ) (start : Moment) (limits : RoundLimits) → Served trees workers start (cut_lines limits []) 0 [] 0 [] start
+begins trees workers start limits = record { rounds = (refl, refl); begun = tt; ascend = tt; size = refl }
 
-pub takes_line : (trees : Trees) (workers : ℕ) (cut : Cut) (last : ℕ) (taken : List ParsedLine) (bytes : ℕ) (entries : List Entry) (now : Moment) (line : Line) (t : ParsedLine)
-    → Served trees workers cut last taken bytes entries now → line.number ≡ last + 1 → IsTaken line t
-    → Served trees workers (put_line line cut) (last + 1) (taken ++ t ∷ []) (bytes + length line.text) entries now
-takes_line trees workers cut last taken bytes entries now line t h is k = record {
+pub takes_line : (trees : Trees) (workers : ℕ) (start : Moment) (cut : Cut) (last : ℕ) (taken : List ParsedLine) (bytes : ℕ) (entries : List Entry) (now : Moment) (line : Line) (t : ParsedLine)
+    → Served trees workers start cut last taken bytes entries now → line.number ≡ last + 1 → IsTaken line t
+    → Served trees workers start (put_line line cut) (last + 1) (taken ++ t ∷ []) (bytes + length line.text) entries now
+takes_line trees workers start cut last taken bytes entries now line t h is k = record {
   rounds = h.rounds;
   begun = zip_more IsTaken cut.begun taken line t h.begun k;
   ascend = rise_with cut.begun last line is h.ascend;
@@ -69,20 +69,20 @@ takes_line trees workers cut last taken bytes entries now line t h is k = record
 }
 
 -- the round that has begun ends, and these are its entries
-pub ends_round : (trees : Trees) (workers : ℕ) (cut : Cut) (last : ℕ) (taken : List ParsedLine) (bytes : ℕ) (entries : List Entry) (now : Moment) (next : List Entry) (after : Moment)
-    → Served trees workers cut last taken bytes entries now → IsLegalRound trees workers now cut.begun next after
-    → Served trees workers (end_round cut) last [] 0 (entries ++ next) after
-ends_round trees workers cut last taken bytes entries now next after h k = record {
-  rounds = one_more trees workers beginning now after cut.rounds cut.begun entries next h.rounds k;
+pub ends_round : (trees : Trees) (workers : ℕ) (start : Moment) (cut : Cut) (last : ℕ) (taken : List ParsedLine) (bytes : ℕ) (entries : List Entry) (now : Moment) (next : List Entry) (after : Moment)
+    → Served trees workers start cut last taken bytes entries now → IsLegalRound trees workers now cut.begun next after
+    → Served trees workers start (end_round cut) last [] 0 (entries ++ next) after
+ends_round trees workers start cut last taken bytes entries now next after h k = record {
+  rounds = one_more trees workers start now after cut.rounds cut.begun entries next h.rounds k;
   begun = tt;
   ascend = tt;
   size = refl;
 }
 
 -- empty lines have numbers too
-pub later : (trees : Trees) (workers : ℕ) (cut : Cut) (last : ℕ) (taken : List ParsedLine) (bytes : ℕ) (entries : List Entry) (now : Moment) (more : ℕ)
-    → Served trees workers cut last taken bytes entries now → last ≤ more → Served trees workers cut more taken bytes entries now
-later trees workers cut last taken bytes entries now more h most =
+pub later : (trees : Trees) (workers : ℕ) (start : Moment) (cut : Cut) (last : ℕ) (taken : List ParsedLine) (bytes : ℕ) (entries : List Entry) (now : Moment) (more : ℕ)
+    → Served trees workers start cut last taken bytes entries now → last ≤ more → Served trees workers start cut more taken bytes entries now
+later trees workers start cut last taken bytes entries now more h most =
     record { rounds = h.rounds; begun = h.begun; ascend = rise_later cut.begun last more h.ascend most; size = h.size }
 
 -- ---- the end of the input
@@ -99,23 +99,23 @@ pub counted_ended : (cut : Cut) → counted true cut ≡ (if is_cons cut.begun t
 counted_ended cut = refl
 
 -- rounds that were served, and then what follows the last
-with_last : (trees : Trees) (workers : ℕ) (rounds : List Round) (entries : List Entry) (now : Moment) (more : List Entry) (after : Moment)
-    → AreLegalRounds trees workers beginning rounds entries now → AreLast (queued now.state.layers) trees workers now more after
-    → AreLegal trees workers beginning rounds (entries ++ more) after
-with_last trees workers rounds entries now more after h k =
+with_last : (trees : Trees) (workers : ℕ) (start : Moment) (rounds : List Round) (entries : List Entry) (now : Moment) (more : List Entry) (after : Moment)
+    → AreLegalRounds trees workers start rounds entries now → AreLast (queued now.state.layers) trees workers now more after
+    → AreLegal trees workers start rounds (entries ++ more) after
+with_last trees workers start rounds entries now more after h k =
     record { between = now; first = entries; last = more; parts = refl; input = h; further = k }
 
-pub all_legal : (trees : Trees) (workers : ℕ) (cut : Cut) (last : ℕ) (taken : List ParsedLine) (bytes : ℕ) (entries : List Entry) (now : Moment) (more : List Entry) (after : Moment)
-    → Served trees workers cut last taken bytes entries now → cut.begun ≡ [] → AreLast (queued now.state.layers) trees workers now more after
-    → AreLegal trees workers beginning (counted true cut) (entries ++ more) after
-all_legal trees workers cut last taken bytes entries now more after h none k =
-    subst (λ rounds. AreLegal trees workers beginning rounds (entries ++ more) after) (sym (counted_none cut none))
-    (with_last trees workers cut.rounds entries now more after h.rounds k)
+pub all_legal : (trees : Trees) (workers : ℕ) (start : Moment) (cut : Cut) (last : ℕ) (taken : List ParsedLine) (bytes : ℕ) (entries : List Entry) (now : Moment) (more : List Entry) (after : Moment)
+    → Served trees workers start cut last taken bytes entries now → cut.begun ≡ [] → AreLast (queued now.state.layers) trees workers now more after
+    → AreLegal trees workers start (counted true cut) (entries ++ more) after
+all_legal trees workers start cut last taken bytes entries now more after h none k =
+    subst (λ rounds. AreLegal trees workers start rounds (entries ++ more) after) (sym (counted_none cut none))
+    (with_last trees workers start cut.rounds entries now more after h.rounds k)
 
 -- the same where the last round of the input had no empty line after it
-pub all_legal_last : (trees : Trees) (workers : ℕ) (cut : Cut) (last : ℕ) (taken : List ParsedLine) (bytes : ℕ) (entries : List Entry) (now : Moment) (more : List Entry) (after : Moment)
-    → Served trees workers (end_round cut) last taken bytes entries now → is_cons cut.begun ≡ true → AreLast (queued now.state.layers) trees workers now more after
-    → AreLegal trees workers beginning (counted true cut) (entries ++ more) after
-all_legal_last trees workers cut last taken bytes entries now more after h some k =
-    subst (λ rounds. AreLegal trees workers beginning rounds (entries ++ more) after) (sym (counted_some cut some))
-    (with_last trees workers (end_round cut).rounds entries now more after h.rounds k)
+pub all_legal_last : (trees : Trees) (workers : ℕ) (start : Moment) (cut : Cut) (last : ℕ) (taken : List ParsedLine) (bytes : ℕ) (entries : List Entry) (now : Moment) (more : List Entry) (after : Moment)
+    → Served trees workers start (end_round cut) last taken bytes entries now → is_cons cut.begun ≡ true → AreLast (queued now.state.layers) trees workers now more after
+    → AreLegal trees workers start (counted true cut) (entries ++ more) after
+all_legal_last trees workers start cut last taken bytes entries now more after h some k =
+    subst (λ rounds. AreLegal trees workers start rounds (entries ++ more) after) (sym (counted_some cut some))
+    (with_last trees workers start (end_round cut).rounds entries now more after h.rounds k)

@@ -39,11 +39,15 @@ pub record AreLegal (trees : Trees) (workers : ℕ) (before : Moment) (rounds : 
   pub input : AreLegalRounds trees workers before rounds first between
   pub further : AreLast (queued between.state.layers) trees workers between last after
 
--- the output is a legal transcript of an input that was read to its end, by this number of workers over these layers, and leads to
--- this state
-pub record IsLegal (trees : Trees) (input output : List ℕ) (workers : ℕ) (state : State) : Type 0 where
+-- The output is a legal transcript of an input that was read to its end, by this number of workers over these layers. It goes on from
+-- the moment before, and leads to this state. Its lines are numbered from 1, and its events from the next number on
+pub record IsLegalFrom (trees : Trees) (before : Moment) (input output : List ℕ) (workers : ℕ) (state : State) : Type 0 where
   pub entries : List Entry
   pub lines : AreLines output entries
   pub after : Moment
-  pub legal : AreLegal trees workers beginning (rounds_of round_limits input true) entries after
+  pub legal : AreLegal trees workers before (rounds_of round_limits input true) entries after
   pub reached : after.state ≡ state
+
+-- the same of a service that begins
+abbrev pub IsLegal : Trees → List ℕ → List ℕ → ℕ → State → Type 0
+IsLegal trees input output workers state = IsLegalFrom trees beginning input output workers state

@@ -1,12 +1,12 @@
--- What a service did after some lines of its input: the rounds that ended were answered by these entries, and the lines of the
--- round that has begun are read.
+-- What a service did from some moment on, after some lines of its input: the rounds that ended were answered by these entries, and the
+-- lines of the round that has begun are read.
 use Rattle.std.specs.Prelude.{◌≡◌, ⊤, ℕ, ◌≤◌, ◌<◌, List, [], ◌∷◌}
 use Rattle.std.specs.List.{AllByRecursion, AllZip}
 use Rattle.cv_base.specs.Lines.{Line}
 use Rattle.cv_transcript.specs.declared.entry.Entry.{Entry}
 use Rattle.cv_core_machine.specs.Scans.{Trees}
 use Rattle.cv_serve_legal.specs.Legal.{AreLegalRounds}
-use Rattle.cv_serve_legal.specs.Replay.{Moment, beginning}
+use Rattle.cv_serve_legal.specs.Replay.{Moment}
 use Rattle.cv_serve_legal.specs.Rounds.{Cut, size_of}
 use Rattle.cv_serve_legal.specs.ParsedLine.{IsTaken}
 use Rattle.cv_serve_legal.specs.declared.parsed_line.ParsedLine.{ParsedLine}
@@ -17,8 +17,8 @@ LinesAscend [] last = ⊤
 LinesAscend (line ∷ lines) last = (line.number ≤ last) × (AllByRecursion (λ later. line.number < later.number) lines × LinesAscend lines last)
 
 -- the lines up to this number are cut so; what became of the lines of the round that has begun, and how many bytes they have
-pub record Served (trees : Trees) (workers : ℕ) (cut : Cut) (last : ℕ) (taken : List ParsedLine) (bytes : ℕ) (entries : List Entry) (now : Moment) : Type 0 where
-  pub rounds : AreLegalRounds trees workers beginning cut.rounds entries now
+pub record Served (trees : Trees) (workers : ℕ) (start : Moment) (cut : Cut) (last : ℕ) (taken : List ParsedLine) (bytes : ℕ) (entries : List Entry) (now : Moment) : Type 0 where
+  pub rounds : AreLegalRounds trees workers start cut.rounds entries now
   pub begun : AllZip IsTaken cut.begun taken
   pub ascend : LinesAscend cut.begun last
   pub size : size_of cut.begun ≡ bytes

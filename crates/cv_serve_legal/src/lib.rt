@@ -9,8 +9,9 @@
 //! AreAllIndexed state: each layer of each registered image is Indexed
 //! ```
 //!
-//! `IsLegal` is of an input that was read to its end. The rounds before a refusal of reading, and those from another start, are
-//! `AreLegalRounds` in `specs/Legal.antt`, which has the moment before them and the moment after.
+//! `IsLegal` is of an input that was read to its end, by a service that begins, and `IsLegalFrom` of one that goes on from some moment.
+//! The rounds before a refusal of reading are `AreLegalRounds` in `specs/Legal.antt`, which has the moment before them and the moment
+//! after.
 #![tactic(auto)]
 
 mod complete_laws;
