@@ -77,8 +77,8 @@ made_one tree limits list before after by act number reply note h =
     }
 
 -- more was seen
-pub made_seen : (before after : SeatView) (list : List Submission) → IsPrefix before.list list → after ≡ seat_of before.index list before.count → Made before after []
-made_seen before after list seen is = record {
+pub made_seen : (before after : SeatView) (list : List Submission) (refused : ℕ) → IsPrefix before.list list → after ≡ seat_of before.index list before.count refused → Made before after []
+made_seen before after list refused seen is = record {
   since = seen.0;
   list_is = ap (λ s. s.list) is ∙ sym seen.1;
   among = among_none before.index (length before.list + 1) seen.0;

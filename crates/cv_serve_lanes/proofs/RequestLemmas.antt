@@ -34,16 +34,16 @@ answered_by tree limits act read list seen (Ok a) said is same asks h =
     ∙ (ap (λ (l : List Submission). Some (answer_to (trees_of tree) (state_of (trees_of tree) limits l) read)) same ∙ ap Some (sym h ∙ sym is)))
 answered_by tree limits act read list seen (Err error) said is same asks h = inl is
 
-answered_with : (tree : DeskTrees) (limits : Limits) (origin : RequestOrigin) (act : Act) (before after : SeatView) (list : List Submission) (found : Result Answer NoMemory) (entry : ReadEntry)
-    → IsPrefix before.list list → after ≡ seat_of before.index list before.count → entry ≡ answered_read origin list found
+answered_with : (tree : DeskTrees) (limits : Limits) (origin : RequestOrigin) (act : Act) (before after : SeatView) (list : List Submission) (refused : ℕ) (found : Result Answer NoMemory) (entry : ReadEntry)
+    → IsPrefix before.list list → after ≡ seat_of before.index list before.count refused → entry ≡ answered_read origin list found
     → ((seen : List Submission) → seen ≡ list → StatesEveryLayer tree → (entry.answer ≡ answer.NoMemory) ⊎ (option_map (answer_to (trees_of tree) (state_of (trees_of tree) limits seen)) (read_of act) ≡ Some entry.answer))
     → OneStep tree limits (request_of origin act) before after (Answered entry)
-answered_with tree limits origin act before after list found entry begins is made says =
+answered_with tree limits origin act before after list refused found entry begins is made says =
     let size : entry.front ≡ length list = ap (λ r. r.front) made in
     let now : after.list ≡ list = ap (λ s. s.list) is in
     let whole : take entry.front after.list ≡ list = ap (take entry.front) now ∙ take_all entry.front list (omega (arith, size)) in
     record {
-      made = made_seen before after list begins is;
+      made = made_seen before after list refused begins is;
       answers = (ap (λ r. r.lane) made, ap (λ r. r.line) made, says (take entry.front after.list) whole);
       from = omega (arith, size, prefix_length before.list list begins);
       within = omega (arith, size, ap length now);
@@ -56,21 +56,21 @@ read_requested (query.Page number size page) = refl
 read_requested query.List = refl
 
 -- a read was answered after the events of a list
-pub query_answered : (tree : DeskTrees) (limits : Limits) (origin : RequestOrigin) (wanted : Query) (before after : SeatView) (list : List Submission) (found : Result Answer NoMemory) (entry : ReadEntry)
-    → IsPrefix before.list list → after ≡ seat_of before.index list before.count → entry ≡ answered_read origin list found
+pub query_answered : (tree : DeskTrees) (limits : Limits) (origin : RequestOrigin) (wanted : Query) (before after : SeatView) (list : List Submission) (refused : ℕ) (found : Result Answer NoMemory) (entry : ReadEntry)
+    → IsPrefix before.list list → after ≡ seat_of before.index list before.count refused → entry ≡ answered_read origin list found
     → (StatesEveryLayer tree → IfOk found (λ a. a ≡ answer_to (trees_of tree) (state_of (trees_of tree) limits list) (read_by wanted)))
     → OneStep tree limits (request_of origin (requested_by wanted)) before after (Answered entry)
-query_answered tree limits origin wanted before after list found entry begins is made h =
-    answered_with tree limits origin (requested_by wanted) before after list found entry begins is made
+query_answered tree limits origin wanted before after list refused found entry begins is made h =
+    answered_with tree limits origin (requested_by wanted) before after list refused found entry begins is made
     (λ seen same known. answered_by tree limits (requested_by wanted) (read_by wanted) list seen found entry.answer (ap (λ r. r.answer) made) same
     (read_requested wanted) (h known))
 
 -- a request of any kind ran out of memory after the events of a list
-pub no_memory : (tree : DeskTrees) (limits : Limits) (origin : RequestOrigin) (act : Act) (before after : SeatView) (list : List Submission) (error : NoMemory) (entry : ReadEntry)
-    → IsPrefix before.list list → after ≡ seat_of before.index list before.count → entry ≡ answered_read origin list (Err error)
+pub no_memory : (tree : DeskTrees) (limits : Limits) (origin : RequestOrigin) (act : Act) (before after : SeatView) (list : List Submission) (refused : ℕ) (error : NoMemory) (entry : ReadEntry)
+    → IsPrefix before.list list → after ≡ seat_of before.index list before.count refused → entry ≡ answered_read origin list (Err error)
     → OneStep tree limits (request_of origin act) before after (Answered entry)
-no_memory tree limits origin act before after list error entry begins is made =
-    answered_with tree limits origin act before after list (Err error) entry begins is made (λ seen same known. inl (ap (λ r. r.answer) made))
+no_memory tree limits origin act before after list refused error entry begins is made =
+    answered_with tree limits origin act before after list refused (Err error) entry begins is made (λ seen same known. inl (ap (λ r. r.answer) made))
 
 -- an event was applied
 pub submitted_one : (tree : DeskTrees) (limits : Limits) (origin : RequestOrigin) (act : Act) (event : MachineEvent) (before after : SeatView) (list : List Submission) (number : ℕ) (reply : Reply) (note : List Submission)

@@ -3,43 +3,27 @@ ghost use Rattle.cv_core_records.specs.declared.read.ReportOutcome.TheVariants a
 ghost use Rattle.cv_request.specs.Limits.{IsWithinLimits};
 ghost use Rattle.cv_core_machine.specs.Answer.{Heads, Page, Report, answer_to, report_of};
 ghost use Rattle.cv_core_machine.specs.Scans.{StatesEveryLayer, trees_of};
-ghost use Rattle.cv_request.specs.declared.request.Act.{Act};
 ghost use Rattle.cv_hub.specs.Events.{state_of};
-ghost use Rattle.cv_serve_lanes.specs.code.Lane.{Answered, OneStep};
-ghost use Rattle.cv_serve_lanes.specs.code.RequestOrigin.{answered_read, read_by, request_of, requested_by};
+ghost use Rattle.cv_serve_lanes.specs.code.RequestOrigin.{answered_read, read_by, requested_by};
 
 use crate::request::{Query, RequestOrigin};
 use cv_base::{Digest, Finding, NoMemory};
 use cv_core::ReportRefusal;
 use cv_core_records::{Answer, PageOutcome, ReadEntry, ReportOutcome};
 use cv_desk::Desk;
-use cv_hub::{Hub, Identity, Seat, View};
+use cv_hub::{Identity, View};
 use cv_notice::PageError;
 use cv_overlay::ImageFault;
 use cv_serve_dealing::{copy_findings, copy_rows};
 use std::alloc::Global;
-use std::sync::Wait;
-
-/// That a request ran out of memory, now.
-pub fn no_memory_at<D: Desk + Drop, L: Identity, W: Wait>(
-    rt: &W,
-    hub: &Hub<D, L>,
-    seat: &mut Seat<D, L>,
-    origin: RequestOrigin,
-) -> ReadEntry
-    ensures { (act : Act) → OneStep D.tree L.limits (request_of origin act) seat.old seat.new (Answered result) }
-{
-    let view = hub.view(rt, seat);
-    read_entry(&view, origin, Err(NoMemory))
-}
 
 /// The entry of a read with this answer, or that memory ran out.
-pub fn read_entry<D: Desk + Drop, L: Identity>(
-    view: &View<'_, D, L>,
+pub fn read_entry<D: Desk, L: Identity>(
+    view: &View<D, L>,
     origin: RequestOrigin,
     answer: Result<Answer, NoMemory>,
 ) -> ReadEntry
-    ensures { result ≡ answered_read origin view.now answer }
+    ensures { result ≡ answered_read origin view.now.list answer }
 {
     ReadEntry {
         front: view.front(),
@@ -50,39 +34,39 @@ pub fn read_entry<D: Desk + Drop, L: Identity>(
 }
 
 /// The answer to a read, in the state that is viewed.
-pub fn look_up<D: Desk + Drop, L: Identity>(
+pub fn look_up<D: Desk, L: Identity>(
     alloc: Global,
-    view: &View<'_, D, L>,
-    query: Query,
+    view: &View<D, L>,
+    query: &Query,
 ) -> Result<Answer, NoMemory>
-    requires within { IsWithinLimits (requested_by query) }
-    ensures { StatesEveryLayer D.tree → IfOk result (λ found. found ≡ answer_to (trees_of D.tree) (state_of (trees_of D.tree) L.limits view.now) (read_by query)) }
+    requires within { IsWithinLimits (requested_by query.now) }
+    ensures { StatesEveryLayer D.tree → IfOk result (λ found. found ≡ answer_to (trees_of D.tree) (state_of (trees_of D.tree) L.limits view.now.list) (read_by query.now)) }
 {
-    match query {
+    match *query {
         Query::Report(image) => report(alloc, view, image),
         Query::Page { number, size, page } => page_of(alloc, view, number, size, page),
         Query::List => list(alloc, view),
     }
 }
 
-fn report<D: Desk + Drop, L: Identity>(
+fn report<D: Desk, L: Identity>(
     alloc: Global,
-    view: &View<'_, D, L>,
+    view: &View<D, L>,
     image: Digest,
 ) -> Result<Answer, NoMemory>
-    ensures { StatesEveryLayer D.tree → IfOk result (λ found. found ≡ answer_to (trees_of D.tree) (state_of (trees_of D.tree) L.limits view.now) (Report image)) }
+    ensures { StatesEveryLayer D.tree → IfOk result (λ found. found ≡ answer_to (trees_of D.tree) (state_of (trees_of D.tree) L.limits view.now.list) (Report image)) }
 {
     let outcome = report_outcome(alloc, view, &image)?;
     Ok(Answer::Report { image, outcome })
 }
 
 /// The report of an image, copied.
-fn report_outcome<D: Desk + Drop, L: Identity>(
+fn report_outcome<D: Desk, L: Identity>(
     alloc: Global,
-    view: &View<'_, D, L>,
+    view: &View<D, L>,
     image: &Digest,
 ) -> Result<ReportOutcome, NoMemory>
-    ensures { StatesEveryLayer D.tree → IfOk result (λ outcome. outcome ≡ report_of (trees_of D.tree) (state_of (trees_of D.tree) L.limits view.now) image.now) }
+    ensures { StatesEveryLayer D.tree → IfOk result (λ outcome. outcome ≡ report_of (trees_of D.tree) (state_of (trees_of D.tree) L.limits view.now.list) image.now) }
 {
     match view.report(image) {
         Ok(report) => good(alloc, report.generation, report.findings.as_slice()),
@@ -108,16 +92,16 @@ fn bad(fault: &ImageFault) -> Result<ReportOutcome, NoMemory>
     Ok(ReportOutcome::BadImage(fault.clone()?))
 }
 
-fn page_of<D: Desk + Drop, L: Identity>(
+fn page_of<D: Desk, L: Identity>(
     alloc: Global,
-    view: &View<'_, D, L>,
+    view: &View<D, L>,
     number: u64,
     size: u32,
     page: u64,
 ) -> Result<Answer, NoMemory>
     requires size { 1 ≤ size }
     requires page { 1 ≤ page }
-    ensures { StatesEveryLayer D.tree → IfOk result (λ found. found ≡ answer_to (trees_of D.tree) (state_of (trees_of D.tree) L.limits view.now) (Page number size page)) }
+    ensures { StatesEveryLayer D.tree → IfOk result (λ found. found ≡ answer_to (trees_of D.tree) (state_of (trees_of D.tree) L.limits view.now.list) (Page number size page)) }
 {
     let outcome = match view.page(number, u64::from(size), page) {
         Ok(found) => PageOutcome::Rows {
@@ -135,11 +119,8 @@ fn page_of<D: Desk + Drop, L: Identity>(
     })
 }
 
-fn list<D: Desk + Drop, L: Identity>(
-    alloc: Global,
-    view: &View<'_, D, L>,
-) -> Result<Answer, NoMemory>
-    ensures { StatesEveryLayer D.tree → IfOk result (λ found. found ≡ answer_to (trees_of D.tree) (state_of (trees_of D.tree) L.limits view.now) Heads) }
+fn list<D: Desk, L: Identity>(alloc: Global, view: &View<D, L>) -> Result<Answer, NoMemory>
+    ensures { StatesEveryLayer D.tree → IfOk result (λ found. found ≡ answer_to (trees_of D.tree) (state_of (trees_of D.tree) L.limits view.now.list) Heads) }
 {
     Ok(Answer::List(view.list(alloc)?))
 }

@@ -7,7 +7,7 @@ ghost use Rattle.cv_serve_lanes.specs.code.Lane.{Answered, OneStep, Submitted};
 ghost use Rattle.cv_serve_lanes.specs.code.Own.{Placed};
 ghost use Rattle.cv_serve_lanes.specs.code.RequestOrigin.{request_of, requested_by};
 
-use crate::reads::{look_up, no_memory_at, read_entry};
+use crate::viewing::{no_memory_at, query_at};
 use cv_base::Digest;
 use cv_core::Event;
 use cv_core_records::{By, ReadEntry};
@@ -26,6 +26,7 @@ pub struct RequestOrigin {
 }
 
 /// The read of a request.
+#[derive(Clone, Copy)]
 pub enum Query {
     Report(Digest),
     Page { number: u64, size: u32, page: u64 },
@@ -52,7 +53,7 @@ pub fn carry_out<D: Desk + Drop, L: Identity, W: Wait>(
     let origin = RequestOrigin { lane, line };
     match event_in(act) {
         Ok(event) => submit(rt, alloc, hub, seat, origin, event),
-        Err(query) => Some(query_at(rt, alloc, hub, seat, origin, query)),
+        Err(query) => Some(query_at(rt, alloc, seat, origin, query)),
     }
 }
 
@@ -84,23 +85,6 @@ fn event_in<D: Desk>(act: Act) -> Result<Event<D>, Query>
     }
 }
 
-/// The answer to a read, now.
-fn query_at<D: Desk + Drop, L: Identity, W: Wait>(
-    rt: &W,
-    alloc: Global,
-    hub: &Hub<D, L>,
-    seat: &mut Seat<D, L>,
-    origin: RequestOrigin,
-    query: Query,
-) -> ReadEntry
-    requires within { IsWithinLimits (requested_by query) }
-    ensures { OneStep D.tree L.limits (request_of origin (requested_by query)) seat.old seat.new (Answered result) }
-{
-    let view = hub.view(rt, seat);
-    let answer = look_up(alloc, &view, query);
-    read_entry(&view, origin, answer)
-}
-
 /// Submits the event of a request.
 fn submit<D: Desk + Drop, L: Identity, W: Wait>(
     rt: &W,
@@ -119,7 +103,7 @@ fn submit<D: Desk + Drop, L: Identity, W: Wait>(
         line: origin.line,
     };
     let Ok(_receipt) = hub.submit(rt, alloc, seat, by, event) else {
-        return Some(no_memory_at(rt, hub, seat, origin));
+        return Some(no_memory_at(rt, seat, origin));
     };
     None
 }
