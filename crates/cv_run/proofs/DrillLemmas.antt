@@ -51,7 +51,8 @@ pub drilled : {D : Type 0} (listings : D → ℕ) (seed : ℕ) (input written ou
     → IsServed generated 4 listings (λ desk. 0) input (Some written) (Some output) (take 4 desks) (take 4 desks_now) → IsDrilled seed output
 drilled listings seed input written output desks desks_now is empty four served =
     let by_script = subst (λ i. IsServed generated 4 listings (λ desk. 0) i (Some written) (Some output) (take 4 desks) (take 4 desks_now)) is served in
-    let same = subst (λ w. IsServed generated 4 listings (λ desk. 0) (script seed) (Some w) (Some output) (take 4 desks) (take 4 desks_now)) empty by_script in
+    let whole = subst (λ w. IsServed generated 4 listings (λ desk. 0) (script seed) (Some w) (Some output) (take 4 desks) (take 4 desks_now)) empty by_script in
+    let same = whole.served in
     let count : length (take 4 desks) ≡ 4 = length-take-le 4 desks (omega (arith, four)) in
     subst (λ o. IsDrilled seed o) (sym same.appended) (record {
       state = same.state;

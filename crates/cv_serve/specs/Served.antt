@@ -10,7 +10,7 @@ use Rattle.cv_io.specs.declared.write.WriteError.TheVariants as error
 use Rattle.cv_transcript.specs.declared.entry.Entry.{Entry}
 use Rattle.cv_core_machine.specs.Scans.{Trees}
 use Rattle.cv_core_machine.specs.State.{State}
-use Rattle.cv_serve_legal.specs.Legal.{AreLegalRounds, AreLines, IsLegal}
+use Rattle.cv_serve_legal.specs.Legal.{AreLegalRounds, AreLines, IsLegalFrom}
 use Rattle.cv_serve_legal.specs.Replay.{Moment, beginning}
 use Rattle.cv_serve_legal.specs.Rounds.{Round, cut_lines, round_limits, rounds_of}
 use Rattle.cv_serve_round.specs.Further.{AreToEnd, Stops}
@@ -21,15 +21,19 @@ use Rattle.cv_serve.specs.Quiet.{AreQuiet, HasNoMemoryLine, IsComplete}
 use Rattle.cv_serve.specs.declared.end.ServeEnd.{ServeEnd}
 use Rattle.cv_serve.specs.declared.end.ServeEnd.TheVariants as end
 
--- what was appended to the output is a legal transcript of the input. The desk of each worker listed a layer for each line of this
--- worker that says `claimed`, and failed for each of its `fault` lines. If no desk failed and no worker ran out of memory, it is complete
-pub record IsServed {D : Type 0} (trees : Trees) (workers : ℕ) (listings faults : D → ℕ) (input : List ℕ) (written written_now : Option (List ℕ)) (desks desks_now : List D) : Type 0 where
+-- what was appended to the output is a legal transcript of the input, which goes on from the moment `start`. The desk of each worker listed
+-- a layer for each line of this worker that says `claimed`, and failed for each of its `fault` lines
+pub record IsServedFrom {D : Type 0} (trees : Trees) (workers : ℕ) (start : Moment) (listings faults : D → ℕ) (input : List ℕ) (written written_now : Option (List ℕ)) (desks desks_now : List D) : Type 0 where
   pub output : List ℕ
   pub appended : Appends written written_now output
   pub state : State
-  pub legal : IsLegal trees input output workers state
+  pub legal : IsLegalFrom trees start input output workers state
   pub counts : DesksCounted listings faults 0 desks desks_now legal.entries
-  pub complete : AreQuiet faults desks desks_now → HasNoMemoryLine legal.entries → IsComplete trees workers (rounds_of round_limits input true) legal.entries legal.after
+
+-- the same of a service that begins. If no desk failed and no worker ran out of memory, it is complete
+pub record IsServed {D : Type 0} (trees : Trees) (workers : ℕ) (listings faults : D → ℕ) (input : List ℕ) (written written_now : Option (List ℕ)) (desks desks_now : List D) : Type 0 where
+  pub served : IsServedFrom trees workers beginning listings faults input written written_now desks desks_now
+  pub complete : AreQuiet faults desks desks_now → HasNoMemoryLine served.legal.entries → IsComplete trees workers (rounds_of round_limits input true) served.legal.entries served.legal.after
 
 -- what an end says of how the lines of the input stop
 abbrev pub StopsBy : Stop → ServeEnd → Type 0
@@ -84,10 +88,10 @@ IsBeforeRefusal Finished front taken = front ≡ taken
 IsBeforeRefusal LongLine front taken = IsBeforeLongLine front taken
 IsBeforeRefusal LongInput front taken = front ≡ taken
 
--- The input was not read to its end, and what was appended to the output are the lines of legal rounds for exactly those rounds that
--- ended before the refusal. The desk of each worker listed a layer for each line of this worker that says `claimed`, and failed for each
+-- The input was not read to its end, and what was appended to the output are the lines of legal rounds, from the moment `start` on, for
+-- exactly those rounds that ended before the refusal. The desk of each worker listed a layer for each line of this worker that says `claimed`, and failed for each
 -- of its `fault` lines: no further round was run
-pub record IsServedUpTo {D : Type 0} (known : Type 0) (trees : Trees) (workers : ℕ) (listings faults : D → ℕ) (stop : Stop) (remaining remaining_now written written_now : Option (List ℕ)) (desks desks_now : List D) : Type 0 where
+pub record IsServedUpTo {D : Type 0} (known : Type 0) (trees : Trees) (workers : ℕ) (start : Moment) (listings faults : D → ℕ) (stop : Stop) (remaining remaining_now written written_now : Option (List ℕ)) (desks desks_now : List D) : Type 0 where
   pub taken : IsTakenUpTo stop remaining remaining_now
   pub front : List ℕ
   pub refused : IsBeforeRefusal stop front taken.bytes
@@ -96,7 +100,7 @@ pub record IsServedUpTo {D : Type 0} (known : Type 0) (trees : Trees) (workers :
   pub appended : Appends written written_now output
   pub lines : AreLines output entries
   pub after : Moment
-  pub legal : known → AreLegalRounds trees workers beginning (rounds_of round_limits front false) entries after
+  pub legal : known → AreLegalRounds trees workers start (rounds_of round_limits front false) entries after
   pub counts : DesksCounted listings faults 0 desks desks_now entries
 
 -- these lines were given of the input: all, or the first ones
@@ -109,28 +113,33 @@ abbrev pub AreRoundsEnded : Bool → List (List ℕ) → List Round → Type 0
 AreRoundsEnded true texts all = AreToEnd (cut_lines round_limits (numbered 1 texts)) all
 AreRoundsEnded false texts all = all ≡ (cut_lines round_limits (numbered 1 texts)).rounds
 
--- A write was not made, or memory ran out. What was appended to the output are whole lines of legal rounds, and if a write was not made,
--- then the first bytes of one more round, which is the last that the lines ended that were given, and was run. What the desks counted is
+-- A write was not made, or memory ran out. What was appended to the output are whole lines of legal rounds, from the moment `start` on,
+-- and if a write was not made, then the first bytes of one more round, which is the last that the lines ended that were given, and was run. What the desks counted is
 -- by the rounds that were run
-pub record IsStopped {D : Type 0} (known : Type 0) (trees : Trees) (workers : ℕ) (listings faults : D → ℕ) (remaining written written_now : Option (List ℕ)) (desks desks_now : List D) (error : WriteError) : Type 0 where
+pub record IsStopped {D : Type 0} (known : Type 0) (trees : Trees) (workers : ℕ) (start : Moment) (listings faults : D → ℕ) (remaining written written_now : Option (List ℕ)) (desks desks_now : List D) (error : WriteError) : Type 0 where
   pub texts : List (List ℕ)
   pub are_all : Bool
   pub given : AreGiven are_all remaining texts
   pub all : List Round
   pub ended : AreRoundsEnded are_all texts all
-  pub stops : Stops known trees workers listings faults all [] written written_now desks desks_now error
+  pub stops : Stops known trees workers start listings faults all [] written written_now desks desks_now error
 
--- what an end says of the output and the desks
-abbrev pub Wrote : {D : Type 0} → Type 0 → Trees → ℕ → (D → ℕ) → (D → ℕ) → Option (List ℕ) → Option (List ℕ) → Option (List ℕ) → Option (List ℕ) → List D → List D → ServeEnd → Type 0
-Wrote known trees workers listings faults remaining remaining_now written written_now desks desks_now end.Done =
+-- what an end says of the output and the desks, of a service that began at the moment `start`
+abbrev pub WroteFrom : {D : Type 0} → Type 0 → Trees → ℕ → Moment → (D → ℕ) → (D → ℕ) → Option (List ℕ) → Option (List ℕ) → Option (List ℕ) → Option (List ℕ) → List D → List D → ServeEnd → Type 0
+WroteFrom known trees workers start listings faults remaining remaining_now written written_now desks desks_now end.Done =
     IsCounted listings faults written written_now desks desks_now
-Wrote known trees workers listings faults remaining remaining_now written written_now desks desks_now end.ReadFault =
-    IsServedUpTo known trees workers listings faults Finished remaining remaining_now written written_now desks desks_now
-Wrote known trees workers listings faults remaining remaining_now written written_now desks desks_now end.LineTooLong =
-    IsServedUpTo known trees workers listings faults LongLine remaining remaining_now written written_now desks desks_now
-Wrote known trees workers listings faults remaining remaining_now written written_now desks desks_now end.InputTooLong =
-    IsServedUpTo known trees workers listings faults LongInput remaining remaining_now written written_now desks desks_now
-Wrote known trees workers listings faults remaining remaining_now written written_now desks desks_now end.WriteFault =
-    IsStopped known trees workers listings faults remaining written written_now desks desks_now error.WriteFault
-Wrote known trees workers listings faults remaining remaining_now written written_now desks desks_now end.NoMemory =
-    IsStopped known trees workers listings faults remaining written written_now desks desks_now error.NoMemory
+WroteFrom known trees workers start listings faults remaining remaining_now written written_now desks desks_now end.ReadFault =
+    IsServedUpTo known trees workers start listings faults Finished remaining remaining_now written written_now desks desks_now
+WroteFrom known trees workers start listings faults remaining remaining_now written written_now desks desks_now end.LineTooLong =
+    IsServedUpTo known trees workers start listings faults LongLine remaining remaining_now written written_now desks desks_now
+WroteFrom known trees workers start listings faults remaining remaining_now written written_now desks desks_now end.InputTooLong =
+    IsServedUpTo known trees workers start listings faults LongInput remaining remaining_now written written_now desks desks_now
+WroteFrom known trees workers start listings faults remaining remaining_now written written_now desks desks_now end.WriteFault =
+    IsStopped known trees workers start listings faults remaining written written_now desks desks_now error.WriteFault
+WroteFrom known trees workers start listings faults remaining remaining_now written written_now desks desks_now end.NoMemory =
+    IsStopped known trees workers start listings faults remaining written written_now desks desks_now error.NoMemory
+
+-- the same of a service that begins
+abbrev pub Wrote : {D : Type 0} → Type 0 → Trees → ℕ → (D → ℕ) → (D → ℕ) → Option (List ℕ) → Option (List ℕ) → Option (List ℕ) → Option (List ℕ) → List D → List D → ServeEnd → Type 0
+Wrote known trees workers listings faults remaining remaining_now written written_now desks desks_now ended =
+    WroteFrom known trees workers beginning listings faults remaining remaining_now written written_now desks desks_now ended

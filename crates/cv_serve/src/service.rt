@@ -8,10 +8,11 @@ ghost use Rattle.cv_io.specs.Reader.{reading, room_of};
 ghost use Rattle.cv_io.specs.declared.line.LineError.TheVariants as line;
 ghost use Rattle.cv_scan_input.specs.Taken.{IsTaken, IsTakenWithin};
 ghost use Rattle.cv_scan_input.specs.code.TakenParts.{IsTakenFrom, IsTakenTo};
+ghost use Rattle.cv_serve_legal.specs.Replay.{Moment};
 ghost use Rattle.cv_serve_round.specs.Core.{opened};
 ghost use Rattle.cv_serve_round.specs.Round.{moment_of};
 ghost use Rattle.cv_serve.specs.code.Ends.{end_of, is_read_stop, is_write_stop};
-ghost use Rattle.cv_serve.specs.Served.{FitsInput, IsServed, TakesUpTo, Wrote};
+ghost use Rattle.cv_serve.specs.Served.{FitsInput, IsServed, IsServedFrom, TakesUpTo, Wrote, WroteFrom};
 ghost use Rattle.cv_serve_round.specs.Begun.{IsPrepared};
 ghost use Rattle.cv_serve.specs.code.Reading.{Done, HasReadAll, StopsLines};
 ghost use Rattle.cv_serve.specs.declared.end.Stop.TheVariants as stop;
@@ -124,11 +125,14 @@ fn serve_with<
     ensures read_cause { CausedBy (S.faults input.old) (S.faults input.new) (is_read_stop result) }
     ensures write_cause { CausedBy (K.faults output.old) (K.faults output.new) (is_write_stop result) }
 {
-    let mut service = started::<D, L>(alloc, blank, core, desks.len())?;
-    serve_by(rt, alloc, &mut service, desks, input, output)
+    completeness_laws();
+    let mut service = started::<D, L, W>(rt, alloc, blank, core, desks.len())?;
+    let end = serve_by(rt, alloc, &mut service, desks, input, output);
+    service.end(rt);
+    end
 }
 
-/// Serves with a hub that has applied no event.
+/// Serves with a hub that has applied some events.
 fn serve_by<
     S: Source,
     K: Sink,
@@ -143,22 +147,20 @@ fn serve_by<
     input: &mut S,
     output: &mut K,
 ) -> Result<(), Stop>
-    requires limits { L.limits ≡ record { images = MAX_IMAGES; feeds = MAX_FEEDS } }
-    requires hub { service.old.hub ≡ [] }
     requires prepared { IsPrepared D.listings L.parts service.old.hub service.old.seats.items desks.old }
-    ensures done { StatesEveryLayer D.tree → OnOk result (IfSome (S.remaining input.old) (λ bytes.
-        IsServed (trees_of D.tree) (length desks.old) D.listings D.faults bytes (K.contents output.old) (K.contents output.new) desks.old desks.new)) }
+    ensures done { StatesEveryLayer D.tree → (start : Moment) → moment_of (trees_of D.tree) L.limits service.old.hub ≡ start → OnOk result (IfSome (S.remaining input.old) (λ bytes.
+        IsServedFrom (trees_of D.tree) (length desks.old) start D.listings D.faults bytes (K.contents output.old) (K.contents output.new) desks.old desks.new)) }
     ensures ended { OnOk result (IsAtEnd (S.remaining input.new)) }
     ensures input { FitsInput (S.remaining input.old) (end_of result) }
     ensures front { TakesUpTo (S.remaining input.old) (S.remaining input.new) (end_of result) }
-    ensures wrote { Wrote (StatesEveryLayer D.tree) (trees_of D.tree) (length desks.old) D.listings D.faults (S.remaining input.old) (S.remaining input.new)
+    ensures wrote { (start : Moment) → moment_of (trees_of D.tree) L.limits service.old.hub ≡ start
+        → WroteFrom (StatesEveryLayer D.tree) (trees_of D.tree) (length desks.old) start D.listings D.faults (S.remaining input.old) (S.remaining input.new)
         (K.contents output.old) (K.contents output.new) desks.old desks.new (end_of result) }
     ensures limit { IsTakenWithin (2 ^ 36) (S.remaining input.old) (S.remaining input.new) }
     ensures taken { IsErrOf result (stop.Input line.InputTooLong) → IsTaken (2 ^ 36) (S.remaining input.old) (S.remaining input.new) }
     ensures read_cause { CausedBy (S.faults input.old) (S.faults input.new) (is_read_stop result) }
     ensures write_cause { CausedBy (K.faults output.old) (K.faults output.new) (is_write_stop result) }
 {
-    completeness_laws();
     let mut reader = LineReader::new(alloc, MAX_LINE, MAX_INPUT)?;
     let mut round = Round::new(alloc);
     let lines = &mut reader;
@@ -190,14 +192,14 @@ fn read_lines<
     requires fresh { (reader.old.held ≡ []) × (reader.old.taken ≡ 0) }
     requires prepared { IsPrepared D.listings L.parts service.old.hub service.old.seats.items desks.old }
     ensures lines { OnOk result ((texts : List (List ℕ)) × HasReadAll (reading reader.old (S.remaining input.old)) texts
-        × ((workers : ℕ) → length desks.old ≡ workers
-        → Done (StatesEveryLayer D.tree) (trees_of D.tree) workers D.listings D.faults [] round.old.taken round.old.bytes (moment_of (trees_of D.tree) L.limits service.old.hub) (K.contents output.old) (K.contents output.old) desks.old desks.old
-        → Done (StatesEveryLayer D.tree) (trees_of D.tree) workers D.listings D.faults texts round.new.taken round.new.bytes (moment_of (trees_of D.tree) L.limits service.new.hub) (K.contents output.old) (K.contents output.new) desks.old desks.new)) }
+        × ((workers : ℕ) → length desks.old ≡ workers → (start : Moment)
+        → Done (StatesEveryLayer D.tree) (trees_of D.tree) workers start D.listings D.faults [] round.old.taken round.old.bytes (moment_of (trees_of D.tree) L.limits service.old.hub) (K.contents output.old) (K.contents output.old) desks.old desks.old
+        → Done (StatesEveryLayer D.tree) (trees_of D.tree) workers start D.listings D.faults texts round.new.taken round.new.bytes (moment_of (trees_of D.tree) L.limits service.new.hub) (K.contents output.old) (K.contents output.new) desks.old desks.new)) }
     ensures stops { IfSome (reading reader.old (S.remaining input.old)) (λ whole. StopsLines whole.stop result) }
     ensures front { TakesUpTo (S.remaining input.old) (S.remaining input.new) (end_of result) }
-    ensures wrote { (workers : ℕ) → length desks.old ≡ workers
-        → Done (StatesEveryLayer D.tree) (trees_of D.tree) workers D.listings D.faults [] round.old.taken round.old.bytes (moment_of (trees_of D.tree) L.limits service.old.hub) (K.contents output.old) (K.contents output.old) desks.old desks.old
-        → Wrote (StatesEveryLayer D.tree) (trees_of D.tree) workers D.listings D.faults (S.remaining input.old) (S.remaining input.new) (K.contents output.old) (K.contents output.new) desks.old desks.new (end_of result) }
+    ensures wrote { (workers : ℕ) → length desks.old ≡ workers → (start : Moment)
+        → Done (StatesEveryLayer D.tree) (trees_of D.tree) workers start D.listings D.faults [] round.old.taken round.old.bytes (moment_of (trees_of D.tree) L.limits service.old.hub) (K.contents output.old) (K.contents output.old) desks.old desks.old
+        → WroteFrom (StatesEveryLayer D.tree) (trees_of D.tree) workers start D.listings D.faults (S.remaining input.old) (S.remaining input.new) (K.contents output.old) (K.contents output.new) desks.old desks.new (end_of result) }
     ensures limit { IsTakenFrom reader.old.taken (S.remaining input.old) (S.remaining input.new) }
     ensures taken { IsErrOf result (stop.Input line.InputTooLong) → IsTakenTo reader.old.taken (2 ^ 36) (S.remaining input.old) (S.remaining input.new) }
     ensures ended { OnOk result (IsAtEnd (S.remaining input.new)) }

@@ -5,10 +5,11 @@
 //!
 //! ```text
 //! let core = new_core(alloc)?;
-//! let mut service = started::<D, L>(alloc, blank, core, desks.len())?;
+//! let mut service = started::<D, L, W>(rt, alloc, blank, core, desks.len())?;
 //! let mut round = Round::new(alloc);
-//! take_line(rt, alloc, &mut service, desks, output, &mut round, number, text)?;
-//! end_input(rt, alloc, &mut service, desks, output, round)?;
+//! let taken = take_line(rt, alloc, &mut service, desks, output, &mut round, number, text);
+//! let end = end_input(rt, alloc, &mut service, desks, output, round);
+//! service.end(rt);
 //! ```
 #![tactic(auto)]
 

@@ -4,6 +4,7 @@ ghost use Rattle.cv_base.specs.Texts.{is_cons, is_nil};
 ghost use Rattle.cv_hub.specs.Events.{state_of};
 ghost use Rattle.cv_io.specs.Fault.{is_write_fault};
 ghost use Rattle.cv_serve_crew.specs.code.Team.{AreLater};
+ghost use Rattle.cv_serve_legal.specs.Replay.{Moment};
 ghost use Rattle.cv_serve_legal.specs.Rounds.{Cut, cut_line, end_round, round_limits};
 ghost use Rattle.cv_serve_legal.specs.Served.{Served};
 ghost use Rattle.cv_serve_legal.specs.ParsedLine.{IsTaken};
@@ -48,13 +49,13 @@ pub fn take_line<
     text: &[u8],
 ) -> Result<(), WriteError>
     requires prepared { IsPrepared D.listings L.parts service.old.hub service.old.seats.items desks.old }
-    ensures further { (workers : ℕ) → length desks.old ≡ workers → (cut : Cut) (last : ℕ) (entries : List Entry) → number ≡ last + 1
-        → (StatesEveryLayer D.tree → Served (trees_of D.tree) workers cut last round.old.taken round.old.bytes entries (moment_of (trees_of D.tree) L.limits service.old.hub))
-        → OnOk result (Further (StatesEveryLayer D.tree) (trees_of D.tree) workers D.listings D.faults (cut_line round_limits cut (line_at number text.now)) number round.new.taken round.new.bytes entries (moment_of (trees_of D.tree) L.limits service.new.hub)
+    ensures further { (workers : ℕ) → length desks.old ≡ workers → (start : Moment) (cut : Cut) (last : ℕ) (entries : List Entry) → number ≡ last + 1
+        → (StatesEveryLayer D.tree → Served (trees_of D.tree) workers start cut last round.old.taken round.old.bytes entries (moment_of (trees_of D.tree) L.limits service.old.hub))
+        → OnOk result (Further (StatesEveryLayer D.tree) (trees_of D.tree) workers start D.listings D.faults (cut_line round_limits cut (line_at number text.now)) number round.new.taken round.new.bytes entries (moment_of (trees_of D.tree) L.limits service.new.hub)
         (K.contents output.old) (K.contents output.new) desks.old desks.new) }
-    ensures stops { (workers : ℕ) → length desks.old ≡ workers → (cut : Cut) (last : ℕ) (entries : List Entry) → number ≡ last + 1
-        → (StatesEveryLayer D.tree → Served (trees_of D.tree) workers cut last round.old.taken round.old.bytes entries (moment_of (trees_of D.tree) L.limits service.old.hub))
-        → IfErr result (λ error. Stops (StatesEveryLayer D.tree) (trees_of D.tree) workers D.listings D.faults (cut_line round_limits cut (line_at number text.now)).rounds entries
+    ensures stops { (workers : ℕ) → length desks.old ≡ workers → (start : Moment) (cut : Cut) (last : ℕ) (entries : List Entry) → number ≡ last + 1
+        → (StatesEveryLayer D.tree → Served (trees_of D.tree) workers start cut last round.old.taken round.old.bytes entries (moment_of (trees_of D.tree) L.limits service.old.hub))
+        → IfErr result (λ error. Stops (StatesEveryLayer D.tree) (trees_of D.tree) workers start D.listings D.faults (cut_line round_limits cut (line_at number text.now)).rounds entries
         (K.contents output.old) (K.contents output.new) desks.old desks.new error) }
     ensures prepared { OnOk result (IsPrepared D.listings L.parts service.new.hub service.new.seats.items desks.new) }
     ensures cause { CausedBy (K.faults output.old) (K.faults output.new) (is_write_fault result) }
@@ -104,13 +105,13 @@ fn end_if<
     ends: bool,
 ) -> Result<(), WriteError>
     requires prepared { IsPrepared D.listings L.parts service.old.hub service.old.seats.items desks.old }
-    ensures further { (workers : ℕ) → length desks.old ≡ workers → (cut : Cut) (last : ℕ) (entries : List Entry)
-        → (StatesEveryLayer D.tree → Served (trees_of D.tree) workers cut last round.old.taken round.old.bytes entries (moment_of (trees_of D.tree) L.limits service.old.hub))
-        → OnOk result (Further (StatesEveryLayer D.tree) (trees_of D.tree) workers D.listings D.faults (if ends then end_round cut else cut) last round.new.taken round.new.bytes entries (moment_of (trees_of D.tree) L.limits service.new.hub)
+    ensures further { (workers : ℕ) → length desks.old ≡ workers → (start : Moment) (cut : Cut) (last : ℕ) (entries : List Entry)
+        → (StatesEveryLayer D.tree → Served (trees_of D.tree) workers start cut last round.old.taken round.old.bytes entries (moment_of (trees_of D.tree) L.limits service.old.hub))
+        → OnOk result (Further (StatesEveryLayer D.tree) (trees_of D.tree) workers start D.listings D.faults (if ends then end_round cut else cut) last round.new.taken round.new.bytes entries (moment_of (trees_of D.tree) L.limits service.new.hub)
         (K.contents output.old) (K.contents output.new) desks.old desks.new) }
-    ensures stops { (workers : ℕ) → length desks.old ≡ workers → (cut : Cut) (last : ℕ) (entries : List Entry)
-        → (StatesEveryLayer D.tree → Served (trees_of D.tree) workers cut last round.old.taken round.old.bytes entries (moment_of (trees_of D.tree) L.limits service.old.hub))
-        → IfErr result (λ error. Stops (StatesEveryLayer D.tree) (trees_of D.tree) workers D.listings D.faults (end_round cut).rounds entries
+    ensures stops { (workers : ℕ) → length desks.old ≡ workers → (start : Moment) (cut : Cut) (last : ℕ) (entries : List Entry)
+        → (StatesEveryLayer D.tree → Served (trees_of D.tree) workers start cut last round.old.taken round.old.bytes entries (moment_of (trees_of D.tree) L.limits service.old.hub))
+        → IfErr result (λ error. Stops (StatesEveryLayer D.tree) (trees_of D.tree) workers start D.listings D.faults (end_round cut).rounds entries
         (K.contents output.old) (K.contents output.new) desks.old desks.new error) }
     ensures ended { OnErr result (ends ≡ true) }
     ensures begun { OnOk result (round.new ≡ (if ends then no_lines else round.old)) }
@@ -189,13 +190,13 @@ pub fn end_input<
     mut round: Round,
 ) -> Result<(), WriteError>
     requires prepared { IsPrepared D.listings L.parts service.old.hub service.old.seats.items desks.old }
-    ensures legal { (workers : ℕ) → length desks.old ≡ workers → (cut : Cut) (last : ℕ) (entries : List Entry)
-        → (StatesEveryLayer D.tree → Served (trees_of D.tree) workers cut last round.taken round.bytes entries (moment_of (trees_of D.tree) L.limits service.old.hub))
-        → OnOk result (ServedToEnd (StatesEveryLayer D.tree) (trees_of D.tree) workers D.listings D.faults cut entries (moment_of (trees_of D.tree) L.limits service.new.hub)
+    ensures legal { (workers : ℕ) → length desks.old ≡ workers → (start : Moment) (cut : Cut) (last : ℕ) (entries : List Entry)
+        → (StatesEveryLayer D.tree → Served (trees_of D.tree) workers start cut last round.taken round.bytes entries (moment_of (trees_of D.tree) L.limits service.old.hub))
+        → OnOk result (ServedToEnd (StatesEveryLayer D.tree) (trees_of D.tree) workers start D.listings D.faults cut entries (moment_of (trees_of D.tree) L.limits service.new.hub)
         (K.contents output.old) (K.contents output.new) desks.old desks.new) }
-    ensures stops { (workers : ℕ) → length desks.old ≡ workers → (cut : Cut) (last : ℕ) (entries : List Entry)
-        → (StatesEveryLayer D.tree → Served (trees_of D.tree) workers cut last round.taken round.bytes entries (moment_of (trees_of D.tree) L.limits service.old.hub))
-        → IfErr result (StopsAtEnd (StatesEveryLayer D.tree) (trees_of D.tree) workers D.listings D.faults cut entries (K.contents output.old) (K.contents output.new) desks.old desks.new) }
+    ensures stops { (workers : ℕ) → length desks.old ≡ workers → (start : Moment) (cut : Cut) (last : ℕ) (entries : List Entry)
+        → (StatesEveryLayer D.tree → Served (trees_of D.tree) workers start cut last round.taken round.bytes entries (moment_of (trees_of D.tree) L.limits service.old.hub))
+        → IfErr result (StopsAtEnd (StatesEveryLayer D.tree) (trees_of D.tree) workers start D.listings D.faults cut entries (K.contents output.old) (K.contents output.new) desks.old desks.new) }
     ensures cause { CausedBy (K.faults output.old) (K.faults output.new) (is_write_fault result) }
 {
     let begun = round.has_lines();

@@ -9,16 +9,25 @@ use cv_desk::Desk;
 use cv_hub::{Blank, Hub, Identity, Seat};
 use cv_request::MAX_LANES;
 use std::alloc::Global;
+use std::sync::Wait;
 
-/// The core that the lanes and the workers of a service share, and a seat of each of them.
-#[derive(Drop)]
+/// The core that the lanes and the workers of a service share, and a seat of each of them. Who starts one ends it.
 pub struct Service<D: Desk, L: Identity> {
     pub hub: Hub<D, L>,
     pub seats: Vec<Seat<D, L>>,
 }
 
+impl<D: Desk + Drop, L: Identity> Service<D, L> {
+    /// Ends the service.
+    pub fn end<W: Wait>(self, rt: &W) {
+        let Service { hub, seats } = self;
+        hub.end(rt, seats);
+    }
+}
+
 /// A service that has applied no event, with this number of workers.
-pub fn started<D: Desk + Drop, L: Identity>(
+pub fn started<D: Desk + Drop, L: Identity, W: Wait>(
+    rt: &W,
     alloc: Global,
     blank: Blank,
     core: Core<D>,
@@ -33,7 +42,7 @@ pub fn started<D: Desk + Drop, L: Identity>(
     ensures seats { IfOk result (λ service. AreRoundSeats L.parts workers [] service.seats.items) }
 {
     let count = u32::from(MAX_LANES) + workers as u32;
-    let (hub, seats) = Hub::<D, L>::start(alloc, blank, core, count)?;
+    let (hub, seats) = Hub::<D, L>::start(rt, alloc, blank, core, count)?;
     Ok(Service { hub, seats })
 }
 

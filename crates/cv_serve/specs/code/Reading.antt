@@ -43,7 +43,7 @@ pub record IsTakenLines (now : Reader) (before rest : Option (List ℕ)) (texts 
 abbrev pub AreTaken : Reader → Option (List ℕ) → Option (List ℕ) → List (List ℕ) → Type 0
 AreTaken now before rest texts = IsTakenLines now before rest texts ⊎ ((now.held ≡ []) × (now.ended ≡ true))
 
--- what was done with these lines
-abbrev pub Done : {D : Type 0} → Type 0 → Trees → ℕ → (D → ℕ) → (D → ℕ) → List (List ℕ) → List ParsedLine → ℕ → Moment → Option (List ℕ) → Option (List ℕ) → List D → List D → Type 0
-Done known trees workers listings faults texts taken bytes now written written_now desks desks_now =
-    Further known trees workers listings faults (cut_lines round_limits (numbered 1 texts)) (length texts) taken bytes [] now written written_now desks desks_now
+-- what was done with these lines, of a service that began at the moment `start`
+abbrev pub Done : {D : Type 0} → Type 0 → Trees → ℕ → Moment → (D → ℕ) → (D → ℕ) → List (List ℕ) → List ParsedLine → ℕ → Moment → Option (List ℕ) → Option (List ℕ) → List D → List D → Type 0
+Done known trees workers start listings faults texts taken bytes now written written_now desks desks_now =
+    Further known trees workers start listings faults (cut_lines round_limits (numbered 1 texts)) (length texts) taken bytes [] now written written_now desks desks_now

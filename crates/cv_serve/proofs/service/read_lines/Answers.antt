@@ -9,7 +9,7 @@ use Rattle.cv_serve_legal.specs.Rounds.{Cut, cut_line, cut_lines, round_limits}
 use Rattle.cv_serve_legal.proofs.Serving.{cut_more, numbered_more}
 use Rattle.cv_serve_round.specs.Begun.{line_at}
 use Rattle.cv_serve_round.proofs.Further.{further}
-use Rattle.cv_serve.specs.Served.{Wrote}
+use Rattle.cv_serve.specs.Served.{WroteFrom}
 use Rattle.cv_serve.specs.declared.end.Stop.TheVariants as stop
 use Rattle.cv_serve.proofs.Input.{fresh_reader, given_first, handed_end, reads_more, reads_none, taken_stop}
 use Rattle.cv_serve.proofs.Ending.{stopped_at, wrote_all, wrote_before, wrote_part}
@@ -19,7 +19,7 @@ use Rattle.cv_serve.proofs.service.read_lines.Goals as goal
 pub loop-text-init : goal.loop-text-init
 loop-text-init g c = record {
   not_spent = c.requires.not_spent;
-  lines = ([], refl, reads_none (reading c.args.reader.now (g.S.Source.remaining c.args.input.now)), none_given c.args.reader.now (g.S.Source.remaining c.args.input.now) c.requires.fresh.0 c.requires.fresh.1, λ workers many begun. begun);
+  lines = ([], refl, reads_none (reading c.args.reader.now (g.S.Source.remaining c.args.input.now)), none_given c.args.reader.now (g.S.Source.remaining c.args.input.now) c.requires.fresh.0 c.requires.fresh.1, λ workers many start begun. begun);
   seen = λ e. absurd (false≢true (sym c.requires.begins ∙ e));
   limits = c.requires.limits;
   taken = taken_first c.args.reader.now.taken (g.S.Source.remaining c.args.input.now);
@@ -55,10 +55,10 @@ loop-text-preserved g c =
         long,
         reads_more _ was now texts text before.lines.2 read,
         one_given c.loop-text.reader c.next.new.self _ _ _ texts (c.next.ensures.max_line ∙ before.limits.0) text before.lines.3 step,
-        λ workers many begun.
-            let done = before.lines.4 workers many begun in
-            further (StatesEveryLayer g.D.Desk.tree) (trees_of g.D.Desk.tree) workers g.D.Desk.listings g.D.Desk.faults cut (cut_line round_limits cut (line_at number c.as_slice.result.now)) _ (length texts) _ number _ _ _ _ [] _ _ _ _ _ _ _ _ done
-            (c.in_ok-take_line.ensures.further workers (before.count ∙ many) cut (length texts) done.more here done.served) (λ known. next) long,
+        λ workers many start begun.
+            let done = before.lines.4 workers many start begun in
+            further (StatesEveryLayer g.D.Desk.tree) (trees_of g.D.Desk.tree) workers start g.D.Desk.listings g.D.Desk.faults cut (cut_line round_limits cut (line_at number c.as_slice.result.now)) _ (length texts) _ number _ _ _ _ [] _ _ _ _ _ _ _ _ done
+            (c.in_ok-take_line.ensures.further workers (before.count ∙ many) start cut (length texts) done.more here done.served) (λ known. next) long,
       );
       seen = c.next.ensures.step.takes.seen before.seen;
       limits = (c.next.ensures.max_line ∙ before.limits.0, c.next.ensures.max_input ∙ before.limits.1);
@@ -85,22 +85,22 @@ returns-in_err-text-clause-front g c =
 
 -- the next line was not given
 pub returns-in_err-text-clause-wrote : goal.returns-in_err-text-clause-wrote
-returns-in_err-text-clause-wrote g c = λ workers many begun.
+returns-in_err-text-clause-wrote g c = λ workers many start begun.
     let before = c.loop-text.invariant in
     let remaining = g.S.Source.remaining c.args.input.now in
     let error = c.in_err-text.field-0.0 in
     handed_end
-    (λ ended. Wrote (StatesEveryLayer g.D.Desk.tree) (trees_of g.D.Desk.tree) workers g.D.Desk.listings g.D.Desk.faults remaining (g.S.Source.remaining c.next.new.input)
+    (λ ended. WroteFrom (StatesEveryLayer g.D.Desk.tree) (trees_of g.D.Desk.tree) workers start g.D.Desk.listings g.D.Desk.faults remaining (g.S.Source.remaining c.next.new.input)
     (g.K.Sink.contents c.args.output.now) (g.K.Sink.contents c.loop-text.output) c.args.desks.now c.loop-text.desks ended)
     (stop.Input error) c.from_residual.result c.from_residual.ensures.1
-    (wrote_before (StatesEveryLayer g.D.Desk.tree) (trees_of g.D.Desk.tree) workers g.D.Desk.listings g.D.Desk.faults remaining (g.S.Source.remaining c.next.new.input) before.lines.0 _ _ _ _ _ _ _ (before.lines.4 workers many begun) error
+    (wrote_before (StatesEveryLayer g.D.Desk.tree) (trees_of g.D.Desk.tree) workers start g.D.Desk.listings g.D.Desk.faults remaining (g.S.Source.remaining c.next.new.input) before.lines.0 _ _ _ _ _ _ _ (before.lines.4 workers many start begun) error
     (given_first c.args.reader.now remaining _ before.lines.0
     (fresh_reader c.args.reader.now c.requires.fresh.0 c.requires.fresh.1 c.requires.begins c.requires.limits.0 c.requires.limits.1 remaining) before.lines.2)
     (none_left c.loop-text.reader c.next.new.self _ _ _ before.lines.0 (c.next.ensures.max_line ∙ before.limits.0) error before.lines.3 c.in_err-text.ensures.step (c.next.ensures.max_input ∙ before.limits.1)))
 
 -- a round that the line ended stops
 pub returns-in_err-take_line-clause-wrote : goal.returns-in_err-take_line-clause-wrote
-returns-in_err-take_line-clause-wrote g c = λ workers many begun.
+returns-in_err-take_line-clause-wrote g c = λ workers many start begun.
     let before = c.loop-text.invariant in
     let remaining = g.S.Source.remaining c.args.input.now in
     let error = c.in_err-take_line.field-0.0 in
@@ -116,24 +116,24 @@ returns-in_err-take_line-clause-wrote g c = λ workers many begun.
     let next : cut_lines round_limits (numbered 1 (texts ++ text ∷ [])) ≡ cut_line round_limits cut (line_at number c.as_slice.result.now) =
     ap (cut_lines round_limits) (numbered_more 1 texts text) ∙ cut_more round_limits (numbered 1 texts) (line_at (1 + length texts) text)
     ∙ ap (λ n. cut_line round_limits cut (line_at n text)) at ∙ ap (λ t. cut_line round_limits cut (line_at number t)) (sym c.as_slice.ensures) in
-    let done = before.lines.4 workers many begun in
+    let done = before.lines.4 workers many start begun in
     handed_end
-    (λ ended. Wrote (StatesEveryLayer g.D.Desk.tree) (trees_of g.D.Desk.tree) workers g.D.Desk.listings g.D.Desk.faults remaining (g.S.Source.remaining c.next.new.input)
+    (λ ended. WroteFrom (StatesEveryLayer g.D.Desk.tree) (trees_of g.D.Desk.tree) workers start g.D.Desk.listings g.D.Desk.faults remaining (g.S.Source.remaining c.next.new.input)
     (g.K.Sink.contents c.args.output.now) (g.K.Sink.contents c.take_line.new.output) c.args.desks.now c.take_line.new.desks ended)
     (stop.Output error) c.from_residual-in_err-take_line.result c.from_residual-in_err-take_line.ensures.1
-    (wrote_part (StatesEveryLayer g.D.Desk.tree) (trees_of g.D.Desk.tree) workers g.D.Desk.listings g.D.Desk.faults remaining (g.S.Source.remaining c.next.new.input) _ _ _ _ error
-    (stopped_at (StatesEveryLayer g.D.Desk.tree) (trees_of g.D.Desk.tree) workers g.D.Desk.listings g.D.Desk.faults remaining (g.S.Source.remaining c.next.new.input) texts _ _ _ _ _ _ _ done
+    (wrote_part (StatesEveryLayer g.D.Desk.tree) (trees_of g.D.Desk.tree) workers start g.D.Desk.listings g.D.Desk.faults remaining (g.S.Source.remaining c.next.new.input) _ _ _ _ error
+    (stopped_at (StatesEveryLayer g.D.Desk.tree) (trees_of g.D.Desk.tree) workers start g.D.Desk.listings g.D.Desk.faults remaining (g.S.Source.remaining c.next.new.input) texts _ _ _ _ _ _ _ done
     (texts ++ text ∷ []) (cut_line round_limits cut (line_at number c.as_slice.result.now)) _ _ error
     (given_first c.args.reader.now remaining now (texts ++ text ∷ [])
     (fresh_reader c.args.reader.now c.requires.fresh.0 c.requires.fresh.1 c.requires.begins c.requires.limits.0 c.requires.limits.1 remaining) (reads_more _ was now texts text before.lines.2 read))
     (sym next)
-    (c.in_err-take_line.ensures.stops workers (before.count ∙ many) cut (length texts) done.more here done.served)))
+    (c.in_err-take_line.ensures.stops workers (before.count ∙ many) start cut (length texts) done.more here done.served)))
 
 -- all lines were given
 pub returns-clause-wrote : goal.returns-clause-wrote
-returns-clause-wrote g c = λ workers many begun.
+returns-clause-wrote g c = λ workers many start begun.
     let before = c.loop-text.invariant in
-    wrote_all (StatesEveryLayer g.D.Desk.tree) (trees_of g.D.Desk.tree) workers g.D.Desk.listings g.D.Desk.faults (g.S.Source.remaining c.args.input.now) (g.S.Source.remaining c.next.new.input) before.lines.0 _ _ _ _ _ _ _ (before.lines.4 workers many begun)
+    wrote_all (StatesEveryLayer g.D.Desk.tree) (trees_of g.D.Desk.tree) workers start g.D.Desk.listings g.D.Desk.faults (g.S.Source.remaining c.args.input.now) (g.S.Source.remaining c.next.new.input) before.lines.0 _ _ _ _ _ _ _ (before.lines.4 workers many start begun)
 
 pub returns-in_err-text-clause-limit : goal.returns-in_err-text-clause-limit
 returns-in_err-text-clause-limit g c =

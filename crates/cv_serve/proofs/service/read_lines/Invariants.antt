@@ -4,6 +4,7 @@ use Rattle.std.specs.Io.KnownBytes.{IsAtEnd}
 use Rattle.cv_io.specs.Reader.{reading, room_of}
 use Rattle.cv_scan_input.specs.code.TakenParts.{IsTakenTo}
 use Rattle.cv_core_machine.specs.Scans.{StatesEveryLayer, trees_of}
+use Rattle.cv_serve_legal.specs.Replay.{Moment}
 use Rattle.cv_serve_round.specs.Round.{moment_of}
 use Rattle.cv_serve_round.specs.Begun.{IsPrepared}
 use Rattle.cv_serve.specs.code.Reading.{AreTaken, Done, HasRead}
@@ -14,9 +15,9 @@ invariant-loop-text g l = record {
   not_spent : l.reader.spent ≡ false;
   lines : (texts : List (List ℕ)) × (length texts ≡ l.number) × HasRead (reading l.fn.reader (g.S.Source.remaining l.fn.input)) (reading l.reader (g.S.Source.remaining l.input)) texts
       × AreTaken l.reader (g.S.Source.remaining l.fn.input) (g.S.Source.remaining l.input) texts
-      × ((workers : ℕ) → length l.fn.desks ≡ workers
-      → Done (StatesEveryLayer g.D.Desk.tree) (trees_of g.D.Desk.tree) workers g.D.Desk.listings g.D.Desk.faults [] l.fn.round.taken l.fn.round.bytes (moment_of (trees_of g.D.Desk.tree) g.L.Identity.limits l.fn.service.hub) (g.K.Sink.contents l.fn.output) (g.K.Sink.contents l.fn.output) l.fn.desks l.fn.desks
-      → Done (StatesEveryLayer g.D.Desk.tree) (trees_of g.D.Desk.tree) workers g.D.Desk.listings g.D.Desk.faults texts l.round.taken l.round.bytes (moment_of (trees_of g.D.Desk.tree) g.L.Identity.limits l.service.hub) (g.K.Sink.contents l.fn.output) (g.K.Sink.contents l.output) l.fn.desks l.desks);
+      × ((workers : ℕ) → length l.fn.desks ≡ workers → (start : Moment)
+      → Done (StatesEveryLayer g.D.Desk.tree) (trees_of g.D.Desk.tree) workers start g.D.Desk.listings g.D.Desk.faults [] l.fn.round.taken l.fn.round.bytes (moment_of (trees_of g.D.Desk.tree) g.L.Identity.limits l.fn.service.hub) (g.K.Sink.contents l.fn.output) (g.K.Sink.contents l.fn.output) l.fn.desks l.fn.desks
+      → Done (StatesEveryLayer g.D.Desk.tree) (trees_of g.D.Desk.tree) workers start g.D.Desk.listings g.D.Desk.faults texts l.round.taken l.round.bytes (moment_of (trees_of g.D.Desk.tree) g.L.Identity.limits l.service.hub) (g.K.Sink.contents l.fn.output) (g.K.Sink.contents l.output) l.fn.desks l.desks);
   seen : l.reader.ended ≡ true → IsAtEnd (g.S.Source.remaining l.input);
   limits : (l.reader.max_line ≡ 67108864) × (l.reader.max_input ≡ 2 ^ 36);
   taken : IsTakenTo l.fn.reader.taken l.reader.taken (g.S.Source.remaining l.fn.input) (g.S.Source.remaining l.input);

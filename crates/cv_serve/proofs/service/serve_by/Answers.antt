@@ -1,27 +1,20 @@
-use Rattle.std.specs.Prelude.{◌≡◌, ℕ, ◌^◌, List, [], length, Err, IfSome, refl}
-use Rattle.std.proofs.Common.{ap, subst, sym, ◌∙◌}
+use Rattle.std.specs.Prelude.{◌≡◌, ℕ, ◌^◌, List, length, Err, IfSome, refl}
+use Rattle.std.proofs.Common.{ap, subst}
 use Rattle.cv_io.specs.Lines.{Finished}
 use Rattle.cv_io.specs.Reader.{reading}
 use Rattle.cv_scan_input.specs.code.TakenParts.{IsTakenTo}
 use Rattle.cv_base.specs.Lines.{numbered}
 use Rattle.cv_core_machine.specs.Scans.{StatesEveryLayer, trees_of}
-use Rattle.cv_serve_legal.specs.Replay.{beginning}
 use Rattle.cv_serve_legal.specs.Rounds.{cut_lines, round_limits}
-use Rattle.cv_serve_legal.specs.Served.{Served}
-use Rattle.cv_serve_legal.proofs.Serving.{begins}
-use Rattle.cv_serve_round.specs.Begun.{RoundView}
-use Rattle.cv_serve_round.specs.Round.{moment_of}
-use Rattle.cv_serve.specs.Served.{IsServed, Wrote}
+use Rattle.cv_serve.specs.Served.{IsServedFrom, WroteFrom}
 use Rattle.cv_serve.specs.declared.end.Stop.TheVariants as stop
-use Rattle.cv_serve.specs.code.Reading.{Done, HasReadAll}
-use Rattle.cv_serve.proofs.Ending.{all_served, stopped_at_end, wrote_last, wrote_nothing, wrote_part}
-use Rattle.cv_serve_round.proofs.Further.{stays}
+use Rattle.cv_serve.specs.code.Reading.{HasReadAll}
+use Rattle.cv_serve.proofs.Ending.{all_served, begun_at, stopped_at_end, wrote_last, wrote_nothing, wrote_part}
 use Rattle.cv_serve.proofs.Input.{all_taken_up, fits_all, given_all, handed_end, handed_on, reads_input}
-use Rattle.cv_serve.proofs.Quiet.{Laws}
 use Rattle.cv_serve.proofs.service.serve_by.Goals as goal
 
 pub returns-clause-done : goal.returns-clause-done
-returns-clause-done g c = λ is.
+returns-clause-done g c = λ is start begin.
     let known = StatesEveryLayer g.D.Desk.tree in
     let trees = trees_of g.D.Desk.tree in
     let workers : ℕ = length c.args.desks.now in
@@ -30,24 +23,13 @@ returns-clause-done g c = λ is.
     let remaining = g.S.Source.remaining c.args.input.now in
     let written = g.K.Sink.contents c.args.output.now in
     let desks = c.args.desks.now in
-    let now = moment_of trees g.L.Identity.limits c.args.service.now.hub in
-    let begin : now ≡ beginning = ap (λ list. moment_of trees g.L.Identity.limits list) c.requires.hub ∙ ap (λ limits. moment_of trees limits []) c.requires.limits in
     let lines = c.in_ok-read_lines.ensures.lines in
     let texts : List (List ℕ) = lines.0 in
-    let start : Done known trees workers listings faults [] [] 0 now written written desks desks =
-    stays known trees workers listings faults (cut_lines round_limits []) 0 [] 0 [] now written desks
-    (λ k. subst (λ m. Served trees workers (cut_lines round_limits []) 0 [] 0 [] m) (sym begin) (begins trees workers round_limits)) in
-    let first = subst (λ (r : RoundView). Done known trees workers listings faults [] r.taken r.bytes now written written desks desks) (sym c.new-round.ensures) start in
-    let done = lines.2 workers refl first in
-    let ended = c.in_ok-end_input.ensures.legal workers c.read_lines.auto.desks (cut_lines round_limits (numbered 1 texts)) (length texts) done.more done.served in
+    let done = lines.2 workers refl start (begun_at known trees workers start listings faults _ _ written desks begin c.new-round.ensures) in
+    let ended = c.in_ok-end_input.ensures.legal workers c.read_lines.auto.desks start (cut_lines round_limits (numbered 1 texts)) (length texts) done.more done.served in
     let all = subst (λ r. HasReadAll (reading r remaining) texts) c.in_ok-reader.ensures.value lines.1 in
-    let laws : Laws = record {
-      indexed = c.completeness_laws.ensures.indexed;
-      divided = c.completeness_laws.ensures.divided;
-      pending = c.completeness_laws.ensures.pending;
-    } in
-    reads_input (λ bytes. IsServed trees workers listings faults bytes written (g.K.Sink.contents c.end_input.new.output) desks c.end_input.new.desks) remaining texts all
-    (λ bytes e. all_served laws known trees workers listings faults bytes texts _ _ _ _ written _ _ desks _ _ is e refl done ended)
+    reads_input (λ bytes. IsServedFrom trees workers start listings faults bytes written (g.K.Sink.contents c.end_input.new.output) desks c.end_input.new.desks) remaining texts all
+    (λ bytes e. all_served known trees workers start listings faults bytes texts _ _ _ _ written _ _ desks _ _ is e done ended)
 
 pub returns-clause-input : goal.returns-clause-input
 returns-clause-input g c =
@@ -65,16 +47,16 @@ returns-in_err-read_lines-clause-taken g c = λ e.
 -- ---- what was written
 
 pub returns-in_err-reader-clause-wrote : goal.returns-in_err-reader-clause-wrote
-returns-in_err-reader-clause-wrote g c =
+returns-in_err-reader-clause-wrote g c = λ start begin.
     let written = g.K.Sink.contents c.args.output.now in
     let remaining = g.S.Source.remaining c.args.input.now in
     handed_end
-    (λ ended. Wrote (StatesEveryLayer g.D.Desk.tree) (trees_of g.D.Desk.tree) (length c.args.desks.now) g.D.Desk.listings g.D.Desk.faults remaining remaining written written c.args.desks.now c.args.desks.now ended)
+    (λ ended. WroteFrom (StatesEveryLayer g.D.Desk.tree) (trees_of g.D.Desk.tree) (length c.args.desks.now) start g.D.Desk.listings g.D.Desk.faults remaining remaining written written c.args.desks.now c.args.desks.now ended)
     stop.NoMemory c.from_residual.result c.from_residual.ensures.1
-    (wrote_nothing (StatesEveryLayer g.D.Desk.tree) (trees_of g.D.Desk.tree) (length c.args.desks.now) g.D.Desk.listings g.D.Desk.faults remaining remaining written c.args.desks.now)
+    (wrote_nothing (StatesEveryLayer g.D.Desk.tree) (trees_of g.D.Desk.tree) (length c.args.desks.now) start g.D.Desk.listings g.D.Desk.faults remaining remaining written c.args.desks.now)
 
 pub returns-in_err-read_lines-clause-wrote : goal.returns-in_err-read_lines-clause-wrote
-returns-in_err-read_lines-clause-wrote g c =
+returns-in_err-read_lines-clause-wrote g c = λ start begin.
     let known = StatesEveryLayer g.D.Desk.tree in
     let trees = trees_of g.D.Desk.tree in
     let workers : ℕ = length c.args.desks.now in
@@ -84,19 +66,13 @@ returns-in_err-read_lines-clause-wrote g c =
     let remaining_now = g.S.Source.remaining c.read_lines.new.input in
     let written = g.K.Sink.contents c.args.output.now in
     let desks = c.args.desks.now in
-    let now = moment_of trees g.L.Identity.limits c.args.service.now.hub in
-    let begin : now ≡ beginning = ap (λ list. moment_of trees g.L.Identity.limits list) c.requires.hub ∙ ap (λ limits. moment_of trees limits []) c.requires.limits in
-    let start : Done known trees workers listings faults [] [] 0 now written written desks desks =
-    stays known trees workers listings faults (cut_lines round_limits []) 0 [] 0 [] now written desks
-    (λ k. subst (λ m. Served trees workers (cut_lines round_limits []) 0 [] 0 [] m) (sym begin) (begins trees workers round_limits)) in
-    let first = subst (λ (r : RoundView). Done known trees workers listings faults [] r.taken r.bytes now written written desks desks) (sym c.new-round.ensures) start in
     handed_end
-    (λ ended. Wrote known trees workers listings faults remaining remaining_now written (g.K.Sink.contents c.read_lines.new.output) desks c.read_lines.new.desks ended)
+    (λ ended. WroteFrom known trees workers start listings faults remaining remaining_now written (g.K.Sink.contents c.read_lines.new.output) desks c.read_lines.new.desks ended)
     c.in_err-read_lines.field-0.0 c.from_residual-in_err-read_lines.result c.from_residual-in_err-read_lines.ensures.1
-    (c.in_err-read_lines.ensures.wrote workers refl first)
+    (c.in_err-read_lines.ensures.wrote workers refl start (begun_at known trees workers start listings faults _ _ written desks begin c.new-round.ensures))
 
 pub returns-in_err-end_input-clause-wrote : goal.returns-in_err-end_input-clause-wrote
-returns-in_err-end_input-clause-wrote g c =
+returns-in_err-end_input-clause-wrote g c = λ start begin.
     let known = StatesEveryLayer g.D.Desk.tree in
     let trees = trees_of g.D.Desk.tree in
     let workers : ℕ = length c.args.desks.now in
@@ -106,26 +82,20 @@ returns-in_err-end_input-clause-wrote g c =
     let remaining_now = g.S.Source.remaining c.read_lines.new.input in
     let written = g.K.Sink.contents c.args.output.now in
     let desks = c.args.desks.now in
-    let now = moment_of trees g.L.Identity.limits c.args.service.now.hub in
-    let begin : now ≡ beginning = ap (λ list. moment_of trees g.L.Identity.limits list) c.requires.hub ∙ ap (λ limits. moment_of trees limits []) c.requires.limits in
-    let start : Done known trees workers listings faults [] [] 0 now written written desks desks =
-    stays known trees workers listings faults (cut_lines round_limits []) 0 [] 0 [] now written desks
-    (λ k. subst (λ m. Served trees workers (cut_lines round_limits []) 0 [] 0 [] m) (sym begin) (begins trees workers round_limits)) in
-    let first = subst (λ (r : RoundView). Done known trees workers listings faults [] r.taken r.bytes now written written desks desks) (sym c.new-round.ensures) start in
     let lines = c.in_ok-read_lines.ensures.lines in
     let texts : List (List ℕ) = lines.0 in
-    let done = lines.2 workers refl first in
+    let done = lines.2 workers refl start (begun_at known trees workers start listings faults _ _ written desks begin c.new-round.ensures) in
     let error = c.in_err-end_input.field-0.0 in
     let all = subst (λ r. HasReadAll (reading r remaining) texts) c.in_ok-reader.ensures.value lines.1 in
     handed_end
-    (λ ended. Wrote known trees workers listings faults remaining remaining_now written (g.K.Sink.contents c.end_input.new.output) desks c.end_input.new.desks ended)
+    (λ ended. WroteFrom known trees workers start listings faults remaining remaining_now written (g.K.Sink.contents c.end_input.new.output) desks c.end_input.new.desks ended)
     (stop.Output error) c.from_residual-in_err-end_input.result c.from_residual-in_err-end_input.ensures.1
-    (wrote_part known trees workers listings faults remaining remaining_now _ _ _ _ error
-    (stopped_at_end known trees workers listings faults remaining remaining_now texts _ _ _ _ _ _ _ done _ _ error (given_all remaining texts all)
-    (c.in_err-end_input.ensures.stops workers c.read_lines.auto.desks (cut_lines round_limits (numbered 1 texts)) (length texts) done.more done.served)))
+    (wrote_part known trees workers start listings faults remaining remaining_now _ _ _ _ error
+    (stopped_at_end known trees workers start listings faults remaining remaining_now texts _ _ _ _ _ _ _ done _ _ error (given_all remaining texts all)
+    (c.in_err-end_input.ensures.stops workers c.read_lines.auto.desks start (cut_lines round_limits (numbered 1 texts)) (length texts) done.more done.served)))
 
 pub returns-clause-wrote : goal.returns-clause-wrote
-returns-clause-wrote g c =
+returns-clause-wrote g c = λ start begin.
     let known = StatesEveryLayer g.D.Desk.tree in
     let trees = trees_of g.D.Desk.tree in
     let workers : ℕ = length c.args.desks.now in
@@ -135,14 +105,8 @@ returns-clause-wrote g c =
     let remaining_now = g.S.Source.remaining c.read_lines.new.input in
     let written = g.K.Sink.contents c.args.output.now in
     let desks = c.args.desks.now in
-    let now = moment_of trees g.L.Identity.limits c.args.service.now.hub in
-    let begin : now ≡ beginning = ap (λ list. moment_of trees g.L.Identity.limits list) c.requires.hub ∙ ap (λ limits. moment_of trees limits []) c.requires.limits in
-    let start : Done known trees workers listings faults [] [] 0 now written written desks desks =
-    stays known trees workers listings faults (cut_lines round_limits []) 0 [] 0 [] now written desks
-    (λ k. subst (λ m. Served trees workers (cut_lines round_limits []) 0 [] 0 [] m) (sym begin) (begins trees workers round_limits)) in
-    let first = subst (λ (r : RoundView). Done known trees workers listings faults [] r.taken r.bytes now written written desks desks) (sym c.new-round.ensures) start in
     let lines = c.in_ok-read_lines.ensures.lines in
     let texts : List (List ℕ) = lines.0 in
-    let done = lines.2 workers refl first in
-    wrote_last known trees workers listings faults remaining remaining_now texts _ _ _ _ _ _ _ done _ _ _
-    (c.in_ok-end_input.ensures.legal workers c.read_lines.auto.desks (cut_lines round_limits (numbered 1 texts)) (length texts) done.more done.served)
+    let done = lines.2 workers refl start (begun_at known trees workers start listings faults _ _ written desks begin c.new-round.ensures) in
+    wrote_last known trees workers start listings faults remaining remaining_now texts _ _ _ _ _ _ _ done _ _ _
+    (c.in_ok-end_input.ensures.legal workers c.read_lines.auto.desks start (cut_lines round_limits (numbered 1 texts)) (length texts) done.more done.served)

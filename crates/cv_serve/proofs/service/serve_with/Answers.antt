@@ -1,8 +1,12 @@
-use Rattle.std.specs.Prelude.{length}
+use Rattle.std.specs.Prelude.{◌≡◌, [], length, refl}
+use Rattle.std.proofs.Common.{ap, ◌∙◌}
+use Rattle.std.proofs.lemmas.Result.{on_ok_weaker}
 use Rattle.cv_core_machine.specs.Scans.{StatesEveryLayer, trees_of}
+use Rattle.cv_serve_legal.specs.Replay.{beginning}
+use Rattle.cv_serve_round.specs.Round.{moment_of}
 use Rattle.cv_serve.specs.Served.{Wrote}
 use Rattle.cv_serve.specs.declared.end.Stop.TheVariants as stop
-use Rattle.cv_serve.proofs.Ending.{wrote_nothing}
+use Rattle.cv_serve.proofs.Ending.{if_whole_served, wrote_nothing}
 use Rattle.cv_serve.proofs.Input.{handed_end}
 use Rattle.cv_serve.proofs.service.serve_with.Goals as goal
 
@@ -15,4 +19,25 @@ returns-in_err-service-clause-wrote g c =
     handed_end
     (λ ended. Wrote (StatesEveryLayer g.D.Desk.tree) (trees_of g.D.Desk.tree) (length desks) g.D.Desk.listings g.D.Desk.faults remaining remaining written written desks desks ended)
     stop.NoMemory c.from_residual.result c.from_residual.ensures.1
-    (wrote_nothing (StatesEveryLayer g.D.Desk.tree) (trees_of g.D.Desk.tree) (length desks) g.D.Desk.listings g.D.Desk.faults remaining remaining written desks)
+    (wrote_nothing (StatesEveryLayer g.D.Desk.tree) (trees_of g.D.Desk.tree) (length desks) beginning g.D.Desk.listings g.D.Desk.faults remaining remaining written desks)
+
+-- the hub had applied no event
+pub returns-clause-done : goal.returns-clause-done
+returns-clause-done g c = λ known.
+    let trees = trees_of g.D.Desk.tree in
+    let desks = c.args.desks.now in
+    let begin : moment_of trees g.L.Identity.limits c.in_ok-service.service.hub ≡ beginning =
+    ap (λ list. moment_of trees g.L.Identity.limits list) c.in_ok-service.ensures.hub ∙ ap (λ limits. moment_of trees limits []) c.requires.limits in
+    on_ok_weaker c.serve_by-end.result
+    (if_whole_served (record {
+      indexed = c.completeness_laws.ensures.indexed;
+      divided = c.completeness_laws.ensures.divided;
+      pending = c.completeness_laws.ensures.pending;
+    }) trees (length desks) g.D.Desk.listings g.D.Desk.faults _ _ _ desks _ refl)
+    (c.serve_by-end.ensures.done known beginning begin)
+
+pub returns-clause-wrote : goal.returns-clause-wrote
+returns-clause-wrote g c =
+    let trees = trees_of g.D.Desk.tree in
+    c.serve_by-end.ensures.wrote beginning
+    (ap (λ list. moment_of trees g.L.Identity.limits list) c.in_ok-service.ensures.hub ∙ ap (λ limits. moment_of trees limits []) c.requires.limits)
