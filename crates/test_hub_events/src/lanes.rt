@@ -1,4 +1,5 @@
 use crate::events::event;
+use crate::views::{Viewed, view_until};
 use cv_base::NoMemory;
 use cv_core::{By, Reply};
 use cv_hub::{Hub, Identity, Seat};
@@ -7,33 +8,49 @@ use std::sync::Wait;
 use std::thread::{self, Threads};
 use test_data::SampleDesk;
 
-/// How many lanes submit events, each in a thread of its own.
-pub const LANES: usize = 8;
-
-/// How many events each of them submits.
+/// How many events a lane submits.
 pub const LINES: u64 = 1250;
 
-/// A seat that submits events in a thread, with the numbers and the replies of its receipts.
+/// How many lanes there are at most.
+const LANES: usize = 16;
+
+/// What lanes do: the first ones submit events, and the others view the hub until they have seen all of these.
+#[derive(Clone, Copy, Debug)]
+pub struct Task {
+    pub alloc: Global,
+    pub submitters: u8,
+}
+
+/// A seat at which a thread works, with the numbers and the replies of its receipts, what its views showed, and how its work ended.
 #[derive(Drop)]
 struct Lane<L: Identity> {
     seat: Seat<SampleDesk, L>,
     receipts: Vec<(u64, Reply)>,
+    views: Vec<Viewed>,
+    result: Result<(), NoMemory>,
 }
 
-/// The seats after each submitted its events in a thread of its own, and the numbers and the replies of the receipts of each. A lane that
-/// runs out of memory stops. It waits for the threads.
-pub fn submitted<L: Identity + Send + Sync, W: Threads + Wait + Sync>(
+/// What lanes were given and saw: the numbers and the replies of the receipts of each, and what its views showed.
+#[derive(Drop)]
+pub struct Work {
+    pub receipts: Vec<Vec<(u64, Reply)>>,
+    pub views: Vec<Vec<Viewed>>,
+}
+
+/// The seats after each did its part of a task in a thread of its own, and what came of it. A lane that runs out of memory stops, and
+/// then so does this call. It waits for the threads.
+pub fn worked<L: Identity + Send + Sync, W: Threads + Wait + Sync>(
     rt: &W,
-    alloc: Global,
     hub: &Hub<SampleDesk, L>,
+    task: &Task,
     seats: Vec<Seat<SampleDesk, L>>,
-) -> Result<(Vec<Seat<SampleDesk, L>>, Vec<Vec<(u64, Reply)>>), NoMemory> {
-    let mut lanes = lanes_of(alloc, seats)?;
-    submit_all(rt, alloc, hub, lanes.as_mut_slice());
-    taken_apart(alloc, lanes)
+) -> Result<(Vec<Seat<SampleDesk, L>>, Work), NoMemory> {
+    let mut lanes = lanes_of(task.alloc, seats)?;
+    work_all(rt, hub, task, lanes.as_mut_slice());
+    taken_apart(task.alloc, lanes)
 }
 
-/// A lane for each seat, without receipts.
+/// A lane for each seat, without receipts and views.
 fn lanes_of<L: Identity>(
     alloc: Global,
     seats: Vec<Seat<SampleDesk, L>>,
@@ -43,16 +60,18 @@ fn lanes_of<L: Identity>(
         lanes.push(Lane {
             seat,
             receipts: Vec::new(alloc),
+            views: Vec::new(alloc),
+            result: Ok(()),
         })?;
     }
     Ok(lanes)
 }
 
-/// Each lane submits its events in a thread of its own. A lane that runs out of memory stops.
-fn submit_all<L: Identity + Send + Sync, R: Threads + Wait + Sync>(
+/// Each lane does its part of a task in a thread of its own.
+fn work_all<L: Identity + Send + Sync, R: Threads + Wait + Sync>(
     rt: &R,
-    alloc: Global,
     hub: &Hub<SampleDesk, L>,
+    task: &Task,
     lanes: &mut [Lane<L>],
 ) {
     thread::for_each_mut(
@@ -60,9 +79,24 @@ fn submit_all<L: Identity + Send + Sync, R: Threads + Wait + Sync>(
         lanes,
         LANES,
         &|index: usize, lane: &mut Lane<L>| {
-            let _ = submit_lines(rt, alloc, hub, (index % LANES) as u8, lane);
+            lane.result = do_part(rt, hub, task, (index % LANES) as u8, lane);
         },
     );
+}
+
+/// Submits events, or views the hub.
+fn do_part<L: Identity, R: Wait>(
+    rt: &R,
+    hub: &Hub<SampleDesk, L>,
+    task: &Task,
+    index: u8,
+    lane: &mut Lane<L>,
+) -> Result<(), NoMemory> {
+    if index < task.submitters {
+        return submit_lines(rt, task.alloc, hub, index, lane);
+    }
+    let last = u64::from(task.submitters) * LINES;
+    view_until(rt, task.alloc, hub, last, &mut lane.seat, &mut lane.views)
 }
 
 fn submit_lines<L: Identity, R: Wait>(
@@ -81,17 +115,27 @@ fn submit_lines<L: Identity, R: Wait>(
     Ok(())
 }
 
-/// The seats of lanes, and the receipts of each.
+/// The seats of lanes, and what came of the work of each.
 fn taken_apart<L: Identity>(
     alloc: Global,
     lanes: Vec<Lane<L>>,
-) -> Result<(Vec<Seat<SampleDesk, L>>, Vec<Vec<(u64, Reply)>>), NoMemory> {
+) -> Result<(Vec<Seat<SampleDesk, L>>, Work), NoMemory> {
     let mut seats = Vec::new(alloc);
-    let mut all = Vec::new(alloc);
+    let mut all = Work {
+        receipts: Vec::new(alloc),
+        views: Vec::new(alloc),
+    };
     for lane in lanes {
-        let Lane { seat, receipts } = lane;
+        let Lane {
+            seat,
+            receipts,
+            views,
+            result,
+        } = lane;
+        result?;
         seats.push(seat)?;
-        all.push(receipts)?;
+        all.receipts.push(receipts)?;
+        all.views.push(views)?;
     }
     Ok((seats, all))
 }

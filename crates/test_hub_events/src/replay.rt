@@ -2,7 +2,8 @@ ghost use Rattle.std.specs.Prelude.{◌≡◌, ◌<◌, ◌^◌, IfOk};
 ghost use Rattle.cv_core.specs.Core.{IsSound, act_of, opened};
 
 use crate::events::event;
-use crate::shown::shown;
+use crate::shown::{report_by, shown};
+use crate::views::Viewed;
 use cv_base::{NoMemory, Steps};
 use cv_core::{Act, By, Core, Event, EventEntry, Limits};
 use std::alloc::Global;
@@ -39,6 +40,50 @@ pub fn replayed<S: Ledger>(
         return Ok(None);
     }
     Ok(Some(shown(alloc, &core)?))
+}
+
+/// How many seats have right views, up to the first that has not. A view shows at least the events that its seat had seen and that the view
+/// before it showed, and the report of its image is that of a core of its own after as many events of the entries.
+pub fn seats_with_right_views<S: Ledger>(
+    alloc: Global,
+    blank: Blank,
+    entries: &[EventEntry],
+    views: &[Vec<Viewed>],
+) -> Result<usize, NoMemory>
+    requires name { blank.name ≡ S.name }
+    requires parts { blank.parts ≡ S.parts }
+    requires has_parts { 0 < S.parts }
+{
+    let mut steps = Steps::<S>::open(blank);
+    for (seat, views) in views.iter().enumerate() {
+        if !are_right(alloc, entries, views, &mut steps)? {
+            return Ok(seat);
+        }
+    }
+    Ok(views.len())
+}
+
+/// Whether the views of a seat are right.
+fn are_right<S: Ledger>(
+    alloc: Global,
+    entries: &[EventEntry],
+    views: &[Viewed],
+    steps: &mut Steps<S>,
+) -> Result<bool, NoMemory> {
+    let mut core = new_core(alloc)?;
+    for view in views {
+        let more = entries.get(core.count() as usize..view.front as usize);
+        let Some(more) = more else {
+            return Ok(false);
+        };
+        if view.front < view.seen || !are_applied(alloc, &mut core, more, steps)? {
+            return Ok(false);
+        }
+        if report_by(alloc, &core, view.image)? != view.report {
+            return Ok(false);
+        }
+    }
+    Ok(true)
 }
 
 /// Applies the events of entries, as far as each is the next one, has the name of its event, and has the core's reply. Whether all are so.

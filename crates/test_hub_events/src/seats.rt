@@ -3,7 +3,7 @@ ghost use Rattle.cv_hub.specs.Seats.{AreNumbered};
 
 use cv_base::NoMemory;
 use cv_core::EventEntry;
-use cv_hub::{Hub, Identity, Seat};
+use cv_hub::{Hub, Identity, Seat, View};
 use std::sync::Wait;
 use test_data::SampleDesk;
 
@@ -18,6 +18,17 @@ pub fn learned<L: Identity, W: Wait>(
     };
     seat.learn(hub.note(rt));
     seat.seen().len()
+}
+
+/// The view that a seat enters. It is tried again for as long as the seat is handed back.
+pub fn entered<L: Identity, W: Wait>(rt: &W, mut seat: Seat<SampleDesk, L>) -> View<SampleDesk, L> {
+    for _ in rt.forever() {
+        match seat.view() {
+            Ok(view) => return view,
+            Err(back) => seat = back,
+        }
+    }
+    unreachable!()
 }
 
 /// The entries that all seats take, if there are `count` of them, in the order of their numbers.

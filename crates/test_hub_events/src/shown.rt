@@ -1,4 +1,6 @@
 use crate::draws::{IMAGES, hash};
+use crate::seats::entered;
+use core::mem::replace_with;
 use cv_base::NoMemory;
 use cv_core::Core;
 use cv_hub::{Hub, Identity, Seat, View};
@@ -31,32 +33,45 @@ pub fn shown_to_first<L: Identity, W: Wait>(
 ) -> Result<String, NoMemory> {
     let mut out = String::new(alloc);
     if let Some(seat) = seats.first_mut() {
-        add_shown(rt, alloc, &mut out, hub, seat)?;
+        add_line(alloc, &mut out, &hub.queued(rt, alloc)?)?;
+        let viewed = replace_with(seat, (rt, alloc), shown_from)?;
+        out.push_str(viewed.as_str())?;
     }
     Ok(out)
 }
 
-/// Adds the queued layers, the reports and the notifications, a line each.
-fn add_shown<L: Identity, W: Wait>(
-    rt: &W,
-    alloc: Global,
-    out: &mut String,
-    hub: &Hub<SampleDesk, L>,
-    seat: &mut Seat<SampleDesk, L>,
-) -> Result<(), NoMemory> {
-    add_line(alloc, out, &hub.queued(rt, alloc)?)?;
-    add_view(alloc, out, &hub.view(rt, seat))
+fn shown_from<L: Identity, W: Wait>(
+    seat: Seat<SampleDesk, L>,
+    with: (&W, Global),
+) -> (Seat<SampleDesk, L>, Result<String, NoMemory>) {
+    let (rt, alloc) = with;
+    let view = entered(rt, seat);
+    let shown = view_shown(alloc, &view);
+    (view.close(), shown)
 }
 
-fn add_view<L: Identity>(
-    alloc: Global,
-    out: &mut String,
-    view: &View<'_, SampleDesk, L>,
-) -> Result<(), NoMemory> {
+/// The reports and the notifications of a view, a line each.
+fn view_shown<L: Identity>(alloc: Global, view: &View<SampleDesk, L>) -> Result<String, NoMemory> {
+    let mut out = String::new(alloc);
     for image in 0..IMAGES {
-        add_line(alloc, out, &view.report(&hash(image)))?;
+        add_line(alloc, &mut out, &view.report(&hash(image)))?;
     }
-    add_line(alloc, out, &view.list(alloc)?)
+    add_line(alloc, &mut out, &view.list(alloc)?)?;
+    Ok(out)
+}
+
+/// The report of an image in a view.
+pub fn report_in<L: Identity>(
+    alloc: Global,
+    view: &View<SampleDesk, L>,
+    image: u64,
+) -> Result<String, NoMemory> {
+    Ok(format!(in alloc; "{:?}", view.report(&hash(image)))?)
+}
+
+/// The report of an image by a core.
+pub fn report_by(alloc: Global, core: &Core<SampleDesk>, image: u64) -> Result<String, NoMemory> {
+    Ok(format!(in alloc; "{:?}", core.report(&hash(image)))?)
 }
 
 /// Adds a line with a value.
