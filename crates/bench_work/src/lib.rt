@@ -17,7 +17,7 @@ mod transcript;
 
 pub use events::{Cost, TimedCore};
 pub use formats::{count_lines, lines_in, packages_in, records_in, values_in};
-pub use hub::{Lane, Speed, Task, Watch, Work, run_lanes};
+pub use hub::{Lane, Speed, Spread, Task, Update, Watch, Work, run_beside, run_lanes};
 pub use requests::requests_in;
 pub use scans::{
     Order, Sample, compare_pairs, lay_layers, make_records, match_packages, match_record,

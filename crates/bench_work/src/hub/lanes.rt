@@ -1,9 +1,11 @@
 ghost use Rattle.cv_core.specs.Core.{IsSound, act_of};
 
+use crate::hub::spread::Spread;
+use core::mem::replace_with;
 use cv_base::{Digest, NoMemory};
 use cv_core::{Event, Reply};
 use cv_core_records::By;
-use cv_hub::{Hub, Identity, Seat};
+use cv_hub::{Hub, Identity, Seat, View};
 use std::alloc::Global;
 use std::sync::Wait;
 use std::thread::{self, Threads};
@@ -36,8 +38,8 @@ pub struct Task {
     pub times: u64,
 }
 
-/// A seat that a thread works at, with its number, a layer that nobody else claims, whether its worker has claimed it, and how often the
-/// last task was done as it should be.
+/// A seat that a thread works at, with its number, a layer that nobody else claims, whether its worker has claimed it, how often the
+/// last task was done as it should be, and how long the reports took that were looked up beside an update.
 #[derive(Drop)]
 pub struct Lane<L: Identity> {
     pub seat: Seat<SampleDesk, L>,
@@ -45,6 +47,7 @@ pub struct Lane<L: Identity> {
     pub layer: Digest,
     pub is_claimed: bool,
     pub done: u64,
+    pub spread: Spread,
 }
 
 /// Each lane does a task in a thread of its own, of which there are at most eight.
@@ -92,7 +95,7 @@ fn is_done<L: Identity, R: Wait>(
 ) -> Result<bool, NoMemory> {
     match task.work {
         Work::Submit => submit(rt, hub, task.alloc, lane),
-        Work::Report { images } => Ok(has_report(rt, hub, image_at(time, images), lane)),
+        Work::Report { images } => Ok(has_report(rt, image_at(time, images), &mut lane.seat)),
     }
 }
 
@@ -122,7 +125,7 @@ fn next_event<L: Identity>(lane: &Lane<L>) -> Event<SampleDesk>
 }
 
 /// One of the images in turn.
-fn image_at(time: u64, images: u32) -> u32 {
+pub fn image_at(time: u64, images: u32) -> u32 {
     if images == 0 {
         return 0;
     }
@@ -130,12 +133,31 @@ fn image_at(time: u64, images: u32) -> u32 {
 }
 
 /// Whether a view has the report of an image.
-fn has_report<L: Identity, R: Wait>(
+pub fn has_report<L: Identity, R: Wait>(
     rt: &R,
-    hub: &Hub<SampleDesk, L>,
     image: u32,
-    lane: &mut Lane<L>,
+    seat: &mut Seat<SampleDesk, L>,
 ) -> bool {
-    let view = hub.view(rt, &mut lane.seat);
-    view.report(&hash(image)).is_ok()
+    replace_with(seat, (rt, image), report_from)
+}
+
+fn report_from<L: Identity, R: Wait>(
+    seat: Seat<SampleDesk, L>,
+    asked: (&R, u32),
+) -> (Seat<SampleDesk, L>, bool) {
+    let (rt, image) = asked;
+    let view = entered(rt, seat);
+    let has_report = view.report(&hash(image)).is_ok();
+    (view.close(), has_report)
+}
+
+/// The view that a seat enters. It is tried again for as long as the seat is handed back.
+fn entered<L: Identity, R: Wait>(rt: &R, mut seat: Seat<SampleDesk, L>) -> View<SampleDesk, L> {
+    for _ in rt.forever() {
+        match seat.view() {
+            Ok(view) => return view,
+            Err(back) => seat = back,
+        }
+    }
+    unreachable!()
 }

@@ -53,19 +53,19 @@ impl Watch {
             name,
             threads,
             count,
-            passed: self.passed(rt),
+            passed: passed(rt, self.begun),
             taken: processor_time(rt).saturating_sub(self.taken),
         }
     }
+}
 
-    /// The nanoseconds since the work began, or 0 if the system does not say it.
-    fn passed<R: Clock>(&self, rt: &R) -> u64 {
-        let Some(begun) = self.begun else {
-            return 0;
-        };
-        match begun.elapsed(rt) {
-            Ok(time) => nanoseconds(time),
-            Err(_) => 0,
-        }
+/// The nanoseconds since a time, or 0 if the system does not say it.
+pub fn passed<R: Clock>(rt: &R, begun: Option<Instant>) -> u64 {
+    let Some(begun) = begun else {
+        return 0;
+    };
+    match begun.elapsed(rt) {
+        Ok(time) => nanoseconds(time),
+        Err(_) => 0,
     }
 }

@@ -1,4 +1,4 @@
-use Rattle.bench.proofs.hub.speeds_of.Given as goal
+use Rattle.bench.proofs.hub.measured_of.Given as goal
 
 -- the ledger, the list and the limits of the hub that is started
 abbrev pub ghosts-measured-L-Ledger : goal.ghosts-measured-L-Ledger
