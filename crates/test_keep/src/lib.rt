@@ -1,4 +1,4 @@
-//! Tests of the journal over a disk in memory.
+//! Tests of the journal over a disk in memory and of the records of rounds.
 #![tactic(auto)]
 
 #[cfg(test)]

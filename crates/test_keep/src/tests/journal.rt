@@ -82,10 +82,7 @@ fn an_append_is_cut_short(rt: HostRuntime) -> Result<(), Fail> {
         let mut disk = disk_of(&rt, &ONE, last)?;
         let mut journal = Journal::open(&mut disk)?;
         let done = journal.append(rt.alloc(), &mut disk, b"two");
-        assert!(rt;
-            matches!(done, Err(KeepError::DiskFault)),
-            "after {last} calls"
-        );
+        assert_eq!(rt; done, Err(KeepError::DiskFault), "after {last} calls");
         assert!(rt; journal.is_failed(), "after {last} calls");
         let mut disk = disk.crashed()?;
         Journal::open(&mut disk)?;

@@ -1,0 +1,4 @@
+pub mod EventLemmas
+pub mod FieldLemmas
+pub mod WriteLemmas
+mod Examples
