@@ -3,8 +3,9 @@ use cv_base::NoMemory;
 use cv_command::Status;
 use cv_io::MemSink;
 use std::alloc::Global;
+use std::str;
 
-/// Whether a run ended so and printed this text, in which names in brackets stand for texts.
+/// Whether a run ended so and printed this text, in which names in brackets stand for texts; or that memory ran out in it.
 pub fn is_ended(
     alloc: Global,
     ended: &(Status, MemSink),
@@ -12,11 +13,22 @@ pub fn is_ended(
     text: &str,
 ) -> Result<bool, NoMemory> {
     let (found, sink) = ended;
-    if *found != status {
-        return Ok(false);
-    }
     let rest = after(alloc, sink.bytes(), text)?;
-    Ok(matches!(rest, Some([])))
+    unless_out_of_memory(ended, *found == status && matches!(rest, Some([])))
+}
+
+/// Whether a run is as it should be, by what was found; or, if it is not, that it says that memory ran out in it.
+pub fn unless_out_of_memory(ended: &(Status, MemSink), is_right: bool) -> Result<bool, NoMemory> {
+    let (status, sink) = ended;
+    if !is_right && (*status == Status::NoMemory || tells_no_memory(sink.bytes())) {
+        return Err(NoMemory);
+    }
+    Ok(is_right)
+}
+
+/// Whether a line of a transcript says that memory ran out.
+fn tells_no_memory(bytes: &[u8]) -> bool {
+    str::from_utf8(bytes).unwrap_or("").contains("memory\"")
 }
 
 /// The bytes after that text which they begin with, if they begin with one.

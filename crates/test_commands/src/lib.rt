@@ -17,7 +17,7 @@ mod streams;
 mod texts;
 
 pub use commands::{list_scans_to, orders_to, sboms_to, scans_to};
-pub use compare::{after_one_of, is_ended};
+pub use compare::{after_one_of, is_ended, unless_out_of_memory};
 pub use cv_base::NoMemory;
 pub use cv_command::Status;
 pub use cv_io::{MemSink, MemSource};

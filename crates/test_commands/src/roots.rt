@@ -2,11 +2,11 @@ use crate::compare::after_one_of;
 use crate::layers::Layers;
 use crate::streams::{CALM, source_of};
 use cv_base::{Digest, Manifest, NoMemory, Text, Tree};
-use cv_desk::{TableDesk, load};
+use cv_desk::{DeskFault, TableDesk, load};
 use cv_io::MemSource;
-use cv_overlay::Root;
-use cv_scan::scan_root;
-use cv_scan_input::{InputLines, ScanKind, read_input};
+use cv_overlay::{OverlayError, Root};
+use cv_scan::{ScanError, scan_root};
+use cv_scan_input::{InputError, InputLines, ScanKind, read_input};
 use cv_scan_output::good_line;
 use std::alloc::Global;
 
@@ -16,6 +16,7 @@ pub fn root_scans_to(alloc: Global, input: &str, text: &str) -> Result<bool, NoM
     let mut source = source_of(alloc, input, &CALM)?;
     match read_input::<MemSource, ScanKind>(alloc, &mut source) {
         Ok(request) => has_line(alloc, &request, text),
+        Err(InputError::NoMemory) => Err(NoMemory),
         Err(_) => Ok(false),
     }
 }
@@ -35,8 +36,10 @@ fn is_found(
     text: &str,
 ) -> Result<bool, NoMemory> {
     let feed = Text::of(alloc, "scan")?;
-    let Ok(found) = scan_root(alloc, root, request.records.as_slice(), &feed) else {
-        return Ok(false);
+    let found = match scan_root(alloc, root, request.records.as_slice(), &feed) {
+        Ok(found) => found,
+        Err(ScanError::NoMemory) => return Err(NoMemory),
+        Err(_) => return Ok(false),
     };
     let line = good_line(alloc, &request.first.hash, found.as_slice())?;
     let rest = after_one_of(alloc, line.as_bytes(), &[text])?;
@@ -47,17 +50,23 @@ fn is_found(
 fn root_of(alloc: Global, layers: &[Digest]) -> Result<Option<Root>, NoMemory> {
     let mut root = Root::empty(alloc);
     for layer in layers {
-        let Some(tree) = tree_of(alloc, layer) else {
+        let Some(tree) = tree_of(alloc, layer)? else {
             return Ok(None);
         };
-        if root.lay(alloc, &tree).is_err() {
-            return Ok(None);
+        match root.lay(alloc, &tree) {
+            Ok(()) => {}
+            Err(OverlayError::NoMemory) => return Err(NoMemory),
+            Err(OverlayError::BadTree(_)) => return Ok(None),
         }
     }
     Ok(Some(root))
 }
 
-fn tree_of(alloc: Global, layer: &Digest) -> Option<Tree> {
+fn tree_of(alloc: Global, layer: &Digest) -> Result<Option<Tree>, NoMemory> {
     let mut desk = TableDesk::<Layers>::new();
-    load(alloc, &mut desk, layer).unwrap_or(None)
+    match load(alloc, &mut desk, layer) {
+        Ok(tree) => Ok(tree),
+        Err(DeskFault::NoMemory) => Err(NoMemory),
+        Err(DeskFault::Failed) => Ok(None),
+    }
 }

@@ -1,5 +1,6 @@
 mod endings;
 mod input;
+mod memory;
 mod output;
 mod serve;
 mod team;

@@ -44,7 +44,7 @@ fn replaced(
     match feeds.replace(alloc, Text::of(alloc, feed)?, records(alloc, rows)?) {
         Ok(touched) => names(alloc, &touched),
         Err(AdvError::TooManyFeeds) => Ok(String::from_str(alloc, "too many")?),
-        Err(AdvError::NoMemory) => Ok(String::from_str(alloc, "no memory")?),
+        Err(AdvError::NoMemory) => Err(Fail::from(AdvError::NoMemory)),
     }
 }
 

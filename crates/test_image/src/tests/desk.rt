@@ -47,8 +47,10 @@ fn listing(
     alloc: Global,
     found: Result<Option<Seq<ListEntry>>, DeskFault>,
 ) -> Result<String, Fail> {
-    let Ok(Some(entries)) = found else {
-        return Ok(String::from_str(alloc, "failed")?);
+    let entries = match found {
+        Ok(Some(entries)) => entries,
+        Err(DeskFault::NoMemory) => return Err(Fail::from(DeskFault::NoMemory)),
+        Ok(None) | Err(DeskFault::Failed) => return Ok(String::from_str(alloc, "failed")?),
     };
     let mut out = String::new(alloc);
     for entry in entries.as_slice() {
@@ -69,7 +71,8 @@ fn read<D: Desk>(alloc: Global, desk: &mut D, path: &str, limit: u32) -> Result<
         Ok(FileRead::Bytes(bytes)) => str::from_utf8(bytes.as_slice())?,
         Ok(FileRead::TooLarge) => "too large",
         Ok(FileRead::NotFile) => "no file",
-        Err(_) => "failed",
+        Err(DeskFault::NoMemory) => return Err(Fail::from(DeskFault::NoMemory)),
+        Err(DeskFault::Failed) => "failed",
     };
     Ok(String::from_str(alloc, text)?)
 }

@@ -57,7 +57,7 @@ const ONE_FILE: &str = "app";
 
 const BAD: &str = "etc etc/x";
 
-/// Lays layers on an empty root, and returns what came of the last one.
+/// Lays layers on an empty root, up to one for which memory runs out, and returns what came of the last one.
 fn lay_all(
     alloc: Global,
     root: &mut Root,
@@ -66,6 +66,9 @@ fn lay_all(
     let mut last = Ok(());
     for layer in layers {
         last = root.lay(alloc, &tree(alloc, layer)?);
+        if last == Err(OverlayError::NoMemory) {
+            break;
+        }
     }
     Ok(last)
 }

@@ -116,6 +116,6 @@ fn a_mark_that_cannot_be_read_is_a_fault_of_the_desk(rt: HostRuntime) -> Result<
     let inner = Changing::of(alloc, layer(), MARKS)?;
     let mut desk = Faulty::new(inner, Seq::of(vec![in alloc; 2]?));
     let facts = index_layer(alloc, &mut desk, layer());
-    assert!(rt; matches!(facts, Err(IndexError::DeskFault)));
+    assert_eq!(rt; facts.err(), Some(IndexError::DeskFault));
     Ok(())
 }

@@ -2,7 +2,9 @@ use std::alloc::Global;
 use std::process::Abort;
 use std::sync::Wait;
 use std::thread::Threads;
-use test_commands::{NoMemory, Status, USAGE, after_one_of, is_ended, run_by_two};
+use test_commands::{
+    NoMemory, Status, USAGE, after_one_of, is_ended, run_by_two, unless_out_of_memory,
+};
 
 #[test]
 fn as_many_workers_as_desks(rt: HostRuntime) -> Result<(), NoMemory> {
@@ -72,8 +74,9 @@ fn a_lane_sees_its_own_update(rt: HostRuntime) -> Result<(), NoMemory> {
 {"do":"report","lane":1,"image":"<1>"}
 {"do":"report","image":"<1>"}"#;
     let (ended, _) = run_by_two(&rt, rt.alloc(), &["serve"], input, 0)?;
+    let is_right = is_transcript(rt.alloc(), ended.1.bytes())?;
+    assert!(rt; unless_out_of_memory(&ended, is_right)?);
     assert_eq!(rt; ended.0, Status::Done);
-    assert!(rt; is_transcript(rt.alloc(), ended.1.bytes())?);
     Ok(())
 }
 
@@ -92,6 +95,11 @@ fn two_workers_list_layers_at_once(rt: HostRuntime) -> Result<(), NoMemory> {
         r#"{"do":"register","manifest":{"hash":"<1>","layers":[{"hash":"<a>"},{"hash":"<b>"}]}}"#;
     let (ended, is_beside) = run_by_two(&rt, rt.alloc(), &["serve", "--workers", "2"], input, 2)?;
     assert_eq!(rt; ended.0, Status::Done);
-    assert!(rt; is_beside);
+    let how = if unless_out_of_memory(&ended, is_beside)? {
+        "at once"
+    } else {
+        "in turn, as without memory for a thread"
+    };
+    assert_eq!(rt; how, "at once");
     Ok(())
 }

@@ -2,7 +2,7 @@ use cv_base::Seq;
 use cv_io::{CalmSource, MemSource};
 use cv_osv::RecordWhat;
 use cv_request::{RequestFault, RequestWhat};
-use cv_scan_input::{ImageKind, InputError, InputFault, ScanKind, read_input};
+use cv_scan_input::{ImageKind, InputError, InputFault, InputKind, ScanKind, read_input};
 use std::alloc::Global;
 use std::test::Fail;
 
@@ -23,14 +23,10 @@ fn input_of(alloc: Global, lines: &[&str]) -> Result<Seq<u8>, Fail> {
     Ok(Seq::of(text.as_bytes().to_vec(alloc)?))
 }
 
-/// Why an input is refused, if it is.
-fn refusal_of(alloc: Global, lines: &[&str]) -> Result<Option<InputError>, Fail> {
+/// Why the lines are refused as an input of this kind, if they are.
+fn refusal_of<K: InputKind>(alloc: Global, lines: &[&str]) -> Result<Option<InputError>, Fail> {
     let mut input = CalmSource::new(input_of(alloc, lines)?, 7);
-    match read_input::<CalmSource, ScanKind>(alloc, &mut input) {
-        Ok(_) => Ok(None),
-        Err(InputError::NoMemory) => Err(Fail::from(InputError::NoMemory)),
-        Err(error) => Ok(Some(error)),
-    }
+    Ok(read_input::<CalmSource, K>(alloc, &mut input).err())
 }
 
 #[test]
@@ -80,12 +76,15 @@ fn the_first_refused_line_is_the_answer(rt: HostRuntime) -> Result<(), Fail> {
     for (lines, line, fault) in table {
         let fault = InputFault::Request(fault);
         assert_eq!(rt;
-            refusal_of(rt.alloc(), lines)?,
+            refusal_of::<ScanKind>(rt.alloc(), lines)?,
             Some(InputError::Refused { line, fault })
         );
     }
-    assert_eq!(rt; refusal_of(rt.alloc(), &[])?, Some(InputError::NoLine));
-    assert_eq!(rt; refusal_of(rt.alloc(), &[MANIFEST])?, None);
+    assert_eq!(rt;
+        refusal_of::<ScanKind>(rt.alloc(), &[])?,
+        Some(InputError::NoLine)
+    );
+    assert_eq!(rt; refusal_of::<ScanKind>(rt.alloc(), &[MANIFEST])?, None);
     Ok(())
 }
 
@@ -96,14 +95,10 @@ fn an_image_alone_has_no_records(rt: HostRuntime) -> Result<(), Fail> {
     let mut input = CalmSource::new(bytes, 7);
     let request = read_input::<CalmSource, ImageKind>(alloc, &mut input)?;
     assert_eq!(rt; request.first.layers.as_slice().len(), 1);
-    let bytes = input_of(alloc, &[MANIFEST, "", FIRST, "X"])?;
-    let mut input = CalmSource::new(bytes, 7);
     let fault = InputFault::ExtraLine;
-    assert!(rt;
-        matches!(
-            read_input::<CalmSource, ImageKind>(alloc, &mut input),
-            Err(error) if error == InputError::Refused { line: 3, fault }
-        )
+    assert_eq!(rt;
+        refusal_of::<ImageKind>(alloc, &[MANIFEST, "", FIRST, "X"])?,
+        Some(InputError::Refused { line: 3, fault })
     );
     Ok(())
 }
@@ -114,13 +109,8 @@ fn a_failing_source_is_blamed(rt: HostRuntime) -> Result<(), Fail> {
     for call in 1..4 {
         let fails = Seq::of(vec![in alloc; call]?);
         let mut input = MemSource::new(input_of(alloc, &[MANIFEST, FIRST])?, 100, fails);
-        assert!(rt;
-            matches!(
-                read_input::<MemSource, ScanKind>(alloc, &mut input),
-                Err(InputError::ReadFault)
-            ),
-            "call {call} fails"
-        );
+        let refusal = read_input::<MemSource, ScanKind>(alloc, &mut input).err();
+        assert_eq!(rt; refusal, Some(InputError::ReadFault), "call {call} fails");
     }
     Ok(())
 }

@@ -1,6 +1,7 @@
 ghost use Rattle.std.specs.Prelude.{None};
 
-use cv_base::{Digest, Seq};
+use crate::tests::memory::tells_no_memory;
+use cv_base::{Digest, NoMemory, Seq};
 use cv_desk::{Table, TableDesk, TableEntry};
 use cv_io::{CalmSink, CalmSource, IoFault, Sink, Source};
 use cv_serve::{ServeEnd, serve};
@@ -83,7 +84,7 @@ impl Table for NoLayer {
 }
 
 /// Serves two rounds, and then what follows them, over a sink with memory for this number of writes. Whether the service ends so, and wrote
-/// the first round alone.
+/// the first round alone; or that memory ran out elsewhere.
 fn ends_after_a_round<W: Threads + Wait + Sync>(
     rt: &W,
     alloc: Global,
@@ -102,7 +103,12 @@ fn ends_after_a_round<W: Threads + Wait + Sync>(
     };
     let mut desks = vec![in alloc; TableDesk::<NoLayer>::new()]?;
     let ended = serve(rt, alloc, &mut source, &mut sink, &mut desks, 1);
-    Ok(ended == end && sink.sink.bytes() == FIRST_ROUND.as_bytes())
+    let written = sink.sink.bytes();
+    let is_so = ended == end && written == FIRST_ROUND.as_bytes();
+    if !is_so && (ended == ServeEnd::NoMemory || tells_no_memory(written)) {
+        return Err(Fail::from(NoMemory));
+    }
+    Ok(is_so)
 }
 
 #[test]

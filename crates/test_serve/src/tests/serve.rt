@@ -1,6 +1,7 @@
 ghost use Rattle.std.specs.Prelude.{None};
 
-use cv_base::{Digest, Seq};
+use crate::tests::memory::tells_no_memory;
+use cv_base::{Digest, NoMemory, Seq};
 use cv_desk::{Table, TableDesk, TableEntry};
 use cv_desk_wrappers::GateDesk;
 use cv_io::{MemSink, MemSource};
@@ -29,15 +30,15 @@ impl Table for NoLayer {
     }
 }
 
-/// Whether two workers index the layers of an image so that, while a listing of the first or of the second worker goes on, as many
-/// listings have begun as its goal says.
-fn reach_their_goals<W: Threads + Wait + Sync>(
+/// How two workers index the layers of an image: at once if, while a listing of the first or of the second worker goes on, as many listings
+/// have begun as its goal says.
+fn listed<W: Threads + Wait + Sync>(
     rt: &W,
     alloc: Global,
     input: &str,
     first_goal: u64,
     second_goal: u64,
-) -> Result<bool, Fail> {
+) -> Result<&'static str, Fail> {
     let first = TableDesk::<NoLayer>::new();
     let second = TableDesk::<NoLayer>::new();
     let (first, second) = GateDesk::pair(alloc, first, second, first_goal, second_goal)?;
@@ -46,7 +47,16 @@ fn reach_their_goals<W: Threads + Wait + Sync>(
     let mut source = MemSource::new(bytes, 100, Seq::of(Vec::new(alloc)));
     let mut sink = MemSink::new(alloc, 100, Seq::of(Vec::new(alloc)));
     let end = serve(rt, alloc, &mut source, &mut sink, &mut desks, 2);
-    Ok(end == ServeEnd::Done && desks.iter().all(GateDesk::passed))
+    if end != ServeEnd::Done {
+        return Err(Fail::from(end));
+    }
+    if desks.iter().all(GateDesk::passed) {
+        return Ok("at once");
+    }
+    if tells_no_memory(sink.bytes()) {
+        return Err(Fail::from(NoMemory));
+    }
+    Ok("in turn, as without memory for a thread")
 }
 
 #[test]
@@ -57,8 +67,9 @@ fn workers_list_layers_at_once_and_take_those_of_a_busy_one(rt: HostRuntime) -> 
         (THREE_LAYERS, 3, 2),
         (THREE_LAYERS, 2, 3),
     ] {
-        assert!(rt;
-            reach_their_goals(&rt, rt.alloc(), image, first, second)?,
+        assert_eq!(rt;
+            listed(&rt, rt.alloc(), image, first, second)?,
+            "at once",
             "{first} {second}"
         );
     }

@@ -93,6 +93,11 @@ fn the_parts_of_a_team_run_concurrently(rt: HostRuntime) -> Result<(), NoMemory>
         &mut seats,
         &mut [],
     )?;
-    assert_eq!(rt; parts, [true; 3]);
+    let how = if parts == [true; 3] {
+        "concurrently"
+    } else {
+        "in turn, as without memory for a thread"
+    };
+    assert_eq!(rt; how, "concurrently");
     Ok(())
 }
