@@ -4,6 +4,7 @@ import asyncio
 import collections
 import contextlib
 import json
+import tempfile
 from pathlib import Path
 from typing import Any
 
@@ -22,6 +23,11 @@ LANES = 8
 STOP_SECONDS = 60.0
 # a process whose pipes are closed ends by itself in this time
 END_SECONDS = 1.0
+# so does `keep` over an empty input
+PROBE_SECONDS = 10.0
+# the file of `keep` in its working directory, and statuses of cvwatch: the usage was printed, it does not take its file, its file is full
+KEPT = "cvwatch.keep"
+USAGE, BAD_KEEP, KEEP_FULL = 2, 11, 12
 
 
 class ChildGone(Exception):
@@ -35,6 +41,20 @@ def line_of(request: dict[str, Any]) -> bytes:
     if "advisories" in request:
         text = text[:-1] + b',"advisories":[' + b",".join(request["advisories"]) + b"]}"
     return text + b"\n"
+
+
+async def command_of(settings: configuration.Child) -> str:
+    """The command that is configured; without one `keep`, where the program has it."""
+    if settings.command:
+        return settings.command
+    nothing = asyncio.subprocess.DEVNULL
+    with tempfile.TemporaryDirectory() as folder:
+        process = await asyncio.create_subprocess_exec(
+            settings.program, "keep", stdin=nothing, stdout=nothing, stderr=nothing, cwd=folder, start_new_session=True
+        )
+        with contextlib.suppress(TimeoutError):
+            await asyncio.wait_for(process.wait(), PROBE_SECONDS)
+        return "serve" if await processes.kill(process) == USAGE else "keep"
 
 
 class Question:
@@ -64,7 +84,7 @@ class Child:
     async def start(self) -> None:
         """Starts the process. It holds the lock of the state, so that no later server begins before it has ended."""
         pipe = asyncio.subprocess.PIPE
-        command = [self.settings.program, self.settings.command, "--workers", str(self.settings.workers)]
+        command = [self.settings.program, await command_of(self.settings), "--workers", str(self.settings.workers)]
         self.process = await asyncio.create_subprocess_exec(
             *command, stdin=pipe, stdout=pipe, cwd=self.folder, limit=LONGEST_ANSWER, pass_fds=[self.lock], start_new_session=True
         )

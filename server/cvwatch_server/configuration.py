@@ -41,7 +41,8 @@ class Child:
     """The program that gives the verdicts, and the rounds in which it is asked."""
 
     program: str = "cvwatch"
-    command: str = "keep"
+    # without one it is `keep`, if the program has it, and else `serve`
+    command: str = ""
     workers: int = 4
     round_lines: int = 256
     round_seconds: float = 600.0
@@ -114,7 +115,11 @@ class Configuration:
     @property
     def tools(self) -> Path:
         """The folder of the operators' scripts."""
-        return Path(self.server.tools).resolve() if self.server.tools else Path(__file__).resolve().parents[2] / "tools"
+        if self.server.tools:
+            return Path(self.server.tools).resolve()
+        # in the Debian package they lie beside the folder of the server
+        above = Path(__file__).resolve().parents[2]
+        return above / "tools" if (above / "tools").is_dir() else above
 
     def token(self) -> str:
         """The bearer token, or an empty text if none is asked for."""
@@ -189,6 +194,8 @@ def parse(text: str) -> Configuration:
         read_table(Webhook, "webhook", tables.get("webhook", {})),
         read_feeds(tables.get("feed", [])),
     )
+    if found.child.command not in ("", "keep", "serve"):
+        raise BadConfiguration("[child] command is keep or serve")
     if not 1 <= found.child.workers <= 8 or not 1 <= found.child.round_lines <= 4096:
         raise BadConfiguration("[child] has 1 to 8 workers and rounds of 1 to 4096 lines")
     try:

@@ -4,9 +4,10 @@ import asyncio
 import fcntl
 import logging
 import os
+import time
 from typing import Any, Awaitable, Callable
 
-from .child import LANES, Answer, Child, ChildGone
+from .child import BAD_KEEP, KEEP_FULL, KEPT, LANES, Answer, Child, ChildGone
 from .configuration import Configuration
 from .logs import note, warn
 from .metrics import Metrics
@@ -97,22 +98,41 @@ class Keeper:
         try:
             status = await running
             note("the child ended", logging.INFO if self.is_stopping.is_set() else logging.WARNING, status=status)
+            if status in (BAD_KEEP, KEEP_FULL):
+                self.set_aside()
         finally:
             self.is_ready.clear()
             self.metrics.is_ready.set(0)
             restoring.cancel()
             await asyncio.gather(restoring, return_exceptions=True)
 
+    def set_aside(self) -> None:
+        """Renames the file that a child does not take, or cannot write any more, so that the next one begins anew and gets all that it needs."""
+        file = self.configuration.state / KEPT
+        aside = file.with_name(f"{KEPT}.{int(time.time())}")
+        try:
+            file.rename(aside)
+        except OSError as error:
+            warn("the file of the child cannot be renamed", error=str(error))
+        else:
+            warn("the file of the child was set aside", file=str(aside))
+
+    def is_current(self, child: Child) -> bool:
+        """Whether a child kept all updates that the server knows. One of `serve` has none, and a file may be lost or an older one."""
+        newest = max((part.generation for part in self.records.parts()), default=0)
+        return child.resumed is not None and child.resumed["generation"] >= newest
+
     async def restore(self, child: Child) -> None:
         """Brings a child to the state of the server."""
         try:
             heads = await child.ask({"do": "list"})
-            if child.resumed is None:
+            is_current = self.is_current(child)
+            if not is_current:
                 async with self.sending:
                     self.store.new_epoch()
                     await self.send_feeds(child)
             await self.send_images(child)
-            if child.resumed is not None:
+            if is_current:
                 await self.on_resumed(child.ask, [head["number"] for head in heads["notifications"]])
         except ChildGone:
             return
@@ -120,7 +140,7 @@ class Keeper:
             warn("the child was not restored", error=repr(error))
             child.stop()
             return
-        note("the child is ready", resumed=child.resumed is not None)
+        note("the child is ready", resumed=is_current)
         self.is_ready.set()
         self.metrics.is_ready.set(1)
 

@@ -45,6 +45,10 @@ class Kept:
     def start(self) -> None:
         """Plays what was kept, and says so."""
         rounds = KEPT.read_text().split("\n\n") if KEPT.exists() else []
+        if rounds and rounds[0].startswith("bad"):
+            self.say({"record": 0, "refused": "bad_keep"})
+            self.child.kill()
+            sys.exit(11)
         # what a crash left of a round has no empty line after it
         for text in rounds[:-1]:
             list(self.run([json.loads(line) for line in text.splitlines()]))

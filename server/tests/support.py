@@ -217,7 +217,7 @@ class Server:
         members = {"state": str(self.state), "port": self.port, "tools": str(TOOLS), **server}
         text = "[server]\n" + "".join(f"{name} = {json.dumps(value)}\n" for name, value in members.items())
         if "[child]" not in tables:
-            tables = f'[child]\nprogram = "{program}"\ncommand = "{os.environ.get("CVWATCH_COMMAND", "serve")}"\n' + tables
+            tables = f'[child]\nprogram = "{program}"\ncommand = "{os.environ.get("CVWATCH_COMMAND", "")}"\n' + tables
         if "[fetch]" not in tables:
             tables += '\n[fetch]\nnetworks = ["127.0.0.0/8"]\n'
         self.config = folder / "config.toml"

@@ -3,6 +3,7 @@
 import json
 import os
 import signal
+import subprocess
 from pathlib import Path
 from typing import Any
 
@@ -86,6 +87,40 @@ def test_what_the_server_missed(tmp_path: Path, child: str) -> None:
             assert server.metric('cvwatch_notifications{is_taken="false"}') == 1
             assert [kind for kind, _, _ in of_feed(server)] == ["update", "update", "patch", "update"]
             assert len(vulnerable(server.report(manifest["hash"])[1])) == 2
+
+
+@pytest.mark.parametrize("text", [None, "bad"])
+def test_a_file_that_is_lost(tmp_path: Path, child: str, text: str | None) -> None:
+    """A child whose file is gone, or is not taken, gets all records and images again."""
+    feed = tmp_path / "feed.jsonl"
+    write_feed(feed, FIRST)
+    with blob_party(LAYER) as party:
+        server = Server(tmp_path, "", f'{child}[[feed]]\nname = "a"\nfile = "{feed}"\nseconds = 0.2\n')
+        with server:
+            wait_for(lambda: server.metric('cvwatch_feed_records{feed="a"}') == 2)
+            manifest = manifest_of(party.uri, LAYER)
+            assert server.index(manifest)[0] == 201
+            found = vulnerable(server.report(manifest["hash"])[1])
+        file = server.state / "cvwatch.keep"
+        file.rename(tmp_path / "kept")
+        if text is not None:
+            file.write_text(text)
+        with server:
+            assert vulnerable(server.report(manifest["hash"])[1]) == found
+            assert of_feed(server) == [("update", ["X-1", "X-2"], [])]
+        asides = [one.read_text() for one in server.state.glob("cvwatch.keep.*")]
+        assert asides == ([] if text is None else [text])
+
+
+def test_a_command_that_is_not_named(tmp_path: Path, child: str, program: str) -> None:
+    """It is `keep`, if the program has it."""
+    for name, tables in (("keep", child.replace('command = "keep"', "")), ("other", f'[child]\nprogram = "{program}"\n')):
+        folder = tmp_path / name
+        folder.mkdir()
+        with Server(folder, "", tables) as server:
+            has_keep = subprocess.run([program, "keep"], cwd=folder, stdin=subprocess.DEVNULL, stdout=subprocess.DEVNULL, check=False).returncode != 2
+            command = Path(f"/proc/{server.children()[0]}/cmdline").read_bytes().split(b"\0")
+            assert (b"keep" in command) == (name == "keep" or has_keep)
 
 
 def test_a_list_of_packages(tmp_path: Path, child: str) -> None:

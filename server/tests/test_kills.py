@@ -45,6 +45,11 @@ class Client(threading.Thread):
         except BaseException as error:  # pylint: disable=broad-exception-caught
             self.fault = error
 
+    def await_post(self) -> None:
+        """Waits until one more image is indexed."""
+        posts = self.posts
+        wait_for(lambda: self.posts > posts or self.fault)
+
     def step(self, digest: str) -> None:
         """Deletes an image now and then, and else posts it."""
         is_deleted = self.choice.random() < 0.2
@@ -108,7 +113,10 @@ def test_kills(tmp_path: Path, program: str, request: pytest.FixtureRequest) -> 
         wait_for(lambda: server.metric('cvwatch_feed_records{feed="a"}') == len(RECORDS))
         client = Client(server, party, images)
         client.start()
-        for _ in range(KILLS):
+        for number in range(KILLS):
+            if number % 4 == 3:
+                # on a slow machine no post is answered between two kills
+                client.await_post()
             kill(server, choice)
             assert client.fault is None, client.fault
         client.is_ended = True

@@ -22,7 +22,7 @@ GOOD = '[server]\nstate = "/tmp/x"\n'
 def test_a_configuration_has_defaults() -> None:
     """Nothing but the folder of the state has to be said."""
     found = configuration.parse(GOOD)
-    assert (found.server.listen, found.child.command, found.fetch.networks, found.webhook.target, found.feeds) == ("127.0.0.1", "keep", (), "", ())
+    assert (found.server.listen, found.child.command, found.fetch.networks, found.webhook.target, found.feeds) == ("127.0.0.1", "", (), "", ())
 
 
 def test_a_whole_configuration() -> None:
@@ -50,6 +50,7 @@ def test_a_whole_configuration() -> None:
         GOOD + "[other]\n",
         GOOD + "[child]\nworkers = 9\n",
         GOOD + "[child]\nround_lines = 4097\n",
+        GOOD + '[child]\ncommand = "scan"\n',
         GOOD + '[fetch]\nnetworks = ["10.0.0.1/8"]\n',
         GOOD + '[fetch]\nnetworks = "10.0.0.0/8"\n',
         GOOD + "feed = 1\n",
