@@ -10,7 +10,7 @@ EXAMPLES = os.path.join(TOP, "examples")
 # examples whose input is that of a scan, and those whose input is that of a service
 SCANS, SERVICES = ["first-scan", "three-layers", "python-image"], ["service", "sealed-image"]
 # statuses of cvwatch
-DONE, USAGE, NO_MEMORY, REFUSED, DESK_FAULT = 0, 2, 5, 8, 9
+DONE, USAGE, NO_MEMORY, REFUSED, DESK_FAULT, KEEP_FAULT, BAD_KEEP = 0, 2, 5, 8, 9, 10, 11
 HANGS = "hangs"
 
 # the status (of a signal -number, or HANGS), the bytes written, and what was said on standard error
