@@ -1,0 +1,7 @@
+pub mod Adding
+pub mod Alone
+pub mod Claims
+pub mod Going
+pub mod ReadyEvents
+pub mod Records
+pub mod Replies

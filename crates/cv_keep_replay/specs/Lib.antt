@@ -1,0 +1,5 @@
+pub mod Cause
+pub mod Claims
+pub mod Good
+pub mod Kept
+pub mod code
