@@ -16,6 +16,7 @@ use Rattle.cv_hub_seats.specs.declared.identity.Identity as identity
 use Rattle.cv_hub_seats.specs.contracts.prefix.Prefix as front
 use Rattle.cv_hub_seats.specs.contracts.prefix.ListLength as head
 use Rattle.cv_hub_seats.specs.contracts.door.Door as door
+use Rattle.cv_hub_seats.specs.contracts.door.Entered as entered
 use Rattle.cv_hub_seats.specs.contracts.note.Note as note
 use Rattle.cv_hub_seats.specs.contracts.post.Post as post
 use Rattle.cv_hub_seats.specs.contracts.seat.Seat as seat
@@ -40,6 +41,9 @@ module _ (D L : RattleType) (d : desk.Ghosts D.Denot) (i : identity.Ghosts L.Den
   pub door_send : IsSend D → IsSync D → IsSend L → IsSync L → IsSend (door.the_row D L d i l)
   door_send ds dy ls ly = search (reader.the_send, post_sync, sendable, crosses, declared_send) depth 30 fits 5000
 
+  pub entered_send : IsSend D → IsSync D → IsSend L → IsSync L → IsSend (entered.the_row D L d i l)
+  entered_send ds dy ls ly = search (reading.the_send, post_sync, sendable, crosses, declared_send) depth 30 fits 5000
+
   pub note_send : IsSend D → IsSync D → IsSend L → IsSync L → IsSend (note.the_row D L d i l)
   note_send ds dy ls ly = search (reader.the_send, post_sync, front_send, sendable, crosses, declared_send) depth 30 fits 5000
 
@@ -47,4 +51,4 @@ module _ (D L : RattleType) (d : desk.Ghosts D.Denot) (i : identity.Ghosts L.Den
   seat_send ds dy ls ly = search (door_send, front_send, share.the_send, sendable, crosses, declared_send) depth 30 fits 5000
 
   pub view_send : IsSend D → IsSync D → IsSend L → IsSync L → IsSend (view.the_row D L d i l)
-  view_send ds dy ls ly = search (reading.the_send, post_sync, front_send, share.the_send, sendable, crosses, declared_send) depth 30 fits 5000
+  view_send ds dy ls ly = search (entered_send, front_send, share.the_send, sendable, crosses, declared_send) depth 30 fits 5000

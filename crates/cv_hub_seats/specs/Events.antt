@@ -1,6 +1,8 @@
 -- The one list of events of a hub (defined by this project). Receipts, notes, seats, views and taken entries speak of it, each of
 -- a beginning of it.
-use Rattle.std.specs.Prelude.{◌≡◌, ℕ, ◌+◌, List, [], ◌∷◌, map, Option}
+use Rattle.std.specs.Prelude.{◌≡◌, ℕ, ◌+◌, ◌≤◌, ◌<◌, ◌^◌, List, [], ◌∷◌, length, map, Option}
+use Rattle.std.specs.List.{AllByRecursion}
+use Rattle.logbook.specs.Pages.{Book}
 use Rattle.cv_desk.specs.Stored.{Stored}
 use Rattle.cv_core_records.specs.declared.event.EventEntry.{EventEntry}
 use Rattle.cv_core_records.specs.declared.reply.Reply.{Reply}
@@ -30,6 +32,15 @@ state_of trees limits list = state_after trees (opening limits) (acts_of list)
 -- each event of the list has the machine's reply at its place, if the type of the desks states every layer
 abbrev pub IsReplayed : DeskTrees → Limits → List Submission → Type 0
 IsReplayed tree limits list = StatesEveryLayer tree → replies_of list ≡ replies (trees_of tree) (opening limits) (acts_of list)
+
+-- a beginning of the list of a hub: its length, the hub's book, no more than 2^63 events, each of one of the hub's seats and with the
+-- machine's reply
+pub record IsListPrefix (tree : DeskTrees) (limits : Limits) (parts : ℕ) (named : Book) (number : ℕ) (book : Book) (list : List Submission) : Type 0 where
+  pub length_is : number ≡ length list
+  pub book_is : book ≡ named
+  pub at_most_2_63_events : length list ≤ 2 ^ 63
+  pub seats : AllByRecursion (λ (event : Submission). event.seat < parts) list
+  pub replayed : IsReplayed tree limits list
 
 -- the entries of events, of which the first has this number
 abbrev pub entries_from : ℕ → List Submission → List EventEntry

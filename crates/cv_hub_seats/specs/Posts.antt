@@ -7,8 +7,7 @@ use Rattle.logbook.specs.Pages.{Book}
 use Rattle.cv_core_machine.specs.Board.{BoardView, board_of}
 use Rattle.cv_core_machine.specs.Scans.{StatesEveryLayer, trees_of}
 use Rattle.cv_core_machine.specs.declared.limits.Limits.{Limits}
-use Rattle.cv_hub_seats.specs.Events.{DeskTrees, state_of}
-use Rattle.cv_hub_seats.specs.code.Book.{IsListPrefix}
+use Rattle.cv_hub_seats.specs.Events.{DeskTrees, IsListPrefix, state_of}
 use Rattle.cv_hub_seats.specs.declared.submission.Submission.{Submission}
 
 -- the board, and the list with its book

@@ -1,6 +1,6 @@
 ghost use Rattle.std.specs.Prelude.{◌≡◌, length, IfOk};
+ghost use Rattle.cv_hub_seats.specs.Events.{IsListPrefix};
 ghost use Rattle.cv_hub_seats.specs.Posts.{Enters, IsPosted};
-ghost use Rattle.cv_hub_seats.specs.code.Book.{IsListPrefix};
 
 use crate::book::EventListRule;
 use crate::identity::Identity;

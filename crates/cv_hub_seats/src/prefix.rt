@@ -45,7 +45,7 @@ impl<D: Desk, L: Identity> Drop for Prefix<D, L> {
 
 impl<D: Desk, L: Identity> Model for Prefix<D, L> {
     ghost use Rattle.std.specs.Prelude.{List};
-    ghost use Rattle.cv_hub_seats.specs.code.Book.{IsListPrefix};
+    ghost use Rattle.cv_hub_seats.specs.Events.{IsListPrefix};
     ghost use Rattle.cv_hub_seats.specs.declared.submission.Submission.{Submission};
 
     ghost Value = { List Submission };

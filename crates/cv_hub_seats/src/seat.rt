@@ -105,7 +105,7 @@ impl<D: Desk, L: Identity> Seat<D, L> {
             door,
         } = self;
         match door.enter() {
-            Ok((reading, refused)) => Ok(View::of(index, count, front, share, reading, refused)),
+            Ok(entered) => Ok(View::of(index, count, front, share, entered)),
             Err(door) => Err(Seat {
                 index,
                 count,

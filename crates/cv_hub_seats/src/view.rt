@@ -1,6 +1,5 @@
 ghost use Rattle.std.specs.Prelude.{◌≡◌, ◌≤◌, length, IfOk};
 ghost use mathlib.Core.List.{IsPrefix};
-ghost use Rattle.left_right.specs.Sides.{view};
 ghost use Rattle.cv_core_records.specs.Pages.{heads, page_of};
 ghost use Rattle.cv_core_machine.specs.Answer.{report_of};
 ghost use Rattle.cv_core_machine.specs.Scans.{StatesEveryLayer, trees_of};
@@ -11,9 +10,8 @@ ghost use Rattle.cv_hub_seats.specs.Posts.{Shows};
 ghost use Rattle.cv_hub_seats.specs.Seats.{seat_of};
 ghost use Rattle.cv_hub_seats.specs.code.Book.{IsSeat};
 
-use crate::door::Door;
+use crate::door::Entered;
 use crate::identity::Identity;
-use crate::post::PostReading;
 use crate::prefix::Prefix;
 use crate::seat::Seat;
 use cv_base::{Digest, NoMemory, Seq};
@@ -27,24 +25,22 @@ use std::sync::ledger::Share;
 /// A view of the board that a hub had published, by a seat, which `close` gives back. Contracts see it as that seat, whose list is the
 /// one that the board is of. It stays as it is while the hub goes on. It is not `Drop`: end it by `close`.
 pub struct View<D: Desk, L: Identity> {
-    reading: PostReading<D, L>,
+    entered: Entered<D, L>,
     front: Prefix<D, L>,
     index: u64,
     count: u64,
     share: Share<L>,
-    refused: u64,
 }
 
 impl<D: Desk, L: Identity> Model for View<D, L> {
-    ghost use Rattle.left_right.specs.Sides.{view as known};
     ghost use Rattle.cv_hub_seats.specs.Seats.{SeatView, seat_of};
     ghost use Rattle.cv_hub_seats.specs.code.Views.{IsViewed};
 
     ghost Value = { SeatView };
 
-    ghost view = { λ v. seat_of v.index v.front v.count v.refused };
+    ghost view = { λ v. seat_of v.index v.front v.count v.entered.refused };
 
-    ghost invariant = { λ v. IsViewed D.tree L.limits L.parts L.book v.reading.part.value (known v.reading.place) v.share.parts v.share.amount (seat_of v.index v.front v.count v.refused) };
+    ghost invariant = { λ v. IsViewed D.tree L.limits L.parts L.book v.entered.post v.entered.known v.share.parts v.share.amount (seat_of v.index v.front v.count v.entered.refused) };
 }
 
 impl<D: Desk, L: Identity> View<D, L> {
@@ -54,24 +50,22 @@ impl<D: Desk, L: Identity> View<D, L> {
         count: u64,
         front: Prefix<D, L>,
         share: Share<L>,
-        reading: PostReading<D, L>,
-        refused: u64,
+        entered: Entered<D, L>,
     ) -> View<D, L>
-        requires shows { Shows D.tree L.limits L.parts L.book reading.part.value }
-        requires known { view reading.place ≡ length reading.part.value.list }
-        requires longer { length front ≤ length reading.part.value.list }
-        requires seat { IsSeat L.parts share.parts share.amount (seat_of index front count refused) }
+        requires shows { Shows D.tree L.limits L.parts L.book entered.post }
+        requires known { entered.known ≡ length entered.post.list }
+        requires longer { length front ≤ length entered.post.list }
+        requires seat { IsSeat L.parts share.parts share.amount (seat_of index front count entered.refused) }
         ensures seen { IsPrefix front result.list }
-        ensures seat { result ≡ seat_of index result.list count refused }
+        ensures seat { result ≡ seat_of index result.list count entered.refused }
     {
-        let next = reading.get().front::<D, L>();
+        let next = entered.get().front::<D, L>();
         View {
-            reading,
+            entered,
             front: later(&front, next),
             index,
             count,
             share,
-            refused,
         }
     }
 
@@ -80,19 +74,18 @@ impl<D: Desk, L: Identity> View<D, L> {
         ensures { result ≡ self }
     {
         let View {
-            reading,
+            entered,
             front,
             index,
             count,
             share,
-            refused,
         } = self;
         Seat {
             index,
             count,
             front,
             share,
-            door: Door::with(reading.leave(), refused),
+            door: entered.leave(),
         }
     }
 
@@ -108,7 +101,7 @@ impl<D: Desk, L: Identity> View<D, L> {
         ensures { StatesEveryLayer D.tree → shown result ≡ report_of (trees_of D.tree) (state_of (trees_of D.tree) L.limits self.now.list) image.now }
     {
         board_law();
-        self.reading.get().board().report(image)
+        self.entered.get().board().report(image)
     }
 
     /// Page `page` of the notification `number` after these events, in pages of `size` rows. Pages are numbered from 1. It takes no
@@ -118,7 +111,7 @@ impl<D: Desk, L: Identity> View<D, L> {
         requires page { 1 ≤ page }
         ensures { StatesEveryLayer D.tree → shown_page result ≡ page_of (state_of (trees_of D.tree) L.limits self.now.list).notifications number size page }
     {
-        self.reading
+        self.entered
             .get()
             .board()
             .notices()
@@ -129,7 +122,7 @@ impl<D: Desk, L: Identity> View<D, L> {
     pub fn list(&self, alloc: Global) -> Result<Seq<NoticeHead>, NoMemory>
         ensures { StatesEveryLayer D.tree → IfOk result (λ list. list ≡ heads (state_of (trees_of D.tree) L.limits self.now.list).notifications) }
     {
-        self.reading.get().board().notices().list(alloc)
+        self.entered.get().board().notices().list(alloc)
     }
 }
 

@@ -1,9 +1,6 @@
 -- The rule of the book that keeps the list of events, and what the step that adds one says.
-use Rattle.std.specs.Prelude.{◌≡◌, ℕ, ◌≤◌, ◌<◌, ◌^◌, ◌==◌, true, List, [], ◌∷◌, ◌++◌, length, MatchBool}
-use Rattle.std.specs.List.{AllByRecursion}
+use Rattle.std.specs.Prelude.{◌≡◌, ℕ, ◌≤◌, ◌<◌, ◌==◌, true, List, [], ◌∷◌, ◌++◌, length, MatchBool}
 use Rattle.logbook.specs.Pages.{Book, Cell, Named, Step, View}
-use Rattle.cv_core_machine.specs.declared.limits.Limits.{Limits}
-use Rattle.cv_hub_seats.specs.Events.{DeskTrees, IsReplayed}
 use Rattle.cv_core.specs.Core.{act_of}
 use Rattle.cv_hub_seats.specs.Seats.{SeatView, made_by}
 use Rattle.cv_hub_seats.specs.declared.book.SubmittedEvent.{SubmittedEvent}
@@ -20,15 +17,6 @@ head_of book = record { tracked = true; key = 0; book = book }
 -- the event was added to all that had been seen; or the list was longer, and was seen
 abbrev pub Adds : Step Submission → View Submission ℕ → ℕ → View Submission ℕ → Type 0
 Adds s before found after = MatchBool (found == s.old) (after.0 ≡ before.0 ++ s.ask ∷ []) (length after.0 ≡ found)
-
--- a beginning of the list of a hub: its length, the hub's book, no more than 2^63 events, each of one of the hub's seats and with the
--- machine's reply
-pub record IsListPrefix (tree : DeskTrees) (limits : Limits) (parts : ℕ) (named : Book) (number : ℕ) (book : Book) (list : List Submission) : Type 0 where
-  pub length_is : number ≡ length list
-  pub book_is : book ≡ named
-  pub at_most_2_63_events : length list ≤ 2 ^ 63
-  pub seats : AllByRecursion (λ (event : Submission). event.seat < parts) list
-  pub replayed : IsReplayed tree limits list
 
 -- the event that is to be added
 abbrev pub submission_of : {D : Type 0} → SubmittedEvent D → Submission

@@ -1,4 +1,4 @@
--- What a door and a view keep.
+-- What a door, an entered door and a view keep.
 use Rattle.std.specs.Prelude.{◌≡◌, ℕ, length}
 use Rattle.logbook.specs.Pages.{Book}
 use Rattle.cv_core_machine.specs.declared.limits.Limits.{Limits}
@@ -9,6 +9,12 @@ use Rattle.cv_hub_seats.specs.code.Book.{IsSeat}
 
 -- of how many events a door knows that they were published, and how often it was refused
 pub record DoorView : Type 0 where
+  pub known : ℕ
+  pub refused : ℕ
+
+-- what an entered door reads, of how many events it knows that they were published, and how often it was refused
+pub record EnteredView : Type 0 where
+  pub post : PostView
   pub known : ℕ
   pub refused : ℕ
 

@@ -16,7 +16,7 @@ returns g c known =
     let trees = trees_of g.D.Desk.tree in
     let state : State = state_of trees g.L.Identity.limits c.args.self.now.list in
     let kept = c.self.invariant in
-    let list : c.self.inside.reading.part.value.list ≡ c.args.self.now.list = sym kept.list_is ∙ ap (λ (seat : SeatView). seat.list) c.self.view_is in
+    let list : c.self.inside.entered.post.list ≡ c.args.self.now.list = sym kept.list_is ∙ ap (λ (seat : SeatView). seat.list) c.self.view_is in
     let board : c.board.result.now ≡ board_of trees state =
     c.board.ensures ∙ (ap (λ (post : PostView). post.board) c.get.ensures ∙ (kept.shows.board known ∙ ap (λ (events : List Submission). board_of trees (state_of trees g.L.Identity.limits events)) list)) in
     report_is trees state c.args.image.now c.board.result.now (shown c.report.result) board c.report.ensures (c.board_law.ensures trees state (Report c.args.image.now))
