@@ -119,6 +119,17 @@ sync_then t u v p q r b P call run durable good s c le left = ⊎_elim
     inr
     (run.earlier s c (omega (arith, le, call.later)) left)
 
+-- a call that changes nothing: what a read gives is as before
+pub reads_same : (o n : Option (List ℕ)) (P : List ℕ → List ℕ → Type 0) → n ≡ o → ((b : List ℕ) → P b b) → IfSome o (λ b. IfSome n (P b))
+reads_same None n P same good = tt
+reads_same (Some b) n P same good = subst (λ (x : Option (List ℕ)). IfSome x (P b)) (sym same) (good b)
+
+-- and what it gives after a run is one of the images that the run leaves; the laws of the disk are the premises
+pub reads_left : (o n : Option (List ℕ)) (t u : ℕ) (p q : ℕ → List ℕ → Type 0) (P : List ℕ → List ℕ → Type 0) → IfSome n (q u) → ((c : List ℕ) → t ≤ u → q u c → q t c) → IfSome o (λ b. LeavesOnly t u p q (P b)) → IfSome o (λ b. IfSome n (P b))
+reads_left None n t u p q P reads earlier run = tt
+reads_left (Some b) None t u p q P reads earlier run = tt
+reads_left (Some b) (Some f) t u p q P reads earlier run = run.each f (earlier f run.later reads)
+
 -- the list of the syncs grows at its end
 pub front_none : (old new : List ℕ) → new ≡ old → IsFront old new
 front_none old new is = ([], is ∙ sym (append-nil old))

@@ -39,6 +39,7 @@ impl Journal {
         ensures after_sync { IfSome (J.contents disk.old) (λ b. LeavesAfterSync (J.syncs disk.old) (J.syncs disk.new) (J.may_leave disk.new) (HasRecordsOf b)) }
         ensures any_moment { IfSome (J.contents disk.old) (λ b. LeavesAsBeforeOr J.moment J.may_leave disk.old disk.new (HasRecordsOf b)) }
         ensures known { is_none (J.contents disk.new) ≡ is_none (J.contents disk.old) }
+        ensures same { IfSome (J.contents disk.old) (λ b. IfSome (J.contents disk.new) (HasRecordsOf b)) }
         ensures not_full { IsErrOf result KeepError.Full → ⊥ }
         ensures cause { CausedBy (J.faults disk.old) (J.faults disk.new) (is_disk_fault result) }
     {

@@ -1,6 +1,6 @@
-use Rattle.std.proofs.Common.{◌≡◌, refl, ◌∙◌}
-use Rattle.cv_keep.specs.Records.{records}
-use Rattle.cv_keep.proofs.Moments.{after_first, after_none, if_known, if_known_as, known_at, same_moment, sync_then}
+use Rattle.std.proofs.Common.{◌≡◌, ℕ, List, Option, IfSome, refl, subst, ◌∙◌}
+use Rattle.cv_keep.specs.Records.{HasRecordsOf, records}
+use Rattle.cv_keep.proofs.Moments.{after_first, after_none, if_known, if_known_as, known_at, reads_left, reads_same, same_moment, sync_then}
 use Rattle.cv_keep.proofs.journal.Journal.open.Goals as goal
 
 pub settle-requires : goal.settle-requires
@@ -38,3 +38,20 @@ pub returns-clause-any_moment : goal.returns-clause-any_moment
 returns-clause-any_moment g c =
     if_known _ _ _ c.in_ok-sync.ensures.durable (λ b is durable.
     sync_then _ _ _ _ _ _ b (λ f. records f ≡ records b) c.sync.ensures.crash (known_at _ b _ (c.sync.ensures.contents ∙ is) c.settle.ensures.any_moment) durable refl)
+
+-- ---- what is read
+
+pub returns-in_err-sync-clause-same : goal.returns-in_err-sync-clause-same
+returns-in_err-sync-clause-same g c = reads_same _ _ HasRecordsOf c.sync.ensures.contents (λ b. refl)
+
+pub returns-in_err-gate-clause-same : goal.returns-in_err-gate-clause-same
+returns-in_err-gate-clause-same g c =
+    let now = c.settle.new.disk in
+    subst (λ (o : Option (List ℕ)). IfSome o (λ b. IfSome (g.J.Disk.contents now) (HasRecordsOf b))) c.sync.ensures.contents
+    (reads_left _ _ _ _ _ _ HasRecordsOf (g.met.J.Disk.reads now) (λ image le left. g.met.J.Disk.earlier now _ _ image le left) c.settle.ensures.any_moment)
+
+pub returns-clause-same : goal.returns-clause-same
+returns-clause-same g c =
+    let now = c.settle.new.disk in
+    subst (λ (o : Option (List ℕ)). IfSome o (λ b. IfSome (g.J.Disk.contents now) (HasRecordsOf b))) c.sync.ensures.contents
+    (reads_left _ _ _ _ _ _ HasRecordsOf (g.met.J.Disk.reads now) (λ image le left. g.met.J.Disk.earlier now _ _ image le left) c.settle.ensures.any_moment)
