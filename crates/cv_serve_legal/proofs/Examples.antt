@@ -60,6 +60,7 @@ use Rattle.cv_serve_legal.specs.ParsedLine.{IsTaken, lines_requested, refusal_at
 use Rattle.cv_serve_legal.specs.Turns.{ClaimsBelow, FitsWork, Works}
 use Rattle.cv_serve_legal.specs.code.Segment.{lane_requests}
 use Rattle.cv_serve_legal.specs.Served.{LinesAscend}
+use Rattle.cv_serve_legal.specs.Whole.{AreAllRounds, WholeRound, entries_in, whole_round}
 use Rattle.cv_serve_legal.specs.declared.parsed_line.Requested.{Requested}
 use Rattle.cv_serve_legal.specs.declared.parsed_line.ParsedLine.{ParsedLine}
 use Rattle.cv_base.proofs.Same.{same_self}
@@ -321,6 +322,24 @@ two_rounds = record {
   further = (refl, refl);
 }
 
+abbrev two_whole : List WholeRound
+two_whole = whole_round first_round first_entries ∷ whole_round second_round second_entries ∷ []
+
+-- each with its lines and its entries
+two_all : AreAllRounds trees 1 beginning (first_round ∷ second_round ∷ []) two_whole indexed
+two_all = record {
+  between = indexed;
+  first = two_whole;
+  last = [];
+  parts = refl;
+  lines = refl;
+  input = (registered, first_legal, (indexed, second_legal, refl));
+  further = (refl, refl);
+}
+
+two_entries : (entries_in two_whole ≡ first_entries ++ second_entries)
+two_entries = refl
+
 -- after the first round alone the layer is Queued, and one more round indexes it
 abbrev last_entries : List Entry
 last_entries = entry.Event claim_event ∷ entry.Event indexed_event ∷ []
@@ -352,6 +371,17 @@ one_more_round = record {
   parts = refl;
   input = (registered, first_entries, [], refl, first_legal, (refl, refl));
   further = last_legal;
+}
+
+one_more_all : AreAllRounds trees 1 beginning (first_round ∷ []) (whole_round first_round first_entries ∷ whole_round [] last_entries ∷ []) indexed
+one_more_all = record {
+  between = registered;
+  first = whole_round first_round first_entries ∷ [];
+  last = whole_round [] last_entries ∷ [];
+  parts = refl;
+  lines = refl;
+  input = (registered, first_legal, refl);
+  further = (last_entries, refl, last_legal);
 }
 
 -- the input has these two rounds

@@ -5,7 +5,6 @@ mod Ended
 mod Examples
 mod Generations
 pub mod History
-pub mod Joined
 pub mod Order
 mod PatchExamples
 mod Pending
@@ -15,4 +14,5 @@ mod Settled
 mod Steps
 mod Stood
 mod Unique
+pub mod Whole
 mod Work

@@ -1,6 +1,6 @@
 -- What a service did goes on by a line that is taken, and by a round that ends.
 use Rattle.std.specs.Prelude.{◌≡◌, ℕ, ◌+◌, ◌≤◌, ◌<◌, true, cond, if◌then◌else◌, List, [], ◌∷◌, ◌++◌, length, refl}
-use Rattle.std.proofs.Common.{ap, arith, subst, sym, ◌∙◌}
+use Rattle.std.proofs.Common.{ap, arith, sym, ◌∙◌}
 use Rattle.std.proofs.lemmas.List.Sums.{fold-append}
 use Rattle.cv_base.specs.Lines.{Line, numbered}
 use Rattle.cv_base.specs.Texts.{is_cons}
@@ -8,15 +8,15 @@ use Rattle.cv_base.proofs.AllItems.{all_more, zip_more}
 use Rattle.cv_transcript.specs.declared.entry.Entry.{Entry}
 use Rattle.cv_core_machine.specs.Layers.{queued}
 use Rattle.cv_core_machine.specs.Scans.{Trees}
-use Rattle.cv_serve_legal.specs.Legal.{AreLast, AreLegal, AreLegalRounds}
 use Rattle.cv_serve_legal.specs.Replay.{Moment}
 use Rattle.cv_serve_legal.specs.Round.{IsLegalRound}
-use Rattle.cv_serve_legal.specs.Rounds.{Cut, Round, RoundLimits, counted, cut_line, cut_lines, end_round, put_line}
+use Rattle.cv_serve_legal.specs.Rounds.{Cut, RoundLimits, counted, cut_line, cut_lines, end_round, put_line}
 use Rattle.cv_serve_legal.specs.ParsedLine.{IsTaken}
 use Rattle.cv_serve_legal.specs.Served.{LinesAscend, Served}
+use Rattle.cv_serve_legal.specs.Whole.{AreAllRounds, AreLastRounds, WholeRound, whole_round}
 use Rattle.cv_serve_legal.specs.declared.parsed_line.ParsedLine.{ParsedLine}
 use Rattle.cv_serve_legal.proofs.Divided.{size_by_one}
-use Rattle.cv_serve_legal.proofs.Joined.{one_more}
+use Rattle.cv_serve_legal.proofs.Whole.{joined_lines, joined_rounds}
 
 -- ---- one more line
 
@@ -55,35 +55,35 @@ rise_later (first ∷ lines) last more h most =
 
 -- ---- what a service did
 
-pub begins : (trees : Trees) (workers : ℕ) (start : Moment) (limits : RoundLimits) → Served trees workers start (cut_lines limits []) 0 [] 0 [] start
-begins trees workers start limits = record { rounds = (refl, refl); begun = tt; ascend = tt; size = refl }
+module _ (known : Type 0) (trees : Trees) (workers : ℕ) (start : Moment) where
+  pub begins : (limits : RoundLimits) → Served known trees workers start (cut_lines limits []) 0 [] 0 [] start
+  begins limits = record { rounds = λ _. refl; lines = refl; begun = tt; ascend = tt; size = refl }
 
-pub takes_line : (trees : Trees) (workers : ℕ) (start : Moment) (cut : Cut) (last : ℕ) (taken : List ParsedLine) (bytes : ℕ) (entries : List Entry) (now : Moment) (line : Line) (t : ParsedLine)
-    → Served trees workers start cut last taken bytes entries now → line.number ≡ last + 1 → IsTaken line t
-    → Served trees workers start (put_line line cut) (last + 1) (taken ++ t ∷ []) (bytes + length line.text) entries now
-takes_line trees workers start cut last taken bytes entries now line t h is k = record {
-  rounds = h.rounds;
-  begun = zip_more IsTaken cut.begun taken line t h.begun k;
-  ascend = rise_with cut.begun last line is h.ascend;
-  size = size_by_one cut.begun line ∙ ap (λ n. n + length line.text) h.size;
-}
+  module _ (cut : Cut) (last : ℕ) (taken : List ParsedLine) (bytes : ℕ) (whole : List WholeRound) (now : Moment) (h : Served known trees workers start cut last taken bytes whole now) where
+    pub takes_line : (line : Line) (t : ParsedLine) → line.number ≡ last + 1 → IsTaken line t
+        → Served known trees workers start (put_line line cut) (last + 1) (taken ++ t ∷ []) (bytes + length line.text) whole now
+    takes_line line t is k = record {
+      rounds = h.rounds;
+      lines = h.lines;
+      begun = zip_more IsTaken cut.begun taken line t h.begun k;
+      ascend = rise_with cut.begun last line is h.ascend;
+      size = size_by_one cut.begun line ∙ ap (λ n. n + length line.text) h.size;
+    }
 
--- the round that has begun ends, and these are its entries
-pub ends_round : (trees : Trees) (workers : ℕ) (start : Moment) (cut : Cut) (last : ℕ) (taken : List ParsedLine) (bytes : ℕ) (entries : List Entry) (now : Moment) (next : List Entry) (after : Moment)
-    → Served trees workers start cut last taken bytes entries now → IsLegalRound trees workers now cut.begun next after
-    → Served trees workers start (end_round cut) last [] 0 (entries ++ next) after
-ends_round trees workers start cut last taken bytes entries now next after h k = record {
-  rounds = one_more trees workers start now after cut.rounds cut.begun entries next h.rounds k;
-  begun = tt;
-  ascend = tt;
-  size = refl;
-}
+    -- the round that has begun ends, and these are its entries
+    pub ends_round : (next : List Entry) (after : Moment) → (known → IsLegalRound trees workers now cut.begun next after)
+        → Served known trees workers start (end_round cut) last [] 0 (whole ++ whole_round cut.begun next ∷ []) after
+    ends_round next after k = record {
+      rounds = λ is. joined_rounds trees workers start now after whole (whole_round cut.begun next ∷ []) (h.rounds is) (after, k is, refl);
+      lines = joined_lines whole (whole_round cut.begun next ∷ []) ∙ ap (λ rounds. rounds ++ cut.begun ∷ []) h.lines;
+      begun = tt;
+      ascend = tt;
+      size = refl;
+    }
 
--- empty lines have numbers too
-pub later : (trees : Trees) (workers : ℕ) (start : Moment) (cut : Cut) (last : ℕ) (taken : List ParsedLine) (bytes : ℕ) (entries : List Entry) (now : Moment) (more : ℕ)
-    → Served trees workers start cut last taken bytes entries now → last ≤ more → Served trees workers start cut more taken bytes entries now
-later trees workers start cut last taken bytes entries now more h most =
-    record { rounds = h.rounds; begun = h.begun; ascend = rise_later cut.begun last more h.ascend most; size = h.size }
+    -- empty lines have numbers too
+    pub later : (more : ℕ) → last ≤ more → Served known trees workers start cut more taken bytes whole now
+    later more most = record { rounds = h.rounds; lines = h.lines; begun = h.begun; ascend = rise_later cut.begun last more h.ascend most; size = h.size }
 
 -- ---- the end of the input
 
@@ -98,24 +98,15 @@ counted_some cut some = ap (λ b. cond b (cut.rounds ++ cut.begun ∷ []) cut.ro
 pub counted_ended : (cut : Cut) → counted true cut ≡ (if is_cons cut.begun then (end_round cut).rounds else cut.rounds)
 counted_ended cut = refl
 
--- rounds that were served, and then what follows the last
-with_last : (trees : Trees) (workers : ℕ) (start : Moment) (rounds : List Round) (entries : List Entry) (now : Moment) (more : List Entry) (after : Moment)
-    → AreLegalRounds trees workers start rounds entries now → AreLast (queued now.state.layers) trees workers now more after
-    → AreLegal trees workers start rounds (entries ++ more) after
-with_last trees workers start rounds entries now more after h k =
-    record { between = now; first = entries; last = more; parts = refl; input = h; further = k }
+-- rounds that were carried out, and then those after the last one of the input
+module _ (known : Type 0) (trees : Trees) (workers : ℕ) (start : Moment) (cut : Cut) (last : ℕ) (taken : List ParsedLine) (bytes : ℕ) (whole : List WholeRound) (now : Moment) (more : List WholeRound) (after : Moment)
+    (is : known) (k : AreLastRounds (queued now.state.layers) trees workers now more after) where
+  pub all_rounds : Served known trees workers start cut last taken bytes whole now → cut.begun ≡ [] → AreAllRounds trees workers start (counted true cut) (whole ++ more) after
+  all_rounds h none =
+      record { between = now; first = whole; last = more; parts = refl; lines = h.lines ∙ sym (counted_none cut none); input = h.rounds is; further = k }
 
-pub all_legal : (trees : Trees) (workers : ℕ) (start : Moment) (cut : Cut) (last : ℕ) (taken : List ParsedLine) (bytes : ℕ) (entries : List Entry) (now : Moment) (more : List Entry) (after : Moment)
-    → Served trees workers start cut last taken bytes entries now → cut.begun ≡ [] → AreLast (queued now.state.layers) trees workers now more after
-    → AreLegal trees workers start (counted true cut) (entries ++ more) after
-all_legal trees workers start cut last taken bytes entries now more after h none k =
-    subst (λ rounds. AreLegal trees workers start rounds (entries ++ more) after) (sym (counted_none cut none))
-    (with_last trees workers start cut.rounds entries now more after h.rounds k)
-
--- the same where the last round of the input had no empty line after it
-pub all_legal_last : (trees : Trees) (workers : ℕ) (start : Moment) (cut : Cut) (last : ℕ) (taken : List ParsedLine) (bytes : ℕ) (entries : List Entry) (now : Moment) (more : List Entry) (after : Moment)
-    → Served trees workers start (end_round cut) last taken bytes entries now → is_cons cut.begun ≡ true → AreLast (queued now.state.layers) trees workers now more after
-    → AreLegal trees workers start (counted true cut) (entries ++ more) after
-all_legal_last trees workers start cut last taken bytes entries now more after h some k =
-    subst (λ rounds. AreLegal trees workers start rounds (entries ++ more) after) (sym (counted_some cut some))
-    (with_last trees workers start (end_round cut).rounds entries now more after h.rounds k)
+  -- the same where the last round of the input had no empty line after it
+  pub all_rounds_ended : Served known trees workers start (end_round cut) last taken bytes whole now → is_cons cut.begun ≡ true
+      → AreAllRounds trees workers start (counted true cut) (whole ++ more) after
+  all_rounds_ended h some =
+      record { between = now; first = whole; last = more; parts = refl; lines = h.lines ∙ sym (counted_some cut some); input = h.rounds is; further = k }

@@ -9,4 +9,5 @@ pub mod Rounds
 pub mod Served
 pub mod ParsedLine
 pub mod Turns
+pub mod Whole
 pub mod code
