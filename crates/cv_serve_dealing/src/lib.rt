@@ -11,11 +11,13 @@
 mod copies;
 mod dealing;
 mod gathering;
+mod keeping;
 mod lane;
 mod merging;
 
 pub use copies::{copy_findings, copy_rows};
 pub use dealing::{divide, lanes_of};
 pub use gathering::{joined, reads_of};
+pub use keeping::{KeepNothing, Keeper, NotedLine};
 pub use lane::Lane;
 pub use merging::merge;
