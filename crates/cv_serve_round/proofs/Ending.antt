@@ -4,41 +4,45 @@ use Rattle.std.proofs.Common.{append_assoc, subst, sym, ◌∙◌}
 use Rattle.std.proofs.lemmas.Bool.{false≢true}
 use Rattle.cv_base.specs.Lines.{Line}
 use Rattle.cv_base.specs.Texts.{is_cons}
-use Rattle.cv_transcript.specs.declared.entry.Entry.{Entry}
 use Rattle.cv_core_machine.specs.Layers.{queued}
 use Rattle.cv_core_machine.specs.Scans.{Trees}
-use Rattle.cv_serve_legal.specs.Legal.{AreLast, AreLegal}
 use Rattle.cv_serve_legal.specs.Replay.{Moment}
-use Rattle.cv_serve_legal.specs.Rounds.{Cut, counted, end_round}
+use Rattle.cv_serve_legal.specs.Rounds.{Cut, Round, counted, end_round}
 use Rattle.cv_serve_legal.specs.Served.{Served}
+use Rattle.cv_serve_legal.specs.Whole.{AreAllRounds, AreLastRounds, WholeRound}
 use Rattle.cv_serve_legal.specs.declared.parsed_line.ParsedLine.{ParsedLine}
-use Rattle.cv_serve_legal.proofs.Serving.{all_legal, all_legal_last}
-use Rattle.cv_serve_round.specs.Further.{Further, ServedToEnd}
+use Rattle.cv_serve_legal.proofs.Serving.{all_rounds, all_rounds_ended}
+use Rattle.cv_serve_round.specs.Kept.{FurtherKept, ServedToEndKept}
 use Rattle.cv_serve_round.specs.code.LineParts.{LastRun}
 use Rattle.cv_serve_round.proofs.Counts.{counts_both}
 use Rattle.cv_serve_round.proofs.Further.{lines_both, same_cons, tags_both}
+use Rattle.cv_serve_round.proofs.Kept.{kept_both}
 
 pub nothing : (lines : List Line) → is_cons lines ≡ false → lines ≡ []
 nothing [] e = refl
 nothing (line ∷ lines) e = absurd (false≢true (sym e))
 
 -- the rounds that count, once the one that had begun as the input ended is run, and then the last one
-legal_by : (trees : Trees) (workers : ℕ) (start : Moment) (cut : Cut) (last : ℕ) (taken : List ParsedLine) (bytes : ℕ) (entries : List Entry) (now : Moment) (more : List Entry) (after : Moment) (begun : Bool) → begun ≡ is_cons cut.begun
-    → Served trees workers start (if begun then end_round cut else cut) last taken bytes entries now → AreLast (queued now.state.layers) trees workers now more after
-    → AreLegal trees workers start (counted true cut) (entries ++ more) after
-legal_by trees workers start cut last taken bytes entries now more after true is h k = all_legal_last trees workers start cut last taken bytes entries now more after h (sym is) k
-legal_by trees workers start cut last taken bytes entries now more after false is h k = all_legal trees workers start cut last taken bytes entries now more after h (nothing cut.begun (sym is)) k
+all_by : (known : Type 0) (trees : Trees) (workers : ℕ) (start : Moment) (cut : Cut) (last : ℕ) (taken : List ParsedLine) (bytes : ℕ) (whole : List WholeRound) (now : Moment) (more : List WholeRound) (after : Moment) (begun : Bool) → begun ≡ is_cons cut.begun
+    → Served known trees workers start (if begun then end_round cut else cut) last taken bytes whole now → known → AreLastRounds (queued now.state.layers) trees workers now more after
+    → AreAllRounds trees workers start (counted true cut) (whole ++ more) after
+all_by known trees workers start cut last taken bytes whole now more after true is h k after_last = all_rounds_ended known trees workers start cut last taken bytes whole now more after k after_last h (sym is)
+all_by known trees workers start cut last taken bytes whole now more after false is h k after_last = all_rounds known trees workers start cut last taken bytes whole now more after k after_last h (nothing cut.begun (sym is))
 
-pub ends_input : {D : Type 0} (known : Type 0) (trees : Trees) (workers : ℕ) (start : Moment) (listings faults : D → ℕ) (cut : Cut) (last : ℕ) (taken left : List ParsedLine) (bytes size : ℕ) (entries : List Entry) (now between after : Moment) (begun : Bool)
-    (w u v : Option (List ℕ)) (l i n : List D) → (known → Served trees workers start cut last taken bytes entries now) → begun ≡ is_cons taken
-    → Further known trees workers start listings faults (if begun then end_round cut else cut) last left size entries between w u l i
-    → LastRun known trees workers listings faults between after u v i n
-    → ServedToEnd known trees workers start listings faults cut entries after w v l n
-ends_input known trees workers start listings faults cut last taken left bytes size entries now between after begun w u v l i n h is f g = record {
-  more = f.more ++ g.entries;
-  legal = λ k. subst (λ es. AreLegal trees workers start (counted true cut) es after) (append_assoc entries f.more g.entries)
-      (legal_by trees workers start cut last left size (entries ++ f.more) between g.entries after begun (is ∙ sym (same_cons cut.begun taken (h k).begun)) (f.served k) (g.last k));
-  lines = lines_both w u v f.more g.entries f.lines g.appended;
-  tags = tags_both f.more g.entries f.tags g.tags;
-  counts = counts_both listings faults 0 l i n f.more g.entries f.counts g.counts;
+pub ends_input : {D X : Type 0} (known : Type 0) (trees : Trees) (workers : ℕ) (start : Moment) (listings faults : D → ℕ) (keeps : X → WholeRound → X → Type 0) (cut : Cut) (last : ℕ) (taken left : List ParsedLine) (bytes size : ℕ) (noted : Round → Type 0)
+    (earlier : List WholeRound) (now between after : Moment) (begun : Bool) (w u v : Option (List ℕ)) (l i n : List D) (held middle held_now : X)
+    → Served known trees workers start cut last taken bytes earlier now → begun ≡ is_cons taken
+    → FurtherKept known trees workers start listings faults keeps (if begun then end_round cut else cut) last left size noted earlier between w u l i held middle
+    → LastRun known trees workers listings faults keeps between after u v i n middle held_now
+    → ServedToEndKept known trees workers start listings faults keeps cut earlier after w v l n held held_now
+ends_input known trees workers start listings faults keeps cut last taken left bytes size noted earlier now between after begun w u v l i n held middle held_now h is f g = record {
+  done = record {
+    more = f.done.more ++ g.more;
+    legal = λ k. subst (λ whole. AreAllRounds trees workers start (counted true cut) whole after) (append_assoc earlier f.done.more g.more)
+        (all_by known trees workers start cut last left size (earlier ++ f.done.more) between g.more after begun (is ∙ sym (same_cons cut.begun taken h.begun)) f.done.served k (g.last k));
+    lines = lines_both w u v f.done.more g.more f.done.lines g.appended;
+    tags = tags_both f.done.more g.more f.done.tags g.tags;
+    counts = counts_both listings faults 0 l i n f.done.more g.more f.done.counts g.counts;
+  };
+  kept = kept_both keeps held middle held_now f.done.more g.more f.kept g.kept;
 }

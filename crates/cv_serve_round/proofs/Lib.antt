@@ -2,6 +2,7 @@ pub use Rattle.cv_serve_lanes.proofs.WorkerLemmas
 pub mod Counts
 mod Ending
 pub mod Further
+pub mod Kept
 pub mod LaneLineLemmas
 pub mod LegalRoundLemmas
 mod Queued

@@ -1,9 +1,9 @@
 -- Lines one after the other have the bytes of their entries, also where only some of the bytes were written.
-use Rattle.std.specs.Prelude.{◌≡◌, ℕ, ◌+◌, ◌<◌, ◌≤◌, List, [], ◌∷◌, ◌++◌, drop, get_or, length, map, take, Option, IfErr, IfOk, IsErrAnd, OnErr, OnOk, Result, Ok, Err, refl}
+use Rattle.std.specs.Prelude.{◌≡◌, ℕ, ◌+◌, ◌<◌, List, [], ◌∷◌, ◌++◌, drop, get_or, length, map, take, Option, IfErr, IsErrAnd, OnErr, Result, Ok, Err, refl}
 use Rattle.std.specs.Io.KnownBytes.{Appends}
 use Rattle.std.specs.List.{AllByRecursion, AllZip, flat_map}
-use Rattle.std.proofs.Common.{ap, arith, inl, length-append, subst, sym, ◌∙◌}
-use Rattle.std.proofs.KnownBytes.{Appends-trans}
+use Rattle.std.proofs.Common.{ap, arith, inl, inr, length-append, subst, sym, ◌∙◌}
+use Rattle.std.proofs.KnownBytes.{Appends-nil, Appends-trans}
 use Rattle.std.proofs.Math.Seq.{take-append-add}
 use Rattle.std.proofs.lemmas.Grind.{flat_map-append}
 use Rattle.std.proofs.lemmas.List.{drop_more, take-append-drop, take-append-le}
@@ -18,7 +18,9 @@ use Rattle.cv_serve_legal.specs.Replay.{Moment}
 use Rattle.cv_serve_legal.specs.Round.{IsLegalRound}
 use Rattle.cv_serve_legal.specs.Rounds.{Round}
 use Rattle.cv_serve_legal.specs.Served.{LinesAscend}
+use Rattle.cv_serve_legal.specs.Whole.{WholeRound, whole_round}
 use Rattle.cv_serve_legal.specs.declared.parsed_line.ParsedLine.{ParsedLine}
+use Rattle.cv_serve_round.specs.Kept.{IsKeptOrUnwritten}
 use Rattle.cv_serve_round.specs.Printed.{HasTag}
 use Rattle.cv_serve_round.specs.Round.{DesksCounted}
 use Rattle.cv_serve_round.specs.code.LineParts.{LegalTexts, RoundRun, RoundStops, RoundTorn}
@@ -74,13 +76,12 @@ if_handed P error (Err e) from h = subst P (sym from) h
 -- ---- a round
 
 -- the lines of the entries of a round
-pub legal_texts : {D : Type 0} (known : Type 0) (trees : Trees) (workers : ℕ) (listings faults : D → ℕ) {T E : Type 0} (r : Result T E) (texts : T → List (List ℕ)) (size : ℕ) (taken : List ParsedLine) (before after : Moment) (l n : List D) (shown entries : List Entry)
+pub legal_texts : {D : Type 0} (known : Type 0) (trees : Trees) (workers : ℕ) (listings faults : D → ℕ) (texts : List (List ℕ)) (size : ℕ) (taken : List ParsedLine) (before after : Moment) (l n : List D) (shown entries : List Entry)
     → size ≡ workers → shown ≡ entries
     → (known → (lines : Round) (last : ℕ) → AllZip IsTaken lines taken → LinesAscend lines last → IsLegalRound trees size before lines entries after)
-    → DesksCounted listings faults 0 l n entries → IfOk r (λ t. texts t ≡ map (λ entry. entry_text entry) shown) → OnOk r (AllByRecursion HasTag shown)
-    → IfOk r (λ t. LegalTexts known trees workers listings faults taken before l (texts t) after n)
-legal_texts known trees workers listings faults (Err error) texts size taken before after l n shown entries many same legal counts text tags = tt
-legal_texts known trees workers listings faults (Ok t) texts size taken before after l n shown entries many same legal counts text tags = record {
+    → DesksCounted listings faults 0 l n entries → texts ≡ map (λ entry. entry_text entry) shown → AllByRecursion HasTag shown
+    → LegalTexts known trees workers listings faults taken before l entries texts after n
+legal_texts known trees workers listings faults texts size taken before after l n shown entries many same legal counts text tags = record {
   made = record {
     entries = shown;
     legal = λ k lines last read ascend.
@@ -89,26 +90,50 @@ legal_texts known trees workers listings faults (Ok t) texts size taken before a
     tags = tags;
     counts = subst (λ es. DesksCounted listings faults 0 l n es) (sym same) counts;
   };
+  entries_are = same;
   printed = text;
 }
 
-module _ {D : Type 0} (known : Type 0) (trees : Trees) (workers : ℕ) (listings faults : D → ℕ) {S : Type 0} (f : S → List ℕ) (lines shown : List S) (taken given : List ParsedLine) (before after : Moment) (w v : Option (List ℕ)) (l n : List D)
-    (same : shown ≡ lines) (is : taken ≡ given) (t : LegalTexts known trees workers listings faults taken before l (map f lines) after n) where
-  text_is : flat_map f shown ≡ flat_map entry_text t.made.entries
-  text_is = ap (flat_map f) same ∙ same_bytes f lines t.made.entries t.printed
+module _ {D X : Type 0} (known : Type 0) (trees : Trees) (workers : ℕ) (listings faults : D → ℕ) (noted : Round → Type 0) (keeps may_keep : X → WholeRound → X → Type 0) {S : Type 0} (f : S → List ℕ) (lines shown : List S) (taken given : List ParsedLine)
+    (entries given_entries : List Entry) (before after : Moment) (w v : Option (List ℕ)) (l n : List D) (held held_now : X)
+    (is : taken ≡ given) (same_entries : given_entries ≡ entries) (t : LegalTexts known trees workers listings faults taken before l entries (map f lines) after n) where
+  text_is : shown ≡ lines → flat_map f shown ≡ flat_map entry_text t.made.entries
+  text_is same = ap (flat_map f) same ∙ same_bytes f lines t.made.entries t.printed
 
-  -- its lines were written
-  pub round_run : Appends w v (flat_map f shown) → RoundRun known trees workers listings faults given before after w v l n
-  round_run written = subst (λ some. RoundRun known trees workers listings faults some before after w v l n) is (record { made = t.made; appended = subst (Appends w v) text_is written })
+  entries_are : given_entries ≡ t.made.entries
+  entries_are = same_entries ∙ sym t.entries_are
 
-  round_part : AppendsPrefix w v (flat_map f shown) → RoundTorn known trees workers listings faults given before w v l n
-  round_part written = subst (λ some. RoundTorn known trees workers listings faults some before w v l n) is (record { after = after; made = t.made; part = subst (AppendsPrefix w v) text_is written })
+  -- it was kept, and its lines were written
+  pub round_run : shown ≡ lines → ((round : Round) → noted round → keeps held (whole_round round given_entries) held_now) → Appends w v (flat_map f shown)
+      → RoundRun known trees workers listings faults noted keeps given before after w v l n held held_now
+  round_run same kept written = subst (λ some. RoundRun known trees workers listings faults noted keeps some before after w v l n held held_now) is (record {
+    made = t.made;
+    appended = subst (Appends w v) (text_is same) written;
+    kept = λ round is_noted. subst (λ es. keeps held (whole_round round es) held_now) entries_are (kept round is_noted);
+  })
 
-  -- a part of its lines was written
-  pub round_stopped : (error : WriteError) → AppendsPrefix w v (flat_map f shown) → RoundStops known trees workers listings faults given before w v l n error
-  round_stopped error.WriteFault written = round_part written
-  round_stopped error.NoMemory written = inl (round_part written)
+  round_part : ((round : Round) → noted round → IsKeptOrUnwritten keeps may_keep held (whole_round round given_entries) held_now w v) → AppendsPrefix w v (flat_map entry_text t.made.entries)
+      → RoundTorn known trees workers listings faults noted keeps may_keep given before w v l n held held_now
+  round_part kept written = subst (λ some. RoundTorn known trees workers listings faults noted keeps may_keep some before w v l n held held_now) is (record {
+    after = after;
+    made = t.made;
+    part = written;
+    kept = λ round is_noted. subst (λ es. IsKeptOrUnwritten keeps may_keep held (whole_round round es) held_now w v) entries_are (kept round is_noted);
+  })
 
-  pub round_stops_by : (r : Result Unit WriteError) → OnErr r (AppendsPrefix w v (flat_map f shown)) → IfErr r (RoundStops known trees workers listings faults given before w v l n)
-  round_stops_by (Ok x) h = tt
-  round_stops_by (Err error) h = round_stopped error h
+  -- it was not kept, and nothing of it was written
+  pub round_unkept : v ≡ w → ((round : Round) → noted round → may_keep held (whole_round round given_entries) held_now)
+      → RoundStops known trees workers listings faults noted keeps may_keep given before w v l n held held_now error.NoMemory
+  round_unkept same kept =
+      inl (round_part (λ round is_noted. inr (kept round is_noted, same)) (0, omega arith, subst (λ now. Appends w now []) (sym same) (Appends-nil w)))
+
+  -- it was kept, and a part of its lines was written
+  round_stopped : shown ≡ lines → ((round : Round) → noted round → keeps held (whole_round round given_entries) held_now) → (error : WriteError) → AppendsPrefix w v (flat_map f shown)
+      → RoundStops known trees workers listings faults noted keeps may_keep given before w v l n held held_now error
+  round_stopped same kept error.WriteFault written = round_part (λ round is_noted. inl (kept round is_noted)) (subst (AppendsPrefix w v) (text_is same) written)
+  round_stopped same kept error.NoMemory written = inl (round_part (λ round is_noted. inl (kept round is_noted)) (subst (AppendsPrefix w v) (text_is same) written))
+
+  pub round_stops_by : shown ≡ lines → ((round : Round) → noted round → keeps held (whole_round round given_entries) held_now) → (r : Result Unit WriteError) → OnErr r (AppendsPrefix w v (flat_map f shown))
+      → IfErr r (RoundStops known trees workers listings faults noted keeps may_keep given before w v l n held held_now)
+  round_stops_by same kept (Ok x) h = tt
+  round_stops_by same kept (Err error) h = round_stopped same kept error h

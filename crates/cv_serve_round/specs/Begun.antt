@@ -7,14 +7,15 @@ use Rattle.cv_hub_seats.specs.declared.submission.Submission.{Submission}
 use Rattle.cv_serve_legal.specs.declared.parsed_line.ParsedLine.{ParsedLine}
 use Rattle.cv_serve_round.specs.Round.{AreRoundSeats}
 
--- what became of the lines of a round that has begun, and how many bytes these lines have
+-- what became of the lines of a round that has begun, how many bytes these lines have, and which of them are noted
 pub record RoundView : Type 0 where
   pub taken : List ParsedLine
   pub bytes : ℕ
+  pub noted : List Line
 
 -- a round without lines
 abbrev pub no_lines : RoundView
-no_lines = record { taken = []; bytes = 0 }
+no_lines = record { taken = []; bytes = 0; noted = [] }
 
 -- the line of this number
 abbrev pub line_at : ℕ → List ℕ → Line

@@ -1,14 +1,15 @@
 //! The rounds of a service over a hub of `cv_hub`: it takes lines into the round that has begun, carries out each round that ends, eight
-//! lanes and the workers concurrently, and writes the round's lines. `specs/Round.antt` says what a round leaves of the desks and of the
-//! seats; its entries are a legal round of `cv_serve_legal`. `specs/Further.antt` says what a service did, and what it leaves that stops
-//! because its output was not written or memory ran out.
+//! lanes and the workers concurrently, has a keeper keep it, and then writes the round's lines. `specs/Round.antt` says what a round leaves
+//! of the desks and of the seats; its entries are a legal round of `cv_serve_legal`. `specs/Further.antt` says what a service did, and what
+//! it leaves that stops because a round was not kept, its output was not written, or memory ran out; `specs/Kept.antt` adds which rounds
+//! were kept.
 //!
 //! ```text
 //! let core = new_core(alloc)?;
 //! let mut service = started::<D, L, W>(rt, alloc, blank, core, desks.len())?;
 //! let mut round = Round::new(alloc);
-//! let taken = take_line(rt, alloc, &mut service, desks, output, &mut round, number, text);
-//! let end = end_input(rt, alloc, &mut service, desks, output, round);
+//! let taken = take_line(rt, alloc, &mut service, desks, output, keeper, disk, &mut round, number, text);
+//! let end = end_input(rt, alloc, &mut service, desks, output, keeper, disk, round);
 //! service.end(rt);
 //! ```
 #![tactic(auto)]

@@ -1,6 +1,7 @@
 ghost use Rattle.std.specs.Prelude.{◌≡◌, [], ◌+◌, ◌≤◌, IfOk};
 ghost use Rattle.cv_core_machine.specs.declared.limits.TheConstants.{MAX_FEEDS, MAX_IMAGES};
 ghost use Rattle.cv_core.specs.Core.{opened};
+ghost use Rattle.cv_hub.specs.Seats.{AreFresh};
 ghost use Rattle.cv_serve_round.specs.Round.{AreRoundSeats};
 
 use cv_base::NoMemory;
@@ -40,6 +41,7 @@ pub fn started<D: Desk + Drop, L: Identity, W: Wait>(
     requires workers { workers ≤ 8 }
     ensures hub { IfOk result (λ service. service.hub ≡ []) }
     ensures seats { IfOk result (λ service. AreRoundSeats L.parts workers [] service.seats.items) }
+    ensures fresh { IfOk result (λ service. AreFresh 0 service.seats.items) }
 {
     let count = u32::from(MAX_LANES) + workers as u32;
     let (hub, seats) = Hub::<D, L>::start(rt, alloc, blank, core, count)?;

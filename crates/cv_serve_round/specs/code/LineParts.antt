@@ -9,15 +9,16 @@ use Rattle.cv_transcript.specs.Entry.{entry_text}
 use Rattle.cv_transcript.specs.declared.entry.Entry.{Entry}
 use Rattle.cv_core_machine.specs.Layers.{queued}
 use Rattle.cv_core_machine.specs.Scans.{Trees}
-use Rattle.cv_serve_legal.specs.Legal.{AreLast}
 use Rattle.cv_serve_legal.specs.Replay.{Moment}
 use Rattle.cv_serve_legal.specs.Round.{IsLegalRound}
 use Rattle.cv_serve_legal.specs.ParsedLine.{IsTaken}
 use Rattle.cv_serve_legal.specs.Rounds.{Round}
 use Rattle.cv_serve_legal.specs.Served.{LinesAscend}
+use Rattle.cv_serve_legal.specs.Whole.{AreLastRounds, WholeRound, entries_in, whole_round}
 use Rattle.cv_serve_legal.specs.declared.limits.TheConstants.{MAX_ROUND_BYTES}
 use Rattle.cv_serve_legal.specs.declared.parsed_line.ParsedLine.{ParsedLine}
 use Rattle.cv_serve_round.specs.Round.{DesksAtLeast, DesksCounted, IsSoundTaken}
+use Rattle.cv_serve_round.specs.Kept.{AreKept, IsKeptOrUnwritten}
 use Rattle.cv_serve_round.specs.Printed.{HasTag}
 
 -- a round that has begun: without lines it has no bytes
@@ -35,38 +36,44 @@ pub record RoundMade {D : Type 0} (known : Type 0) (trees : Trees) (workers : �
   pub tags : AllByRecursion HasTag entries
   pub counts : DesksCounted listings faults 0 desks desks_now entries
 
--- the same, with the texts of the entries
-pub record LegalTexts {D : Type 0} (known : Type 0) (trees : Trees) (workers : ℕ) (listings faults : D → ℕ) (taken : List ParsedLine) (before : Moment) (desks : List D) (texts : List (List ℕ)) (after : Moment) (desks_after : List D) : Type 0 where
+-- the same, with the entries and their texts
+pub record LegalTexts {D : Type 0} (known : Type 0) (trees : Trees) (workers : ℕ) (listings faults : D → ℕ) (taken : List ParsedLine) (before : Moment) (desks : List D) (entries : List Entry) (texts : List (List ℕ)) (after : Moment) (desks_after : List D) : Type 0 where
   pub made : RoundMade known trees workers listings faults taken before after desks desks_after
+  pub entries_are : made.entries ≡ entries
   pub printed : texts ≡ map (λ entry. entry_text entry) made.entries
 
--- a round was run, and its lines were written
-pub record RoundRun {D : Type 0} (known : Type 0) (trees : Trees) (workers : ℕ) (listings faults : D → ℕ) (taken : List ParsedLine) (before after : Moment) (written written_now : Option (List ℕ)) (desks desks_now : List D) : Type 0 where
+-- a round was run and kept, and its lines were written
+pub record RoundRun {D X : Type 0} (known : Type 0) (trees : Trees) (workers : ℕ) (listings faults : D → ℕ) (noted : Round → Type 0) (keeps : X → WholeRound → X → Type 0) (taken : List ParsedLine) (before after : Moment) (written written_now : Option (List ℕ)) (desks desks_now : List D) (held held_now : X) : Type 0 where
   pub made : RoundMade known trees workers listings faults taken before after desks desks_now
   pub appended : Appends written written_now (flat_map entry_text made.entries)
+  pub kept : (lines : Round) → noted lines → keeps held (whole_round lines made.entries) held_now
 
--- a round was run, and the first bytes of its lines were written
-pub record RoundTorn {D : Type 0} (known : Type 0) (trees : Trees) (workers : ℕ) (listings faults : D → ℕ) (taken : List ParsedLine) (before : Moment) (written written_now : Option (List ℕ)) (desks desks_now : List D) : Type 0 where
+-- a round was run, and the first bytes of its lines were written; it was kept, or nothing of it was written
+pub record RoundTorn {D X : Type 0} (known : Type 0) (trees : Trees) (workers : ℕ) (listings faults : D → ℕ) (noted : Round → Type 0) (keeps may_keep : X → WholeRound → X → Type 0) (taken : List ParsedLine) (before : Moment) (written written_now : Option (List ℕ)) (desks desks_now : List D) (held held_now : X) : Type 0 where
   pub after : Moment
   pub made : RoundMade known trees workers listings faults taken before after desks desks_now
   pub part : AppendsPrefix written written_now (flat_map entry_text made.entries)
+  pub kept : (lines : Round) → noted lines → IsKeptOrUnwritten keeps may_keep held (whole_round lines made.entries) held_now written written_now
 
--- nothing of a round was written, and no count of a desk fell
-pub record RoundLost {D : Type 0} (listings faults : D → ℕ) (written written_now : Option (List ℕ)) (desks desks_now : List D) : Type 0 where
+-- nothing of a round was written or kept, and no count of a desk fell
+pub record RoundLost {D X : Type 0} (listings faults : D → ℕ) (written written_now : Option (List ℕ)) (desks desks_now : List D) (held held_now : X) : Type 0 where
   pub unwritten : Appends written written_now []
   pub counts : DesksAtLeast listings faults 0 desks desks_now []
+  pub unkept : held_now ≡ held
 
 -- what is left of a round by this error
-abbrev pub RoundStops : {D : Type 0} → Type 0 → Trees → ℕ → (D → ℕ) → (D → ℕ) → List ParsedLine → Moment → Option (List ℕ) → Option (List ℕ) → List D → List D → WriteError → Type 0
-RoundStops known trees workers listings faults taken before written written_now desks desks_now error.WriteFault =
-    RoundTorn known trees workers listings faults taken before written written_now desks desks_now
-RoundStops known trees workers listings faults taken before written written_now desks desks_now error.NoMemory =
-    RoundTorn known trees workers listings faults taken before written written_now desks desks_now ⊎ RoundLost listings faults written written_now desks desks_now
+abbrev pub RoundStops : {D X : Type 0} → Type 0 → Trees → ℕ → (D → ℕ) → (D → ℕ) → (Round → Type 0) → (X → WholeRound → X → Type 0) → (X → WholeRound → X → Type 0) → List ParsedLine → Moment → Option (List ℕ) → Option (List ℕ) → List D → List D → X → X → WriteError → Type 0
+RoundStops known trees workers listings faults noted keeps may_keep taken before written written_now desks desks_now held held_now error.WriteFault =
+    RoundTorn known trees workers listings faults noted keeps may_keep taken before written written_now desks desks_now held held_now
+RoundStops known trees workers listings faults noted keeps may_keep taken before written written_now desks desks_now held held_now error.NoMemory =
+    RoundTorn known trees workers listings faults noted keeps may_keep taken before written written_now desks desks_now held held_now
+    ⊎ RoundLost listings faults written written_now desks desks_now held held_now
 
--- one more round was run exactly if a layer was queued, and its lines were written
-pub record LastRun {D : Type 0} (known : Type 0) (trees : Trees) (workers : ℕ) (listings faults : D → ℕ) (before after : Moment) (written written_now : Option (List ℕ)) (desks desks_now : List D) : Type 0 where
-  pub entries : List Entry
-  pub last : known → AreLast (queued before.state.layers) trees workers before entries after
-  pub appended : Appends written written_now (flat_map entry_text entries)
-  pub tags : AllByRecursion HasTag entries
-  pub counts : DesksCounted listings faults 0 desks desks_now entries
+-- one more round was run exactly if a layer was queued, it was kept, and its lines were written
+pub record LastRun {D X : Type 0} (known : Type 0) (trees : Trees) (workers : ℕ) (listings faults : D → ℕ) (keeps : X → WholeRound → X → Type 0) (before after : Moment) (written written_now : Option (List ℕ)) (desks desks_now : List D) (held held_now : X) : Type 0 where
+  pub more : List WholeRound
+  pub last : known → AreLastRounds (queued before.state.layers) trees workers before more after
+  pub appended : Appends written written_now (flat_map entry_text (entries_in more))
+  pub tags : AllByRecursion HasTag (entries_in more)
+  pub counts : DesksCounted listings faults 0 desks desks_now (entries_in more)
+  pub kept : AreKept keeps held more held_now
