@@ -1,15 +1,17 @@
 -- What was read of the input, line by line, and how much of it was taken.
-use Rattle.std.specs.Prelude.{◌≡◌, ℕ, ◌+◌, ◌-◌, ◌^◌, true, false, if◌then◌else◌, List, [], ◌∷◌, ◌++◌, length, Option, Some, None, IfSome, IsErrAnd, Result, Ok, Err, refl}
+use Rattle.std.specs.Prelude.{◌≡◌, ℕ, ◌+◌, ◌-◌, ◌<◌, ◌≤◌, ◌^◌, Bool, true, false, if◌then◌else◌, List, [], ◌∷◌, ◌++◌, length, take, Option, Some, None, IfSome, IsErrAnd, OnOk, Result, Ok, Err, refl}
+use Rattle.std.specs.Io.BufRead.{ends_with_byte}
 use Rattle.std.specs.Io.KnownBytes.{prepend_known}
 use Rattle.std.specs.Option.{option_map}
-use Rattle.std.proofs.Common.{ap, append_assoc, subst, sym, ◌∙◌}
-use Rattle.cv_io.specs.Lines.{Reading, Finished, lines_of, reading_of}
+use Rattle.std.proofs.Common.{ap, append_assoc, arith, length-take, subst, sym, ◌∙◌}
+use Rattle.cv_io.specs.Lines.{CR, Reading, Finished, lines_of, reading_of, text_of}
 use Rattle.cv_io.specs.code.Lines.{lines_then}
 use Rattle.cv_io.proofs.Readings.{reading_finished}
 use Rattle.cv_io.specs.Reader.{Reader, Reads, Step, new_reader, reading}
 use Rattle.cv_io.specs.declared.line.Line.TheVariants.{Text}
 use Rattle.cv_io.specs.declared.line.LineError.{LineError}
 use Rattle.cv_io.specs.declared.line.LineError.TheVariants as line
+use Rattle.cv_io.specs.declared.write.WriteError.TheVariants as write
 use Rattle.cv_scan_input.specs.Taken.{IsTaken}
 use Rattle.cv_scan_input.specs.code.TakenParts.{IsTakenTo}
 use Rattle.cv_scan_input.proofs.Taken.{rest_taken_up, taken_first, taken_more, taken_up}
@@ -19,6 +21,7 @@ use Rattle.cv_scan_input.specs.Request.{input_of}
 use Rattle.cv_serve.specs.Served.{AreGiven, FitsInput}
 use Rattle.cv_serve.specs.code.Reading.{HasRead, HasReadAll}
 use Rattle.cv_serve.specs.declared.end.ServeEnd.{ServeEnd}
+use Rattle.cv_serve.specs.declared.end.ServeEnd.TheVariants as end
 use Rattle.cv_serve.specs.declared.end.Stop.{Stop as Stopped}
 use Rattle.cv_serve.specs.declared.end.Stop.TheVariants as stop
 
@@ -45,6 +48,20 @@ taken_stop was before now l m k line.NoMemory (Err x) h s inputs from e = cc
 
 -- ---- the whole input
 
+-- a text is no longer than the bytes of its line
+text_within : (piece : List ℕ) → length (text_of piece) ≤ length piece
+text_within piece = by (ends_with_byte CR piece)
+  where
+    by : (b : Bool) → length (if b then take (length piece - 1) piece else piece) ≤ length piece
+    by true = omega (arith, length-take (length piece - 1) piece)
+    by false = omega arith
+
+-- a line has fewer than 2 to the power of 32 bytes
+pub short_text : (before now : Reader) (l m : Option (List ℕ)) (text : List ℕ) → now.max_line ≡ 67108864 → Step before now l m (Ok (Text text)) → length text < 2 ^ 32
+short_text before now l m text limit s =
+    let short = s.answers.short in
+    omega (arith, text_within s.answers.piece, ap length s.answers.text, short, limit)
+
 -- a reader that took nothing before
 pub all_taken_up : (l m : Option (List ℕ)) → IsTakenTo 0 (2 ^ 36) l m → IsTaken (2 ^ 36) l m
 all_taken_up l m h = rest_taken_up 0 0 l l m (taken_first 0 l) h refl
@@ -58,6 +75,17 @@ handed_on error (Err x) from e = cc
 pub handed_end : (P : ServeEnd → Type 0) (error : Stopped) (r : Result Unit Stopped) → IsErrAnd r (λ e. e ≡ error) → P (end_of (Err error)) → P (end_of r)
 handed_end P error (Ok x) from h = absurd from
 handed_end P error (Err x) from h = subst (λ e. P (end_of (Err e))) (sym from) h
+
+-- a service that is done did not stop
+pub done_only : (P : Type 0) (r : Result Unit Stopped) (ended : ServeEnd) → ended ≡ end_of r → ended ≡ end.Done → OnOk r P → P
+done_only P (Ok x) ended is done h = h
+done_only P (Err (stop.Input line.ReadFault)) ended is done h = cc
+done_only P (Err (stop.Input line.LineTooLong)) ended is done h = cc
+done_only P (Err (stop.Input line.InputTooLong)) ended is done h = cc
+done_only P (Err (stop.Input line.NoMemory)) ended is done h = cc
+done_only P (Err (stop.Output write.WriteFault)) ended is done h = cc
+done_only P (Err (stop.Output write.NoMemory)) ended is done h = cc
+done_only P (Err stop.NoMemory) ended is done h = cc
 
 -- a reader that took nothing is a new one
 pub fresh_reader : (r : Reader) → r.held ≡ [] → r.taken ≡ 0 → r.ended ≡ false → r.max_line ≡ 67108864 → r.max_input ≡ 2 ^ 36 → (remaining : Option (List ℕ))

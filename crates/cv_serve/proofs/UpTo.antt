@@ -1,5 +1,5 @@
 -- How the lines of the bytes stop that were taken.
-use Rattle.std.specs.Prelude.{◌≡◌, ⊤, ℕ, ◌+◌, ◌-◌, ◌<◌, ◌≤◌, ◌^◌, false, List, [], ◌∷◌, ◌++◌, length, map, take, drop, Option, IsErrAnd, Result, Ok, Err, refl}
+use Rattle.std.specs.Prelude.{◌≡◌, ⊤, ℕ, ◌+◌, ◌-◌, ◌<◌, ◌≤◌, ◌^◌, false, List, [], ◌∷◌, ◌++◌, length, take, drop, Option, IsErrAnd, Result, Ok, Err, refl}
 use Rattle.std.specs.Io.KnownBytes.{Consumes}
 use Rattle.std.specs.List.{AllByRecursion}
 use Rattle.std.proofs.Common.{ap, append_assoc, append-nil, arith, inl, inr, length-append, length-take-le, subst, sym, take-append-drop, ◌∙◌}

@@ -1,4 +1,5 @@
 pub use Rattle.cv_serve_round.specs.Round
+pub mod Kept
 pub mod Quiet
 pub mod Served
 pub mod code

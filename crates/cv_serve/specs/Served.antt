@@ -7,12 +7,12 @@ use Rattle.cv_base.specs.Lines.{numbered}
 use Rattle.cv_io.specs.Lines.{Stop, Finished, HasNoLineEnd, LongLine, LongInput}
 use Rattle.cv_io.specs.declared.write.WriteError.{WriteError}
 use Rattle.cv_io.specs.declared.write.WriteError.TheVariants as error
-use Rattle.cv_transcript.specs.declared.entry.Entry.{Entry}
 use Rattle.cv_core_machine.specs.Scans.{Trees}
 use Rattle.cv_core_machine.specs.State.{State}
-use Rattle.cv_serve_legal.specs.Legal.{AreLegalRounds, AreLines, IsLegalFrom}
+use Rattle.cv_serve_legal.specs.Legal.{AreLines, IsLegalFrom}
 use Rattle.cv_serve_legal.specs.Replay.{Moment, beginning}
 use Rattle.cv_serve_legal.specs.Rounds.{Round, cut_lines, round_limits, rounds_of}
+use Rattle.cv_serve_legal.specs.Whole.{AreWholeRounds, WholeRound, entries_in, lines_in}
 use Rattle.cv_serve_round.specs.Further.{AreToEnd, Stops}
 use Rattle.cv_serve_round.specs.Round.{DesksCounted}
 use Rattle.cv_scan_input.specs.Request.{input_of}
@@ -63,13 +63,13 @@ TakesUpTo before now _ = ⊤
 
 -- ---- what each end says of the output and the desks. Rounds are legal where the layers of the desks' type are known
 
--- what was appended to the output are the lines of entries, and each worker's desk counted what they say
+-- what was appended to the output are the lines of the entries of rounds, and each worker's desk counted what they say
 pub record IsCounted {D : Type 0} (listings faults : D → ℕ) (written written_now : Option (List ℕ)) (desks desks_now : List D) : Type 0 where
-  pub entries : List Entry
+  pub rounds : List WholeRound
   pub output : List ℕ
   pub appended : Appends written written_now output
-  pub lines : AreLines output entries
-  pub counts : DesksCounted listings faults 0 desks desks_now entries
+  pub lines : AreLines output (entries_in rounds)
+  pub counts : DesksCounted listings faults 0 desks desks_now (entries_in rounds)
 
 -- the bytes before the line that is too long: whole lines, of which none is too long. More bytes than a line may have follow, and no
 -- line ends within them
@@ -89,19 +89,20 @@ IsBeforeRefusal LongLine front taken = IsBeforeLongLine front taken
 IsBeforeRefusal LongInput front taken = front ≡ taken
 
 -- The input was not read to its end, and what was appended to the output are the lines of legal rounds, from the moment `start` on, for
--- exactly those rounds that ended before the refusal. The desk of each worker listed a layer for each line of this worker that says `claimed`, and failed for each
--- of its `fault` lines: no further round was run
+-- exactly those rounds that ended before the refusal. The desk of each worker listed a layer for each line of this worker that says
+-- `claimed`, and failed for each of its `fault` lines: no further round was run
 pub record IsServedUpTo {D : Type 0} (known : Type 0) (trees : Trees) (workers : ℕ) (start : Moment) (listings faults : D → ℕ) (stop : Stop) (remaining remaining_now written written_now : Option (List ℕ)) (desks desks_now : List D) : Type 0 where
   pub taken : IsTakenUpTo stop remaining remaining_now
   pub front : List ℕ
   pub refused : IsBeforeRefusal stop front taken.bytes
-  pub entries : List Entry
+  pub rounds : List WholeRound
+  pub ended : lines_in rounds ≡ rounds_of round_limits front false
   pub output : List ℕ
   pub appended : Appends written written_now output
-  pub lines : AreLines output entries
+  pub lines : AreLines output (entries_in rounds)
   pub after : Moment
-  pub legal : known → AreLegalRounds trees workers start (rounds_of round_limits front false) entries after
-  pub counts : DesksCounted listings faults 0 desks desks_now entries
+  pub legal : known → AreWholeRounds trees workers start rounds after
+  pub counts : DesksCounted listings faults 0 desks desks_now (entries_in rounds)
 
 -- these lines were given of the input: all, or the first ones
 abbrev pub AreGiven : Bool → Option (List ℕ) → List (List ℕ) → Type 0
@@ -114,8 +115,8 @@ AreRoundsEnded true texts all = AreToEnd (cut_lines round_limits (numbered 1 tex
 AreRoundsEnded false texts all = all ≡ (cut_lines round_limits (numbered 1 texts)).rounds
 
 -- A write was not made, or memory ran out. What was appended to the output are whole lines of legal rounds, from the moment `start` on,
--- and if a write was not made, then the first bytes of one more round, which is the last that the lines ended that were given, and was run. What the desks counted is
--- by the rounds that were run
+-- and if a write was not made, then the first bytes of one more round, which is the last that the lines ended that were given, and was
+-- run. What the desks counted is by the rounds that were run
 pub record IsStopped {D : Type 0} (known : Type 0) (trees : Trees) (workers : ℕ) (start : Moment) (listings faults : D → ℕ) (remaining written written_now : Option (List ℕ)) (desks desks_now : List D) (error : WriteError) : Type 0 where
   pub texts : List (List ℕ)
   pub are_all : Bool

@@ -12,7 +12,8 @@ ghost use Rattle.cv_serve_legal.specs.Replay.{Moment};
 ghost use Rattle.cv_serve_round.specs.Core.{opened};
 ghost use Rattle.cv_serve_round.specs.Round.{moment_of};
 ghost use Rattle.cv_serve.specs.code.Ends.{end_of, is_read_stop, is_write_stop};
-ghost use Rattle.cv_serve.specs.Served.{FitsInput, IsServed, IsServedFrom, TakesUpTo, Wrote, WroteFrom};
+ghost use Rattle.cv_serve.specs.Served.{FitsInput, IsServed, TakesUpTo, Wrote};
+ghost use Rattle.cv_serve.specs.Kept.{IsServedKept, WroteKept};
 ghost use Rattle.cv_serve_round.specs.Begun.{IsPrepared};
 ghost use Rattle.cv_serve.specs.code.Reading.{Done, HasReadAll, StopsLines};
 ghost use Rattle.cv_serve.specs.declared.end.Stop.TheVariants as stop;
@@ -22,6 +23,7 @@ use cv_desk::Desk;
 use cv_io::{Line, LineReader, Sink, Source};
 use cv_request::MAX_LANES;
 use cv_scan_input::{MAX_INPUT, MAX_LINE};
+use cv_serve_dealing::{KeepNothing, Keeper};
 use cv_serve_legal::completeness_laws;
 use cv_serve_round::{
     Blank, Core, Identity, Round, Service, end_input, new_core, started, take_line,
@@ -127,15 +129,26 @@ fn serve_with<
 {
     completeness_laws();
     let mut service = started::<D, L, W>(rt, alloc, blank, core, desks.len())?;
-    let end = serve_by(rt, alloc, &mut service, desks, input, output);
+    let end = serve_by(
+        rt,
+        alloc,
+        &mut service,
+        desks,
+        input,
+        output,
+        &mut KeepNothing,
+        &mut (),
+    );
     service.end(rt);
     end
 }
 
-/// Serves with a hub that has applied some events.
-fn serve_by<
+/// Serves with a hub that has applied some events, and keeps each round before its lines are written. Each desk has a
+/// worker. It waits for its threads.
+pub fn serve_from<
     S: Source,
     K: Sink,
+    P: Keeper,
     D: Desk + Drop + Send + Sync,
     L: Identity + Send + Sync,
     W: Threads + Wait + Sync,
@@ -146,16 +159,55 @@ fn serve_by<
     desks: &mut [D],
     input: &mut S,
     output: &mut K,
+    keeper: &mut P,
+    disk: &mut P::Disk,
+) -> ServeEnd
+    requires prepared { IsPrepared D.listings L.parts service.old.hub service.old.seats.items desks.old }
+    requires ready { P.is_ready (keeper.old, disk.old) }
+    ensures done { StatesEveryLayer D.tree → (start : Moment) → moment_of (trees_of D.tree) L.limits service.old.hub ≡ start → result ≡ ServeEnd.Done → IfSome (S.remaining input.old) (λ bytes.
+        IsServedKept (trees_of D.tree) (length desks.old) start D.listings D.faults P.keeps bytes (K.contents output.old) (K.contents output.new) desks.old desks.new (keeper.old, disk.old) (keeper.new, disk.new)) }
+    ensures ended { result ≡ ServeEnd.Done → IsAtEnd (S.remaining input.new) }
+    ensures input { FitsInput (S.remaining input.old) result }
+    ensures front { TakesUpTo (S.remaining input.old) (S.remaining input.new) result }
+    ensures wrote { (start : Moment) → moment_of (trees_of D.tree) L.limits service.old.hub ≡ start
+        → WroteKept (StatesEveryLayer D.tree) (trees_of D.tree) (length desks.old) start D.listings D.faults P.keeps P.may_keep (S.remaining input.old) (S.remaining input.new)
+        (K.contents output.old) (K.contents output.new) desks.old desks.new (keeper.old, disk.old) (keeper.new, disk.new) result }
+    ensures limit { IsTakenWithin (2 ^ 36) (S.remaining input.old) (S.remaining input.new) }
+    ensures taken { result ≡ ServeEnd.InputTooLong → IsTaken (2 ^ 36) (S.remaining input.old) (S.remaining input.new) }
+    ensures read_fault { result ≡ ServeEnd.ReadFault → Rose (S.faults input.old) (S.faults input.new) }
+    ensures write_fault { result ≡ ServeEnd.WriteFault → Rose (K.faults output.old) (K.faults output.new) }
+{
+    end_of(serve_by(rt, alloc, service, desks, input, output, keeper, disk))
+}
+
+/// Serves with a hub that has applied some events.
+fn serve_by<
+    S: Source,
+    K: Sink,
+    P: Keeper,
+    D: Desk + Drop + Send + Sync,
+    L: Identity + Send + Sync,
+    W: Threads + Wait + Sync,
+>(
+    rt: &W,
+    alloc: Global,
+    service: &mut Service<D, L>,
+    desks: &mut [D],
+    input: &mut S,
+    output: &mut K,
+    keeper: &mut P,
+    disk: &mut P::Disk,
 ) -> Result<(), Stop>
     requires prepared { IsPrepared D.listings L.parts service.old.hub service.old.seats.items desks.old }
+    requires ready { P.is_ready (keeper.old, disk.old) }
     ensures done { StatesEveryLayer D.tree → (start : Moment) → moment_of (trees_of D.tree) L.limits service.old.hub ≡ start → OnOk result (IfSome (S.remaining input.old) (λ bytes.
-        IsServedFrom (trees_of D.tree) (length desks.old) start D.listings D.faults bytes (K.contents output.old) (K.contents output.new) desks.old desks.new)) }
+        IsServedKept (trees_of D.tree) (length desks.old) start D.listings D.faults P.keeps bytes (K.contents output.old) (K.contents output.new) desks.old desks.new (keeper.old, disk.old) (keeper.new, disk.new))) }
     ensures ended { OnOk result (IsAtEnd (S.remaining input.new)) }
     ensures input { FitsInput (S.remaining input.old) (end_of result) }
     ensures front { TakesUpTo (S.remaining input.old) (S.remaining input.new) (end_of result) }
     ensures wrote { (start : Moment) → moment_of (trees_of D.tree) L.limits service.old.hub ≡ start
-        → WroteFrom (StatesEveryLayer D.tree) (trees_of D.tree) (length desks.old) start D.listings D.faults (S.remaining input.old) (S.remaining input.new)
-        (K.contents output.old) (K.contents output.new) desks.old desks.new (end_of result) }
+        → WroteKept (StatesEveryLayer D.tree) (trees_of D.tree) (length desks.old) start D.listings D.faults P.keeps P.may_keep (S.remaining input.old) (S.remaining input.new)
+        (K.contents output.old) (K.contents output.new) desks.old desks.new (keeper.old, disk.old) (keeper.new, disk.new) (end_of result) }
     ensures limit { IsTakenWithin (2 ^ 36) (S.remaining input.old) (S.remaining input.new) }
     ensures taken { IsErrOf result (stop.Input line.InputTooLong) → IsTaken (2 ^ 36) (S.remaining input.old) (S.remaining input.new) }
     ensures read_cause { CausedBy (S.faults input.old) (S.faults input.new) (is_read_stop result) }
@@ -164,14 +216,17 @@ fn serve_by<
     let mut reader = LineReader::new(alloc, MAX_LINE, MAX_INPUT)?;
     let mut round = Round::new(alloc);
     let lines = &mut reader;
-    read_lines(rt, alloc, service, desks, input, output, lines, &mut round)?;
-    Ok(end_input(rt, alloc, service, desks, output, round)?)
+    read_lines(
+        rt, alloc, service, desks, input, output, keeper, disk, lines, &mut round,
+    )?;
+    Ok(end_input(rt, alloc, service, desks, output, keeper, disk, round)?)
 }
 
 /// Reads all lines, and runs each round that ends before the end of the input.
 fn read_lines<
     S: Source,
     K: Sink,
+    P: Keeper,
     D: Desk + Drop + Send + Sync,
     L: Identity + Send + Sync,
     W: Threads + Wait + Sync,
@@ -182,6 +237,8 @@ fn read_lines<
     desks: &mut [D],
     input: &mut S,
     output: &mut K,
+    keeper: &mut P,
+    disk: &mut P::Disk,
     reader: &mut LineReader,
     round: &mut Round,
 ) -> Result<(), Stop>
@@ -191,19 +248,22 @@ fn read_lines<
     requires limits { (reader.old.max_line ≡ 67108864) × (reader.old.max_input ≡ 2 ^ 36) }
     requires fresh { (reader.old.held ≡ []) × (reader.old.taken ≡ 0) }
     requires prepared { IsPrepared D.listings L.parts service.old.hub service.old.seats.items desks.old }
+    requires ready { P.is_ready (keeper.old, disk.old) }
     ensures lines { OnOk result ((texts : List (List ℕ)) × HasReadAll (reading reader.old (S.remaining input.old)) texts
         × ((workers : ℕ) → length desks.old ≡ workers → (start : Moment)
-        → Done (StatesEveryLayer D.tree) (trees_of D.tree) workers start D.listings D.faults [] round.old.taken round.old.bytes (moment_of (trees_of D.tree) L.limits service.old.hub) (K.contents output.old) (K.contents output.old) desks.old desks.old
-        → Done (StatesEveryLayer D.tree) (trees_of D.tree) workers start D.listings D.faults texts round.new.taken round.new.bytes (moment_of (trees_of D.tree) L.limits service.new.hub) (K.contents output.old) (K.contents output.new) desks.old desks.new)) }
+        → Done (StatesEveryLayer D.tree) (trees_of D.tree) workers start D.listings D.faults P.keeps [] round.old.taken round.old.bytes (P.notes round.old.noted) (moment_of (trees_of D.tree) L.limits service.old.hub) (K.contents output.old) (K.contents output.old) desks.old desks.old (keeper.old, disk.old) (keeper.old, disk.old)
+        → Done (StatesEveryLayer D.tree) (trees_of D.tree) workers start D.listings D.faults P.keeps texts round.new.taken round.new.bytes (P.notes round.new.noted) (moment_of (trees_of D.tree) L.limits service.new.hub) (K.contents output.old) (K.contents output.new) desks.old desks.new (keeper.old, disk.old) (keeper.new, disk.new))) }
     ensures stops { IfSome (reading reader.old (S.remaining input.old)) (λ whole. StopsLines whole.stop result) }
     ensures front { TakesUpTo (S.remaining input.old) (S.remaining input.new) (end_of result) }
     ensures wrote { (workers : ℕ) → length desks.old ≡ workers → (start : Moment)
-        → Done (StatesEveryLayer D.tree) (trees_of D.tree) workers start D.listings D.faults [] round.old.taken round.old.bytes (moment_of (trees_of D.tree) L.limits service.old.hub) (K.contents output.old) (K.contents output.old) desks.old desks.old
-        → WroteFrom (StatesEveryLayer D.tree) (trees_of D.tree) workers start D.listings D.faults (S.remaining input.old) (S.remaining input.new) (K.contents output.old) (K.contents output.new) desks.old desks.new (end_of result) }
+        → Done (StatesEveryLayer D.tree) (trees_of D.tree) workers start D.listings D.faults P.keeps [] round.old.taken round.old.bytes (P.notes round.old.noted) (moment_of (trees_of D.tree) L.limits service.old.hub) (K.contents output.old) (K.contents output.old) desks.old desks.old (keeper.old, disk.old) (keeper.old, disk.old)
+        → WroteKept (StatesEveryLayer D.tree) (trees_of D.tree) workers start D.listings D.faults P.keeps P.may_keep (S.remaining input.old) (S.remaining input.new)
+        (K.contents output.old) (K.contents output.new) desks.old desks.new (keeper.old, disk.old) (keeper.new, disk.new) (end_of result) }
     ensures limit { IsTakenFrom reader.old.taken (S.remaining input.old) (S.remaining input.new) }
     ensures taken { IsErrOf result (stop.Input line.InputTooLong) → IsTakenTo reader.old.taken (2 ^ 36) (S.remaining input.old) (S.remaining input.new) }
     ensures ended { OnOk result (IsAtEnd (S.remaining input.new)) }
     ensures prepared { OnOk result (IsPrepared D.listings L.parts service.new.hub service.new.seats.items desks.new) }
+    ensures ready { OnOk result (P.is_ready (keeper.new, disk.new)) }
     ensures read_cause { CausedBy (S.faults input.old) (S.faults input.new) (is_read_stop result) }
     ensures write_cause { CausedBy (K.faults output.old) (K.faults output.new) (is_write_stop result) }
 {
@@ -216,6 +276,8 @@ fn read_lines<
             service,
             desks,
             output,
+            keeper,
+            disk,
             round,
             number,
             text.as_slice(),

@@ -10,9 +10,10 @@ use Rattle.cv_io.specs.declared.line.LineError.TheVariants as line
 use Rattle.cv_scan_input.specs.Unrefused.{IsPiece, ended_lines}
 use Rattle.cv_core_machine.specs.Scans.{Trees}
 use Rattle.cv_serve_legal.specs.Replay.{Moment}
-use Rattle.cv_serve_legal.specs.Rounds.{cut_lines, round_limits}
+use Rattle.cv_serve_legal.specs.Rounds.{Round, cut_lines, round_limits}
+use Rattle.cv_serve_legal.specs.Whole.{WholeRound}
 use Rattle.cv_serve_legal.specs.declared.parsed_line.ParsedLine.{ParsedLine}
-use Rattle.cv_serve_round.specs.Further.{Further}
+use Rattle.cv_serve_round.specs.Kept.{FurtherKept}
 use Rattle.cv_serve.specs.declared.end.Stop.{Stop as Stopped}
 use Rattle.cv_serve.specs.declared.end.Stop.TheVariants as stop
 
@@ -43,7 +44,7 @@ pub record IsTakenLines (now : Reader) (before rest : Option (List ℕ)) (texts 
 abbrev pub AreTaken : Reader → Option (List ℕ) → Option (List ℕ) → List (List ℕ) → Type 0
 AreTaken now before rest texts = IsTakenLines now before rest texts ⊎ ((now.held ≡ []) × (now.ended ≡ true))
 
--- what was done with these lines, of a service that began at the moment `start`
-abbrev pub Done : {D : Type 0} → Type 0 → Trees → ℕ → Moment → (D → ℕ) → (D → ℕ) → List (List ℕ) → List ParsedLine → ℕ → Moment → Option (List ℕ) → Option (List ℕ) → List D → List D → Type 0
-Done known trees workers start listings faults texts taken bytes now written written_now desks desks_now =
-    Further known trees workers start listings faults (cut_lines round_limits (numbered 1 texts)) (length texts) taken bytes [] now written written_now desks desks_now
+-- what was done with these lines, of a service that began at the moment `start`, and kept each round
+abbrev pub Done : {D X : Type 0} → Type 0 → Trees → ℕ → Moment → (D → ℕ) → (D → ℕ) → (X → WholeRound → X → Type 0) → List (List ℕ) → List ParsedLine → ℕ → (Round → Type 0) → Moment → Option (List ℕ) → Option (List ℕ) → List D → List D → X → X → Type 0
+Done known trees workers start listings faults keeps texts taken bytes noted now written written_now desks desks_now held held_now =
+    FurtherKept known trees workers start listings faults keeps (cut_lines round_limits (numbered 1 texts)) (length texts) taken bytes noted [] now written written_now desks desks_now held held_now

@@ -1,4 +1,4 @@
-use Rattle.std.specs.Prelude.{◌≡◌, ◌+◌, ℕ, List, [], ◌∷◌, ◌++◌, length, Ok, refl}
+use Rattle.std.specs.Prelude.{◌≡◌, ◌+◌, ◌<◌, ◌^◌, ℕ, List, [], ◌∷◌, ◌++◌, length, Ok, refl}
 use Rattle.std.proofs.Common.{ap, arith, length-append, subst, sym, ◌∙◌}
 use Rattle.std.proofs.lemmas.Bool.{false≢true}
 use Rattle.cv_base.specs.Lines.{numbered}
@@ -8,10 +8,10 @@ use Rattle.cv_core_machine.specs.Scans.{StatesEveryLayer, trees_of}
 use Rattle.cv_serve_legal.specs.Rounds.{Cut, cut_line, cut_lines, round_limits}
 use Rattle.cv_serve_legal.proofs.Serving.{cut_more, numbered_more}
 use Rattle.cv_serve_round.specs.Begun.{line_at}
-use Rattle.cv_serve_round.proofs.Further.{further}
-use Rattle.cv_serve.specs.Served.{WroteFrom}
+use Rattle.cv_serve_round.proofs.Further.{further_kept}
+use Rattle.cv_serve.specs.Kept.{WroteKept}
 use Rattle.cv_serve.specs.declared.end.Stop.TheVariants as stop
-use Rattle.cv_serve.proofs.Input.{fresh_reader, given_first, handed_end, reads_more, reads_none, taken_stop}
+use Rattle.cv_serve.proofs.Input.{fresh_reader, given_first, handed_end, reads_more, reads_none, short_text, taken_stop}
 use Rattle.cv_serve.proofs.Ending.{stopped_at, wrote_all, wrote_before, wrote_part}
 use Rattle.cv_serve.proofs.UpTo.{none_given, none_left, one_given, stop_given}
 use Rattle.cv_serve.proofs.service.read_lines.Goals as goal
@@ -24,6 +24,7 @@ loop-text-init g c = record {
   limits = c.requires.limits;
   taken = taken_first c.args.reader.now.taken (g.S.Source.remaining c.args.input.now);
   prepared = c.requires.prepared;
+  ready = c.requires.ready;
   count = refl;
   space = omega (arith, c.requires.input);
   read_later = omega arith;
@@ -57,18 +58,26 @@ loop-text-preserved g c =
         one_given c.loop-text.reader c.next.new.self _ _ _ texts (c.next.ensures.max_line ∙ before.limits.0) text before.lines.3 step,
         λ workers many start begun.
             let done = before.lines.4 workers many start begun in
-            further (StatesEveryLayer g.D.Desk.tree) (trees_of g.D.Desk.tree) workers start g.D.Desk.listings g.D.Desk.faults cut (cut_line round_limits cut (line_at number c.as_slice.result.now)) _ (length texts) _ number _ _ _ _ [] _ _ _ _ _ _ _ _ done
-            (c.in_ok-take_line.ensures.further workers (before.count ∙ many) start cut (length texts) done.more here done.served) (λ known. next) long,
+            further_kept (StatesEveryLayer g.D.Desk.tree) (trees_of g.D.Desk.tree) workers start g.D.Desk.listings g.D.Desk.faults g.P.Keeper.keeps cut (cut_line round_limits cut (line_at number c.as_slice.result.now)) (cut_lines round_limits (numbered 1 (texts ++ text ∷ []))) (length texts) _ number _ _ _ _ _ _ [] _ _ _ _ _ _ _ _ _ _ _ done
+            (c.in_ok-take_line.ensures.further workers (before.count ∙ many) start cut (length texts) done.done.more here done.begun done.done.served) next long,
       );
       seen = c.next.ensures.step.takes.seen before.seen;
       limits = (c.next.ensures.max_line ∙ before.limits.0, c.next.ensures.max_input ∙ before.limits.1);
       taken = taken_more c.args.reader.now.taken c.loop-text.reader c.next.new.self _ _ _ c.next.result before.taken c.next.ensures.step;
       prepared = c.in_ok-take_line.ensures.prepared;
+      ready = c.in_ok-take_line.ensures.ready;
       count = c.take_line.auto.desks ∙ before.count;
       space = omega (arith, before.space, narrow.0);
       read_later = omega (arith, before.read_later, c.next.ensures.cause.later);
       write_later = omega (arith, before.write_later, c.take_line.ensures.cause.later);
     }
+
+-- the text of a line is short
+pub take_line-requires-clause-fits : goal.take_line-requires-clause-fits
+take_line-requires-clause-fits g c = λ lifetimes outlive.
+    subst (λ text. length text < 2 ^ 32) (sym c.as_slice.ensures)
+    (short_text c.loop-text.reader c.next.new.self _ _ c.in-Text.text (c.next.ensures.max_line ∙ c.loop-text.invariant.limits.0)
+    (subst (λ line. Step c.loop-text.reader c.next.new.self (g.S.Source.remaining c.loop-text.input) (g.S.Source.remaining c.next.new.input) (Ok line)) c.in-Text.is c.in_ok-text.ensures.step))
 
 pub returns-in_err-text-clause-taken : goal.returns-in_err-text-clause-taken
 returns-in_err-text-clause-taken g c =
@@ -90,10 +99,10 @@ returns-in_err-text-clause-wrote g c = λ workers many start begun.
     let remaining = g.S.Source.remaining c.args.input.now in
     let error = c.in_err-text.field-0.0 in
     handed_end
-    (λ ended. WroteFrom (StatesEveryLayer g.D.Desk.tree) (trees_of g.D.Desk.tree) workers start g.D.Desk.listings g.D.Desk.faults remaining (g.S.Source.remaining c.next.new.input)
-    (g.K.Sink.contents c.args.output.now) (g.K.Sink.contents c.loop-text.output) c.args.desks.now c.loop-text.desks ended)
+    (λ ended. WroteKept (StatesEveryLayer g.D.Desk.tree) (trees_of g.D.Desk.tree) workers start g.D.Desk.listings g.D.Desk.faults g.P.Keeper.keeps g.P.Keeper.may_keep remaining (g.S.Source.remaining c.next.new.input)
+    (g.K.Sink.contents c.args.output.now) (g.K.Sink.contents c.loop-text.output) c.args.desks.now c.loop-text.desks (c.args.keeper.now, c.args.disk.now) (c.loop-text.keeper, c.loop-text.disk) ended)
     (stop.Input error) c.from_residual.result c.from_residual.ensures.1
-    (wrote_before (StatesEveryLayer g.D.Desk.tree) (trees_of g.D.Desk.tree) workers start g.D.Desk.listings g.D.Desk.faults remaining (g.S.Source.remaining c.next.new.input) before.lines.0 _ _ _ _ _ _ _ (before.lines.4 workers many start begun) error
+    (wrote_before (StatesEveryLayer g.D.Desk.tree) (trees_of g.D.Desk.tree) workers start g.D.Desk.listings g.D.Desk.faults g.P.Keeper.keeps g.P.Keeper.may_keep remaining (g.S.Source.remaining c.next.new.input) before.lines.0 _ _ _ _ _ _ _ _ _ _ (before.lines.4 workers many start begun) error
     (given_first c.args.reader.now remaining _ before.lines.0
     (fresh_reader c.args.reader.now c.requires.fresh.0 c.requires.fresh.1 c.requires.begins c.requires.limits.0 c.requires.limits.1 remaining) before.lines.2)
     (none_left c.loop-text.reader c.next.new.self _ _ _ before.lines.0 (c.next.ensures.max_line ∙ before.limits.0) error before.lines.3 c.in_err-text.ensures.step (c.next.ensures.max_input ∙ before.limits.1)))
@@ -118,22 +127,22 @@ returns-in_err-take_line-clause-wrote g c = λ workers many start begun.
     ∙ ap (λ n. cut_line round_limits cut (line_at n text)) at ∙ ap (λ t. cut_line round_limits cut (line_at number t)) (sym c.as_slice.ensures) in
     let done = before.lines.4 workers many start begun in
     handed_end
-    (λ ended. WroteFrom (StatesEveryLayer g.D.Desk.tree) (trees_of g.D.Desk.tree) workers start g.D.Desk.listings g.D.Desk.faults remaining (g.S.Source.remaining c.next.new.input)
-    (g.K.Sink.contents c.args.output.now) (g.K.Sink.contents c.take_line.new.output) c.args.desks.now c.take_line.new.desks ended)
+    (λ ended. WroteKept (StatesEveryLayer g.D.Desk.tree) (trees_of g.D.Desk.tree) workers start g.D.Desk.listings g.D.Desk.faults g.P.Keeper.keeps g.P.Keeper.may_keep remaining (g.S.Source.remaining c.next.new.input)
+    (g.K.Sink.contents c.args.output.now) (g.K.Sink.contents c.take_line.new.output) c.args.desks.now c.take_line.new.desks (c.args.keeper.now, c.args.disk.now) (c.take_line.new.keeper, c.take_line.new.disk) ended)
     (stop.Output error) c.from_residual-in_err-take_line.result c.from_residual-in_err-take_line.ensures.1
-    (wrote_part (StatesEveryLayer g.D.Desk.tree) (trees_of g.D.Desk.tree) workers start g.D.Desk.listings g.D.Desk.faults remaining (g.S.Source.remaining c.next.new.input) _ _ _ _ error
-    (stopped_at (StatesEveryLayer g.D.Desk.tree) (trees_of g.D.Desk.tree) workers start g.D.Desk.listings g.D.Desk.faults remaining (g.S.Source.remaining c.next.new.input) texts _ _ _ _ _ _ _ done
-    (texts ++ text ∷ []) (cut_line round_limits cut (line_at number c.as_slice.result.now)) _ _ error
+    (wrote_part (StatesEveryLayer g.D.Desk.tree) (trees_of g.D.Desk.tree) workers start g.D.Desk.listings g.D.Desk.faults g.P.Keeper.keeps g.P.Keeper.may_keep remaining (g.S.Source.remaining c.next.new.input) _ _ _ _ _ _ error
+    (stopped_at (StatesEveryLayer g.D.Desk.tree) (trees_of g.D.Desk.tree) workers start g.D.Desk.listings g.D.Desk.faults g.P.Keeper.keeps g.P.Keeper.may_keep remaining (g.S.Source.remaining c.next.new.input) texts _ _ _ _ _ _ _ _ _ _ done
+    (texts ++ text ∷ []) (cut_line round_limits cut (line_at number c.as_slice.result.now)) _ _ _ error
     (given_first c.args.reader.now remaining now (texts ++ text ∷ [])
     (fresh_reader c.args.reader.now c.requires.fresh.0 c.requires.fresh.1 c.requires.begins c.requires.limits.0 c.requires.limits.1 remaining) (reads_more _ was now texts text before.lines.2 read))
     (sym next)
-    (c.in_err-take_line.ensures.stops workers (before.count ∙ many) start cut (length texts) done.more here done.served)))
+    (c.in_err-take_line.ensures.stops workers (before.count ∙ many) start cut (length texts) done.done.more here done.begun done.done.served)))
 
 -- all lines were given
 pub returns-clause-wrote : goal.returns-clause-wrote
 returns-clause-wrote g c = λ workers many start begun.
     let before = c.loop-text.invariant in
-    wrote_all (StatesEveryLayer g.D.Desk.tree) (trees_of g.D.Desk.tree) workers start g.D.Desk.listings g.D.Desk.faults (g.S.Source.remaining c.args.input.now) (g.S.Source.remaining c.next.new.input) before.lines.0 _ _ _ _ _ _ _ (before.lines.4 workers many start begun)
+    wrote_all (StatesEveryLayer g.D.Desk.tree) (trees_of g.D.Desk.tree) workers start g.D.Desk.listings g.D.Desk.faults g.P.Keeper.keeps g.P.Keeper.may_keep (g.S.Source.remaining c.args.input.now) (g.S.Source.remaining c.next.new.input) before.lines.0 _ _ _ _ _ _ _ _ _ _ (before.lines.4 workers many start begun)
 
 pub returns-in_err-text-clause-limit : goal.returns-in_err-text-clause-limit
 returns-in_err-text-clause-limit g c =

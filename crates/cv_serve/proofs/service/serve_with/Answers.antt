@@ -4,9 +4,10 @@ use Rattle.std.proofs.lemmas.Result.{on_ok_weaker}
 use Rattle.cv_core_machine.specs.Scans.{StatesEveryLayer, trees_of}
 use Rattle.cv_serve_legal.specs.Replay.{beginning}
 use Rattle.cv_serve_round.specs.Round.{moment_of}
+use Rattle.cv_serve.specs.code.Ends.{end_of}
 use Rattle.cv_serve.specs.Served.{Wrote}
 use Rattle.cv_serve.specs.declared.end.Stop.TheVariants as stop
-use Rattle.cv_serve.proofs.Ending.{if_whole_served, wrote_nothing}
+use Rattle.cv_serve.proofs.Ending.{if_whole_served, nothing_wrote, wrote_only}
 use Rattle.cv_serve.proofs.Input.{handed_end}
 use Rattle.cv_serve.proofs.service.serve_with.Goals as goal
 
@@ -19,7 +20,7 @@ returns-in_err-service-clause-wrote g c =
     handed_end
     (λ ended. Wrote (StatesEveryLayer g.D.Desk.tree) (trees_of g.D.Desk.tree) (length desks) g.D.Desk.listings g.D.Desk.faults remaining remaining written written desks desks ended)
     stop.NoMemory c.from_residual.result c.from_residual.ensures.1
-    (wrote_nothing (StatesEveryLayer g.D.Desk.tree) (trees_of g.D.Desk.tree) (length desks) beginning g.D.Desk.listings g.D.Desk.faults remaining remaining written desks)
+    (nothing_wrote (StatesEveryLayer g.D.Desk.tree) (trees_of g.D.Desk.tree) (length desks) beginning g.D.Desk.listings g.D.Desk.faults remaining remaining written desks)
 
 -- the hub had applied no event
 pub returns-clause-done : goal.returns-clause-done
@@ -33,11 +34,12 @@ returns-clause-done g c = λ known.
       indexed = c.completeness_laws.ensures.indexed;
       divided = c.completeness_laws.ensures.divided;
       pending = c.completeness_laws.ensures.pending;
-    }) trees (length desks) g.D.Desk.listings g.D.Desk.faults _ _ _ desks _ refl)
+    }) trees (length desks) g.D.Desk.listings g.D.Desk.faults _ _ _ _ desks _ _ _ refl)
     (c.serve_by-end.ensures.done known beginning begin)
 
 pub returns-clause-wrote : goal.returns-clause-wrote
 returns-clause-wrote g c =
     let trees = trees_of g.D.Desk.tree in
-    c.serve_by-end.ensures.wrote beginning
-    (ap (λ list. moment_of trees g.L.Identity.limits list) c.in_ok-service.ensures.hub ∙ ap (λ limits. moment_of trees limits []) c.requires.limits)
+    wrote_only (StatesEveryLayer g.D.Desk.tree) trees (length c.args.desks.now) beginning g.D.Desk.listings g.D.Desk.faults _ _ (g.S.Source.remaining c.args.input.now) _ _ _ _ _ _ _ (end_of c.serve_by-end.result)
+    (c.serve_by-end.ensures.wrote beginning
+    (ap (λ list. moment_of trees g.L.Identity.limits list) c.in_ok-service.ensures.hub ∙ ap (λ limits. moment_of trees limits []) c.requires.limits))
