@@ -1,0 +1,2 @@
+-- Words that only retell private functions.
+pub mod Stops
