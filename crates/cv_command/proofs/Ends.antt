@@ -35,6 +35,9 @@ is_line_end status.WriteFault = false
 is_line_end status.NoMemory = false
 is_line_end status.LineTooLong = false
 is_line_end status.InputTooLong = false
+is_line_end status.KeepFault = false
+is_line_end status.BadKeep = false
+is_line_end status.KeepFull = false
 
 not_usage : (s : Status) → s ≡ status.Usage → is_line_end s ≡ true → ⊥
 not_usage status.Done e h = cc
@@ -46,6 +49,9 @@ not_usage status.WriteFault e h = cc
 not_usage status.NoMemory e h = cc
 not_usage status.LineTooLong e h = cc
 not_usage status.InputTooLong e h = cc
+not_usage status.KeepFault e h = cc
+not_usage status.BadKeep e h = cc
+not_usage status.KeepFull e h = cc
 
 module _ {A : Type 0} (first_of : List ℕ → Result A InputFault) (later : Later) (none : List ℕ)
     (Says : A → List Advisory → Counts → Counts → Printed → Type 0) (Lists : A → Counts → Counts → Type 0) (before now : World) where
@@ -69,6 +75,9 @@ module _ {A : Type 0} (first_of : List ℕ → Result A InputFault) (later : Lat
   memory_ends status.InputTooLong e h = cc
   memory_ends status.Refused e h = cc
   memory_ends status.DeskFault e h = cc
+  memory_ends status.KeepFault e h = cc
+  memory_ends status.BadKeep e h = cc
+  memory_ends status.KeepFull e h = cc
 
   printed_ends : (request : InputRequest A) (printed : Printed) (ended : Status) → HasRequest request → AnswersRequest first_of later none Says Lists before now request printed
       → is_line_end printed.ended ≡ true → IsPrinted printed before.written now.written ended → Ends ended
@@ -81,6 +90,9 @@ module _ {A : Type 0} (first_of : List ℕ → Result A InputFault) (later : Lat
   printed_ends request printed status.ReadFault h k u p = absurd p
   printed_ends request printed status.LineTooLong h k u p = absurd p
   printed_ends request printed status.InputTooLong h k u p = absurd p
+  printed_ends request printed status.KeepFault h k u p = absurd p
+  printed_ends request printed status.BadKeep h k u p = absurd p
+  printed_ends request printed status.KeepFull h k u p = absurd p
 
   -- the line of a whole input was printed
   pub whole_ends : (first : A) (records : List Advisory) (ended : Status)

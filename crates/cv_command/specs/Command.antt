@@ -63,6 +63,9 @@ module _ {A : Type 0} (first_of : List ℕ → Result A InputFault) (later : Lat
   CommandEnds before now status.InputTooLong = IsRequestOf before.remaining TooLongInput × IsTaken (2 ^ 36) before.remaining now.remaining × IsIdle before now
   CommandEnds before now status.ReadFault = Unrefused first_of later before.remaining now.remaining × IsIdle before now
   CommandEnds before now status.Usage = ⊥
+  CommandEnds before now status.KeepFault = ⊥
+  CommandEnds before now status.BadKeep = ⊥
+  CommandEnds before now status.KeepFull = ⊥
   CommandEnds before now status.Done = IsAnswered before now status.Done
   CommandEnds before now status.Refused = IsAnswered before now status.Refused
   CommandEnds before now status.DeskFault = IsAnswered before now status.DeskFault

@@ -25,6 +25,9 @@ is_end status.WriteFault = false
 is_end status.NoMemory = false
 is_end status.LineTooLong = false
 is_end status.InputTooLong = false
+is_end status.KeepFault = false
+is_end status.BadKeep = false
+is_end status.KeepFull = false
 
 -- it was written, or a front part of it, by how the writing ended
 abbrev pub IsPrinted : Printed → Option (List ℕ) → Option (List ℕ) → Status → Type 0
@@ -37,3 +40,6 @@ IsPrinted printed before now status.NoMemory = AppendsPrefix before now printed.
 IsPrinted printed before now status.ReadFault = ⊥
 IsPrinted printed before now status.LineTooLong = ⊥
 IsPrinted printed before now status.InputTooLong = ⊥
+IsPrinted printed before now status.KeepFault = ⊥
+IsPrinted printed before now status.BadKeep = ⊥
+IsPrinted printed before now status.KeepFull = ⊥

@@ -14,3 +14,6 @@ status_code status.LineTooLong = 6
 status_code status.InputTooLong = 7
 status_code status.Refused = 8
 status_code status.DeskFault = 9
+status_code status.KeepFault = 10
+status_code status.BadKeep = 11
+status_code status.KeepFull = 12

@@ -25,8 +25,15 @@ pub enum Status {
     /// A scan's input has no line, one of its lines or the image was refused, or a text is not a valid version; the line that says
     /// so was printed.
     Refused,
-    /// A `desk_fault` line of a scan was printed.
+    /// A `desk_fault` line of a scan was printed, or a layer of the kept events could not be read.
     DeskFault,
+    /// The file of a kept service could not be read or written. The record of the last round may be in it or not, and its lines were
+    /// not printed.
+    KeepFault,
+    /// A record of the file of a kept service is not good; the line that says which one was printed.
+    BadKeep,
+    /// The file of a kept service would pass 2^40 bytes with the record of the last round, whose lines were not printed.
+    KeepFull,
 }
 
 impl Status {
@@ -44,6 +51,9 @@ impl Status {
             Status::InputTooLong => 7,
             Status::Refused => 8,
             Status::DeskFault => 9,
+            Status::KeepFault => 10,
+            Status::BadKeep => 11,
+            Status::KeepFull => 12,
         }
     }
 

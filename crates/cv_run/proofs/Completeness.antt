@@ -30,6 +30,9 @@ module _ {S D : Type 0} (trees : Trees) (remaining : S → Option (List ℕ)) (l
   serve_completes workers status.Usage h read write keeps no_read no_write = absurd h
   serve_completes workers status.Refused h read write keeps no_read no_write = absurd h
   serve_completes workers status.DeskFault h read write keeps no_read no_write = absurd h
+  serve_completes workers status.KeepFault h read write keeps no_read no_write = absurd h
+  serve_completes workers status.BadKeep h read write keeps no_read no_write = absurd h
+  serve_completes workers status.KeepFull h read write keeps no_read no_write = absurd h
 
   service_completes : (workers : Option ℕ) (ended : Status) → ServiceEnds trees remaining listings faults workers before now ended
       → (ended ≡ status.ReadFault → Rose reads reads_now) → (ended ≡ status.WriteFault → Rose writes writes_now)

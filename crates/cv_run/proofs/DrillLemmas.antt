@@ -86,6 +86,9 @@ module _ (seed : ℕ) (transcript : List ℕ) (before now : Option (List ℕ)) (
   printed_ends status.ReadFault p = absurd p
   printed_ends status.LineTooLong p = absurd p
   printed_ends status.InputTooLong p = absurd p
+  printed_ends status.KeepFault p = absurd p
+  printed_ends status.BadKeep p = absurd p
+  printed_ends status.KeepFull p = absurd p
 
   -- the summary of such a transcript was printed
   pub drill_ends : (ended : Status) → SummaryPrinted seed transcript before now ended → DrillEnds seed before now ended

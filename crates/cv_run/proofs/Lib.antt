@@ -3,6 +3,7 @@ pub mod Completeness
 pub mod DrillLemmas
 pub mod FaultLines
 pub mod FirstDesk
+pub mod KeepEnds
 pub mod ListRuns
 pub mod ShortInput
 pub mod Unread

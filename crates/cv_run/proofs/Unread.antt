@@ -8,7 +8,7 @@ use Rattle.cv_scan_input.proofs.Taken.{none_taken}
 use Rattle.cv_command.specs.Commands.{SbomEnds, ScanEnds}
 use Rattle.cv_core_machine.specs.Scans.{StatesEveryLayer, trees_of}
 use Rattle.cv_serve_legal.specs.Replay.{beginning}
-use Rattle.cv_serve.proofs.Ending.{wrote_nothing}
+use Rattle.cv_serve.proofs.Ending.{nothing_wrote}
 use Rattle.cv_run.specs.Run.{FirstEnds, RunsAs}
 use Rattle.cv_run.specs.Service.{ServiceEnds, worker_count}
 use Rattle.cv_command.specs.World.{RunWorld, Trees, counts_of}
@@ -38,7 +38,7 @@ module _ {S D : Type 0} (trees : Trees) (remaining : S → Option (List ℕ)) (l
   service_ends (Some workers) = (
     none_taken (2 ^ 36) (remaining world.input),
     (refl, refl),
-    wrote_nothing (StatesEveryLayer trees) (trees_of trees) workers beginning listings faults (remaining world.input) (remaining world.input) world.written (take workers world.desks),
+    nothing_wrote (StatesEveryLayer trees) (trees_of trees) workers beginning listings faults (remaining world.input) (remaining world.input) world.written (take workers world.desks),
   )
 
   -- nothing was read, written or listed

@@ -44,3 +44,6 @@ DrillEnds seed before now status.LineTooLong = ⊥
 DrillEnds seed before now status.InputTooLong = ⊥
 DrillEnds seed before now status.Refused = ⊥
 DrillEnds seed before now status.DeskFault = ⊥
+DrillEnds seed before now status.KeepFault = ⊥
+DrillEnds seed before now status.BadKeep = ⊥
+DrillEnds seed before now status.KeepFull = ⊥

@@ -1,5 +1,6 @@
 pub mod Arguments
 pub mod Drill
+pub mod Keep
 pub mod ListRuns
 pub mod Run
 pub mod Service

@@ -51,9 +51,9 @@ abbrev pub ServiceWrote : {S D : Type 0} → Trees → (S → Option (List ℕ))
 ServiceWrote trees remaining listings faults workers before now ended =
     Wrote (StatesEveryLayer trees) (trees_of trees) workers listings faults (remaining before.input) (remaining now.input) before.written now.written (take workers before.desks) (take workers now.desks) ended
 
--- how a service of this number of workers ends: only their desks are used, and the input was read to its end if the service is done. More than
--- 2 to the power of 36 bytes are never taken, and exactly that number if the input is too long. A line of the bytes that were taken, or the whole
--- of them, is too long if the end says so, and neither is if the source failed
+-- how a service of this number of workers ends: only their desks are used, and the input was read to its end if the service
+-- is done. More than 2 to the power of 36 bytes are never taken, and exactly that number if the input is too long. A line
+-- of the bytes that were taken, or the whole of them, is too long if the end says so, and neither is if the source failed
 abbrev pub ServeEnds : {S D : Type 0} → Trees → (S → Option (List ℕ)) → (D → ℕ) → (D → ℕ) → ℕ → RunWorld S D → RunWorld S D → Status → Type 0
 ServeEnds trees remaining listings faults workers before now status.Done =
     IsAtEnd (remaining now.input) × Stops Finished (remaining before.input) × IsTakenWithin (2 ^ 36) (remaining before.input) (remaining now.input)
@@ -79,6 +79,9 @@ ServeEnds trees remaining listings faults workers before now status.NoMemory =
 ServeEnds trees remaining listings faults workers before now status.Usage = ⊥
 ServeEnds trees remaining listings faults workers before now status.Refused = ⊥
 ServeEnds trees remaining listings faults workers before now status.DeskFault = ⊥
+ServeEnds trees remaining listings faults workers before now status.KeepFault = ⊥
+ServeEnds trees remaining listings faults workers before now status.BadKeep = ⊥
+ServeEnds trees remaining listings faults workers before now status.KeepFull = ⊥
 
 -- the usage line is printed: no input is read, and the desks are as they were
 abbrev pub PrintsUsage : {S D : Type 0} → RunWorld S D → RunWorld S D → Status → Type 0

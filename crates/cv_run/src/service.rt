@@ -63,7 +63,7 @@ fn serve_by<S: Source, K: Sink, D: Desk + Drop + Send + Sync, W: Threads + Wait 
 }
 
 /// How many workers there are, if there may be as many as were asked for.
-fn worker_count(workers: Option<u32>, desks: usize) -> Option<u32>
+pub fn worker_count(workers: Option<u32>, desks: usize) -> Option<u32>
     requires has_desks { 1 ≤ desks }
     requires at_most_8_desks { desks ≤ 8 }
     ensures value { result ≡ worker_count workers desks }
