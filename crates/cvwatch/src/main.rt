@@ -4,6 +4,7 @@
 //! ```text
 //! cd examples/first-scan && cvwatch scan < input.jsonl
 //! cd examples/service && cvwatch serve < input.jsonl
+//! cvwatch keep --workers 2 < input.jsonl
 //! ```
 #![tactic(auto)]
 
@@ -12,7 +13,8 @@ ghost use Rattle.std.specs.Prelude.{◌≡◌, ◌+◌, ◌^◌, ◌<◌, length
 use cv_desk::Desk;
 use cv_desk_folder::FolderDesk;
 use cv_io::{StdSink, StdSource};
-use cv_run::{Status, run};
+use cv_keep::FileDisk;
+use cv_run::{Status, run_kept};
 use std::env;
 use std::io::{self, ErrorKind};
 use std::process::ExitCode;
@@ -37,13 +39,15 @@ fn start<W: Threads + Wait + Sync>(rt: &HostRuntime, threads: &W) -> io::Result<
     let mut desks = make_desks(rt)?;
     let mut input = StdSource::new(rt.reader());
     let mut output = StdSink::new(io::writer(rt));
-    let status = run(
+    let mut disk = FileDisk::new(rt.clone()?);
+    let status = run_kept(
         threads,
         rt.alloc(),
         arguments.as_slice(),
         &mut input,
         &mut output,
         &mut desks,
+        &mut disk,
     );
     match status {
         Status::Usage => say_commands(rt),
@@ -56,6 +60,16 @@ fn start<W: Threads + Wait + Sync>(rt: &HostRuntime, threads: &W) -> io::Result<
         Status::LineTooLong => say(rt, "a line of the input has more than 67,108,864 bytes"),
         Status::InputTooLong => say(rt, "the input has 2^36 bytes or more"),
         Status::NoMemory => say(rt, "out of memory"),
+        Status::KeepFault => explain(
+            rt,
+            "./cvwatch.keep could not be opened, locked, read or written",
+            disk.last_error(),
+        ),
+        Status::BadKeep => say(
+            rt,
+            "a record of ./cvwatch.keep is not good; the line that was printed says which one, from 0",
+        ),
+        Status::KeepFull => say(rt, "./cvwatch.keep would pass 2^40 bytes"),
         _ => explain_desks(rt, &desks),
     }
     Ok(status)
@@ -81,6 +95,11 @@ Tells which container images hold packages with known vulnerabilities.
   cvwatch serve [--workers N]
       Serves requests, one JSON object a line; an empty line ends a round. N is from 1 to 8; without it, 4.
       Example: cd examples/service && cvwatch serve --workers 2 <input.jsonl
+
+  cvwatch keep [--workers N]
+      Serves as serve does, and keeps each event in ./cvwatch.keep before its line is printed. It goes on from the events
+      that this file has.
+      Example: cvwatch keep --workers 2 <input.jsonl
 
   cvwatch order deb|apk|semver|pypi A B
       Compares two versions, and prints <, = or >.
