@@ -1,0 +1,3 @@
+mod Examples
+pub mod LeastLemmas
+pub mod RoundLemmas
