@@ -1,10 +1,11 @@
-//! Checks what no contract says, and prints what it sees: what `FolderDesk` lists and reads in the folders of `data/`, that images have
-//! the same findings in two ways, and what events leave in the core of the service and in a plain machine. With the argument `layers`
-//! it only lists and reads folders.
+//! Checks what no contract says, and prints what it sees: what `FolderDesk` lists and reads in the folders of `data/`, what `FileDisk`
+//! keeps in a file, that images have the same findings in two ways, and what events leave in the core of the service and in a plain
+//! machine. With the argument `layers` it only lists and reads folders.
 #![tactic(auto)]
 
 mod events;
 mod images;
+mod keep;
 mod listing;
 
 use std::{env, io};
@@ -15,6 +16,7 @@ fn main(rt: HostRuntime) -> io::Result<()> {
     if arguments.len() > 1 {
         return Ok(());
     }
+    keep::keep_records(&rt)?;
     images::scan_images(&rt)?;
     events::apply_events(&rt)
 }

@@ -1,5 +1,5 @@
 //! Runs of the program and of its commands over layers made in memory, for their tests: `scan`, `sbom`, `scan-list`, `order`, and the
-//! whole program with its arguments, over one desk or two, or over layers of hostile sizes.
+//! whole program with its arguments, over one desk or two, over layers of hostile sizes, or over a disk that keeps its events.
 //!
 //! ```text
 //! let is_right = scans_to(alloc, input, &CALM, (Status::Done, ".."))?;
@@ -9,6 +9,7 @@
 
 mod commands;
 mod compare;
+mod keeps;
 mod layers;
 mod roots;
 mod runs;
@@ -21,6 +22,8 @@ pub use compare::{after_one_of, is_ended, unless_out_of_memory};
 pub use cv_base::NoMemory;
 pub use cv_command::Status;
 pub use cv_io::{MemSink, MemSource};
+pub use cv_keep::{Call, MemDisk};
+pub use keeps::{disk_of, run_on};
 pub use layers::Layers;
 pub use roots::root_scans_to;
 pub use runs::{hostile_runs_to, run_by_two, runs_to};

@@ -1,4 +1,4 @@
-//! Tests of notifications, outcomes and the core.
+//! Tests of notifications, the outbox, outcomes and the core.
 #![tactic(auto)]
 
 #[cfg(test)]

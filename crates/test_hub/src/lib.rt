@@ -1,4 +1,4 @@
-//! Tests of the pool and the hub.
+//! Tests of the pool, the hub, and starts from a kept file.
 #![tactic(auto)]
 
 #[cfg(test)]

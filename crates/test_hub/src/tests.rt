@@ -1,3 +1,6 @@
 mod hub;
 mod pool;
+mod records;
+mod replay;
 mod seats;
+mod starts;

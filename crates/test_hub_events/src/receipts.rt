@@ -1,7 +1,7 @@
 use cv_core::{By, EventEntry, Reply};
 
-/// How many lanes have their number of lines and the entries of their receipts, up to the first that has not. Of each lane it takes the numbers and
-/// the replies.
+/// How many lanes have their number of lines and the entries of their receipts, up to the first that has not. Of each lane
+/// it takes the numbers and the replies.
 pub fn lanes_with_entries(
     receipts: &[Vec<(u64, Reply)>],
     lines: u64,
@@ -15,7 +15,8 @@ pub fn lanes_with_entries(
     receipts.len()
 }
 
-/// Whether a lane has a receipt for each of this number of lines, whose numbers ascend, and the entry of each number is that line with that reply.
+/// Whether a lane has a receipt for each of this number of lines, whose numbers ascend, and the entry of each number is
+/// that line with that reply.
 fn are_entries(lane: u8, receipts: &[(u64, Reply)], lines: u64, entries: &[EventEntry]) -> bool {
     let mut last = 0;
     let mut line = 0;

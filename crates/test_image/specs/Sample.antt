@@ -1,4 +1,5 @@
--- The rows that the tests list and read (defined by this project), as plain data: one is not a valid path, and one has the path of an earlier one.
+-- The rows that the tests list and read (defined by this project), as plain data: one is not a valid path, and one has the
+-- path of an earlier one.
 use Rattle.std.specs.Prelude.{ℕ, List, [], ◌∷◌, codes, Option, Some}
 use Rattle.cv_base.specs.declared.tree.Kind.{Kind}
 use Rattle.cv_base.specs.declared.tree.Kind.TheVariants as kind

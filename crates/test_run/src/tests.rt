@@ -1,4 +1,5 @@
 mod drills;
 mod hostile;
+mod keep;
 mod run;
 mod workers;

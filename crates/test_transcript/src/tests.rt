@@ -1,4 +1,5 @@
 mod entry;
+mod kept;
 mod merge;
 mod read;
 mod records;

@@ -1,5 +1,5 @@
-//! Files with one damaged line: where it first can stand, at the end of the file without an LF, behind sound paragraphs, before a fault of a
-//! later line, and behind one of an earlier line.
+//! Files with one damaged line: where it first can stand, at the end of the file without an LF, behind sound paragraphs,
+//! before a fault of a later line, and behind one of an earlier line.
 use cv_apkdb::read_installed;
 use cv_base::{FileBad, ReadBad, What};
 use cv_dpkg::{StatusRule, read_status};

@@ -10,7 +10,8 @@ fn a_drill_prints_the_same_at_each_run(rt: HostRuntime) -> Result<(), NoMemory> 
     Ok(())
 }
 
-/// Both drills were done, and printed the same summary. It does not say whether memory ran out in a session, which makes its numbers smaller.
+/// Both drills were done, and printed the same summary. It does not say whether memory ran out in a session, which makes
+/// its numbers smaller.
 fn compare<R: Abort>(rt: &R, first: &(Status, MemSink), second: &(Status, MemSink)) {
     assert_eq!(rt; first.0, Status::Done);
     assert_eq!(rt; second.0, Status::Done);

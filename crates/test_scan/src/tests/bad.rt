@@ -1,19 +1,18 @@
 use cv_base::{Digest, RelPath, What};
 use cv_overlay::{ImageFault, TreeFault};
 use cv_scan_output::{bad_image_line, bad_value};
+use std::alloc::Global;
 use std::test::Fail;
 
+/// The value of a fault, as text.
+fn value_of(alloc: Global, bad: &ImageFault) -> Result<String, Fail> {
+    let value = bad_value(alloc, bad)?;
+    Ok(value.to_string(alloc)?)
+}
+
 #[test]
-fn each_fault_of_an_image_has_its_value(rt: HostRuntime) -> Result<(), Fail> {
+fn each_fault_of_a_layer_has_its_value(rt: HostRuntime) -> Result<(), Fail> {
     let alloc = rt.alloc();
-    let bad_file = ImageFault::BadFile {
-        path: RelPath::read(alloc, "var/lib/dpkg/status")?,
-        line: 3,
-        what: What::NoColon,
-    };
-    let too_large = ImageFault::TooLarge {
-        path: RelPath::read(alloc, "lib/apk/db/installed")?,
-    };
     for (bad, want) in [
         (
             ImageFault::NoLayer(0),
@@ -43,6 +42,24 @@ fn each_fault_of_an_image_has_its_value(rt: HostRuntime) -> Result<(), Fail> {
             },
             "{\"cause\":\"bad_seal\",\"found\":\"sha256:abababababababababababababababababababababababababababababababab\",\"layer\":3,\"stated\":\"sha256:1111111111111111111111111111111111111111111111111111111111111111\"}",
         ),
+    ] {
+        assert_eq!(rt; value_of(alloc, &bad)?.as_str(), want);
+    }
+    Ok(())
+}
+
+#[test]
+fn each_fault_of_a_file_has_its_value(rt: HostRuntime) -> Result<(), Fail> {
+    let alloc = rt.alloc();
+    let bad_file = ImageFault::BadFile {
+        path: RelPath::read(alloc, "var/lib/dpkg/status")?,
+        line: 3,
+        what: What::NoColon,
+    };
+    let too_large = ImageFault::TooLarge {
+        path: RelPath::read(alloc, "lib/apk/db/installed")?,
+    };
+    for (bad, want) in [
         (
             bad_file,
             "{\"cause\":\"bad_file\",\"line\":3,\"path\":\"var/lib/dpkg/status\",\"what\":\"no_colon\"}",
@@ -52,8 +69,7 @@ fn each_fault_of_an_image_has_its_value(rt: HostRuntime) -> Result<(), Fail> {
             "{\"cause\":\"too_large\",\"path\":\"lib/apk/db/installed\"}",
         ),
     ] {
-        let value = bad_value(alloc, &bad)?;
-        assert_eq!(rt; value.to_string(alloc)?.as_str(), want);
+        assert_eq!(rt; value_of(alloc, &bad)?.as_str(), want);
     }
     Ok(())
 }
