@@ -1,6 +1,7 @@
 /* Lets one call of the system fail in a program that is started with this library preloaded. The environment says which:
  *
- *   FAIL_CALL   the name of the call: read, write, open, openat, getdents64 or statx; without it none fails
+ *   FAIL_CALL   the name of the call: read, write, open, openat, getdents64, statx, pread64, pwrite64, ftruncate64 or fsync; without it none
+ *               fails
  *   FAIL_AT     the number of the first call of this name that fails, from 1; without it none does
  *   FAIL_TIMES  how many calls fail, one after the other: 1 without it
  *   FAIL_ERROR  the number of the error: 4 without it, which says that a signal interrupted the call
@@ -85,4 +86,28 @@ ssize_t getdents64(int folder, void *buffer, size_t length) {
 
 int statx(int folder, const char *restrict path, int flags, unsigned mask, struct statx *restrict found) {
     return fails("statx") ? -1 : (int)syscall(SYS_statx, folder, path, flags, mask, found);
+}
+
+ssize_t pread64(int file, void *buffer, size_t length, off_t at) {
+    return fails("pread64") ? -1 : syscall(SYS_pread64, file, buffer, length, at);
+}
+
+ssize_t pwrite64(int file, const void *buffer, size_t length, off_t at) {
+    return fails("pwrite64") ? -1 : syscall(SYS_pwrite64, file, buffer, length, at);
+}
+
+int ftruncate64(int file, off_t length) {
+    return fails("ftruncate64") ? -1 : (int)syscall(SYS_ftruncate, file, length);
+}
+
+ssize_t pwrite(int file, const void *buffer, size_t length, off_t at) {
+    return pwrite64(file, buffer, length, at);
+}
+
+int ftruncate(int file, off_t length) {
+    return ftruncate64(file, length);
+}
+
+int fsync(int file) {
+    return fails("fsync") ? -1 : (int)syscall(SYS_fsync, file);
 }

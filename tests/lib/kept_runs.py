@@ -6,6 +6,7 @@ import subprocess
 import sys
 import tempfile
 
+import command_line
 import runs
 import transcripts
 
@@ -23,6 +24,15 @@ def has_keep(program):
     """Whether the program has the command `keep`; one without it prints its usage."""
     with tempfile.TemporaryDirectory() as folder:
         return runs.run([program, "keep"], b"", folder).status != runs.USAGE
+
+
+def program_of(options):
+    """The program that the options name or that is found. Without one, or where it has no `keep`, the script ends with status 2."""
+    program = command_line.program_of(options)
+    if not has_keep(program):
+        print(f"{os.path.basename(sys.argv[0])}: {program} has no command keep", file=sys.stderr)
+        sys.exit(2)
+    return program
 
 
 def make_session(folder, seed, requests, images):
@@ -181,10 +191,10 @@ def judge_output(judged, rounds, is_whole):
 
 
 class Kept:
-    """A folder with the layers, and the state that is kept in it."""
+    """A folder with the layers, the state that is kept in it, and the number of workers of the next run, or of the one that runs."""
 
-    def __init__(self, program, folder, workers):
-        self.program, self.folder, self.workers = program, folder, workers
+    def __init__(self, program, folder):
+        self.program, self.folder, self.workers = program, folder, 1
         self.machine = judge.Machine(os.path.join(folder, "layers"), False)
         self.events, self.records = 0, []
 
