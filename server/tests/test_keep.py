@@ -4,6 +4,8 @@ import json
 import os
 import signal
 import subprocess
+from collections.abc import Iterator
+from contextlib import contextmanager
 from pathlib import Path
 from typing import Any
 
@@ -67,21 +69,28 @@ def test_a_child_that_resumes(tmp_path: Path, child: str) -> None:
             assert of_feed(server)[2:] == [("patch", [], ["X-3"])]
 
 
-def test_what_the_server_missed(tmp_path: Path, child: str) -> None:
-    """A notification that the child has and the server does not is kept at the start; a base that is stale leads to an update."""
+@contextmanager
+def ended_server(tmp_path: Path, child: str) -> Iterator[tuple[Server, dict[str, Any]]]:
+    """A server that has a feed of two records and an image, and has ended; and the manifest of that image, whose registry runs."""
     feed = tmp_path / "feed.jsonl"
     write_feed(feed, FIRST)
     with blob_party(LAYER) as party:
         server = Server(tmp_path, "", f'{child}[[feed]]\nname = "a"\nfile = "{feed}"\nseconds = 0.2\n')
+        manifest = manifest_of(party.uri, LAYER)
         with server:
             wait_for(lambda: server.metric('cvwatch_feed_records{feed="a"}') == 2)
-            manifest = manifest_of(party.uri, LAYER)
             assert server.index(manifest)[0] == 201
+        yield server, manifest
+
+
+def test_what_the_server_missed(tmp_path: Path, child: str) -> None:
+    """A notification that the child has and the server does not is kept at the start; a base that is stale leads to an update."""
+    with ended_server(tmp_path, child) as (server, manifest):
         # as if the server had been killed right after the answer to this update
         update = {"do": "update", "feed": "a", "advisories": [*FIRST, BASH]}
         with (server.state / "cvwatch.keep").open("a") as file:
             file.write(json.dumps(update) + "\n\n")
-        write_feed(feed, [*FIRST, BASH])
+        write_feed(tmp_path / "feed.jsonl", [*FIRST, BASH])
         with server:
             wait_for(lambda: server.metric('cvwatch_feed_records{feed="a"}') == 3)
             assert server.metric('cvwatch_notifications{is_taken="false"}') == 1
@@ -92,15 +101,8 @@ def test_what_the_server_missed(tmp_path: Path, child: str) -> None:
 @pytest.mark.parametrize("text", [None, "bad"])
 def test_a_file_that_is_lost(tmp_path: Path, child: str, text: str | None) -> None:
     """A child whose file is gone, or is not taken, gets all records and images again."""
-    feed = tmp_path / "feed.jsonl"
-    write_feed(feed, FIRST)
-    with blob_party(LAYER) as party:
-        server = Server(tmp_path, "", f'{child}[[feed]]\nname = "a"\nfile = "{feed}"\nseconds = 0.2\n')
-        with server:
-            wait_for(lambda: server.metric('cvwatch_feed_records{feed="a"}') == 2)
-            manifest = manifest_of(party.uri, LAYER)
-            assert server.index(manifest)[0] == 201
-            found = vulnerable(server.report(manifest["hash"])[1])
+    found = [("libssl3", "3.0.9-1", "X-1", "3.0.11-1")]
+    with ended_server(tmp_path, child) as (server, manifest):
         file = server.state / "cvwatch.keep"
         file.rename(tmp_path / "kept")
         if text is not None:
