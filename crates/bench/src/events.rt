@@ -32,8 +32,8 @@ struct Plan {
     records: u64,
 }
 
-/// Does what the arguments say, `[IMAGES [TIMES [UPDATES [RECORDS]]]]`. Prints each kind of event with how often it came, how many rows came of
-/// it and, with arguments, the nanoseconds of processor time for one.
+/// Does what the arguments say, `[IMAGES [TIMES [UPDATES [RECORDS]]]]`. Prints each kind of event with how often it came,
+/// how many rows came of it and, with arguments, the nanoseconds of processor time for one.
 pub fn report(rt: &HostRuntime, arguments: &[String]) -> io::Result<()> {
     let plan = Plan {
         images: number(arguments, 0, 8),

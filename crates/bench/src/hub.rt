@@ -41,11 +41,11 @@ struct Figures {
     reports: Spread,
 }
 
-/// Does what the arguments say, `[IMAGES [TIMES [RECORDS]]]`: the hub has that number of images, and 1, 2, 4 and 8 threads do each kind of work
-/// that number of times in all; then three updates of that number of records are submitted, while three threads look up reports. Prints
-/// each kind of work, the threads, how often all of them did it and, with arguments, how often in a second and the nanoseconds of processor
-/// time for one; of the updates, and with arguments of the reports meanwhile, the number, the median, the 99th percentile and the longest
-/// time, in nanoseconds.
+/// Does what the arguments say, `[IMAGES [TIMES [RECORDS]]]`: the hub has that number of images, and 1, 2, 4 and 8 threads
+/// do each kind of work that number of times in all; then three updates of that number of records are submitted, while
+/// three threads look up reports. Prints each kind of work, the threads, how often all of them did it and, with arguments,
+/// how often in a second and the nanoseconds of processor time for one; of the updates, and with arguments of the reports
+/// meanwhile, the number, the median, the 99th percentile and the longest time, in nanoseconds.
 pub fn report<W: Threads + Wait + Clock + CpuClock + Sync>(
     rt: &HostRuntime,
     threads: &W,

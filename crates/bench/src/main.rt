@@ -4,7 +4,8 @@
 //! bench events [IMAGES [TIMES [UPDATES [RECORDS]]]]  applies events to the core of the service, over made images and a feed
 //! bench feeds [RECORDS [EVERY [TIMES]]]    makes the records of a feed and replaces them TIMES times; one of EVERY differs
 //! bench findings [RECORDS [PACKAGES [TIMES]]]  matches packages with the records of a feed TIMES times
-//! bench hub [IMAGES [TIMES [RECORDS]]]     submits events and looks up reports at a hub TIMES times in all, by 1, 2, 4 and 8 threads; then updates
+//! bench hub [IMAGES [TIMES [RECORDS]]]     submits events and looks up reports at a hub TIMES times in all, by 1, 2, 4
+//!                                          and 8 threads; then updates
 //! bench lines                              counts the lines of standard input
 //! bench match deb|apk|npm [PAIRS [TIMES]]  prepares a record TIMES times, asks PAIRS times whether it affects a package
 //! bench orders deb|apk [PAIRS [LENGTH]]    compares PAIRS pairs of versions: usual ones, or such of LENGTH bytes

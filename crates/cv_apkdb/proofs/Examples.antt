@@ -15,13 +15,15 @@ ordinary : installed (codes "C:Q1AA=\nP:musl\nV:1.2.4-r1\nA:x86_64\nS:383459\nT:
     ≡ Ok (record { name = codes "musl"; version = codes "1.2.4-r1"; arch = codes "x86_64"; origin = codes "musl" } ∷ [])
 ordinary = refl
 
--- several empty lines are one end, and the end of the file is one too; an absent architecture is empty, and an absent or empty origin the name
+-- several empty lines are one end, and the end of the file is one too; an absent architecture is empty, and an absent or
+-- empty origin the name
 ends : (installed [] ≡ Ok []) × (installed (codes "\n\n") ≡ Ok [])
     × (installed (codes "\nV:1\nP:a\n\n\nP:b\nV:2\no:\nA:") ≡ Ok (record { name = codes "a"; version = codes "1"; arch = []; origin = codes "a" } ∷ record { name = codes "b"; version = codes "2"; arch = []; origin = codes "b" } ∷ []))
     × (installed (codes "P:a\nV:1\no:b\n") ≡ Ok (record { name = codes "a"; version = codes "1"; arch = []; origin = codes "b" } ∷ []))
 ends = (refl, refl, refl, refl)
 
--- a line without a colon in the second place, among them one of blanks; a used letter that stood before; and values that are empty or do not print
+-- a line without a colon in the second place, among them one of blanks; a used letter that stood before; and values that
+-- are empty or do not print
 lines : (installed (codes "P\n") ≡ bad 1 NoColon) × (installed (codes "P:a\nV:1\n ") ≡ bad 3 NoColon) × (installed (codes "PV:1") ≡ bad 1 NoColon)
     × (installed (codes "P:a\nP:a") ≡ bad 2 Repeated) × (installed (codes "P:a\nV:1\nA:x\no:a\no:") ≡ bad 5 Repeated) × (installed (codes "A:\nA:\t") ≡ bad 2 Repeated)
     × (installed (codes "P:") ≡ bad 1 BadValue) × (installed (codes "V:\n") ≡ bad 1 BadValue) × (installed (codes "A:x y") ≡ bad 1 BadValue) × (installed (codes "o:a\r\n") ≡ bad 1 BadValue)

@@ -16,8 +16,8 @@ use std::alloc::Global;
 use std::sync::ledger::Ledger;
 
 impl<D: Desk + Drop> Knowledge<D> {
-    /// The knowledge with the facts of a layer that had none. Of the images of the registry only those that name the layer are looked at, and
-    /// only those that wait for it are matched.
+    /// The knowledge with the facts of a layer that had none. Of the images of the registry only those that name the layer
+    /// are looked at, and only those that wait for it are matched.
     pub(crate) fn with_facts<L: Ledger>(
         &self,
         alloc: Global,

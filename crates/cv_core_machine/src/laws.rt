@@ -36,11 +36,12 @@ pub fn generation_law()
         → (state_after trees (opening limits) acts).generation ≡ length (filter is_updated (replies trees (opening limits) acts)) }
 {}
 
-/// What holds of the notifications. One stays as it is until an event acknowledges its number, `kept`. An event leaves all of them
-/// unless its reply is `Updated` or `Acked`, `others`, and so does an image that is dropped, `dropped`. After `Updated`, of an
-/// update or of a patch, there is one of the new generation with the rows of this event exactly if there are any, and each other
-/// number has what it had, `updated`; the reply says how many rows there are, `counted`. After `Ack` there is none of its number, and each other number
-/// has what it had, `acked`. None is without rows in a state that events lead to, `reachable`.
+/// What holds of the notifications. One stays as it is until an event acknowledges its number, `kept`. An event leaves all
+/// of them unless its reply is `Updated` or `Acked`, `others`, and so does an image that is dropped, `dropped`. After
+/// `Updated`, of an update or of a patch, there is one of the new generation with the rows of this event exactly if there
+/// are any, and each other number has what it had, `updated`; the reply says how many rows there are, `counted`. After
+/// `Ack` there is none of its number, and each other number has what it had, `acked`. None is without rows in a state that
+/// events lead to, `reachable`.
 pub fn notification_laws()
     ensures kept { (trees : Trees) (state : State) (act : MachineEvent) (number : ℕ) (rows : List Row) → IsConsistent state → acknowledges number act ≡ false
         → notification_at state.notifications number ≡ Some rows → notification_at (step trees state act).0.notifications number ≡ Some rows }

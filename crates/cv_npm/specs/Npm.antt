@@ -1,8 +1,9 @@
 -- The package that npm's package.json names (npm's documentation of package.json, "name" and "version"), as this project reads
 -- it. What is JSON is what `serde_json` reads.
 --
--- `npm bytes` takes the bytes of the file. It gives the package of the members `name` and `version`, if the bytes are an object
--- with both, each a text that is not empty. In every other case it gives none: no JSON, not UTF-8, no object, a member that is absent, no text or empty. A file has no fault.
+-- `npm bytes` takes the bytes of the file. It gives the package of the members `name` and `version`, if the bytes are an
+-- object with both, each a text that is not empty. In every other case it gives none: no JSON, not UTF-8, no object, a
+-- member that is absent, no text or empty. A file has no fault.
 use Rattle.std.specs.Prelude.{ℕ, if◌then◌else◌, List, codes, Option, None, option_and_then}
 use Rattle.std.specs.Option.{option_map}
 use Rattle.std.specs.Str.{is_utf8}

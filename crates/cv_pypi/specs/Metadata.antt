@@ -1,8 +1,9 @@
 -- The package that the metadata of an installed Python package name, `METADATA` or `PKG-INFO` (core metadata specification, "Name" and
 -- "Version"), as this project reads them.
 --
--- `pypi bytes` takes the bytes of the file. It looks at the lines before the first empty one, and gives the package of the first `Name`
--- and the first `Version` there, if both are present, not empty and of printing bytes. In every other case it gives none. A file has no fault.
+-- `pypi bytes` takes the bytes of the file. It looks at the lines before the first empty one, and gives the package of the
+-- first `Name` and the first `Version` there, if both are present, not empty and of printing bytes. In every other case it
+-- gives none. A file has no fault.
 use Rattle.std.specs.Prelude.{ℕ, ◌&&◌, if◌then◌else◌, List, [], ◌∷◌, codes, map, Option, None, Some, option_and_then}
 use Rattle.std.specs.List.{list_all, slice_split}
 use Rattle.std.specs.Option.{option_map, option_or}

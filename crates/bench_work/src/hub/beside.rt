@@ -47,8 +47,8 @@ impl Update {
     }
 }
 
-/// The first lane submits an update, and the other ones look up reports from when it begins until it is done, each in a thread of its own, of
-/// which there are at most eight.
+/// The first lane submits an update, and the other ones look up reports from when it begins until it is done, each in a
+/// thread of its own, of which there are at most eight.
 pub fn run_beside<L: Identity + Send + Sync, R: Threads + Wait + Clock + Sync>(
     rt: &R,
     hub: &Hub<SampleDesk, L>,
