@@ -43,9 +43,10 @@ impl Chunk {
         })
     }
 
-    /// The bytes.
+    /// The bytes, which are those of one read at most.
     pub fn as_slice(&self) -> &[u8]
-        ensures { result.now ≡ self.now }
+        ensures bytes { result.now ≡ self.now }
+        ensures few { length self.now ≤ 65536 }
     {
         &self.bytes.as_slice()[self.at..self.end]
     }

@@ -4,7 +4,7 @@ ghost use Rattle.cv_seq.specs.Cause.{CausedBy};
 ghost use Rattle.cv_io.specs.Fault.{is_read_fault};
 ghost use Rattle.cv_io.specs.Lines.{HasNoLineEnd, LF, text_of};
 ghost use Rattle.cv_io.specs.Takes.{Takes};
-ghost use Rattle.cv_io.specs.Reader.{Answers, Step, new_reader};
+ghost use Rattle.cv_io.specs.Reader.{Answers, IsAhead, Step, new_reader};
 ghost use Rattle.cv_io.specs.code.Gather.{SameCounts, SameLimits, gathered, held_by, progress_by, reader_of, reads_remaining};
 
 use crate::chunk::Chunk;
@@ -34,6 +34,7 @@ impl Gather {
     pub fn next_line<S: Source>(&mut self, alloc: Global, input: &mut S) -> Result<Line, LineError>
         ensures step { (was is : Bool) → Step (reader_of self.old was) (reader_of self.new is)
             (S.remaining input.old) (S.remaining input.new) result }
+        ensures ahead { (is : Bool) → IsAhead (reader_of self.new is) result }
         ensures limits { SameLimits self.old self.new }
         ensures cause { CausedBy (S.faults input.old) (S.faults input.new) (is_read_fault result) }
     {
@@ -53,6 +54,7 @@ impl Gather {
             (S.remaining input.old) (S.remaining input.new) }
         ensures needed { HasNoLineEnd (held_by self.old) ⊎ (progress_by self.new ≡ progress_by self.old) }
         ensures last { IfOk result (λ found. found ≡ false → (self.new.chunk ≡ []) × (self.new.ended ≡ true)) }
+        ensures ahead { IfOk result (λ found. length self.new.chunk < 65536) }
         ensures refused { IfErr result (λ e. Answers (held_by self.new) (reader_of self.new false) (Err e)) }
         ensures limits { SameLimits self.old self.new }
         ensures cause { CausedBy (S.faults input.old) (S.faults input.new) (is_read_fault result) }
@@ -76,6 +78,7 @@ impl Gather {
     fn take_piece(&mut self) -> Result<bool, LineError>
         ensures moved { gathered result self.new ≡ held_by self.old }
         ensures emptied { IfOk result (λ found. found ≡ false → self.new.chunk ≡ []) }
+        ensures ahead { IfOk result (λ found. length self.new.chunk < 65536) }
         ensures refused { IfErr result (λ e. Answers (held_by self.new) (reader_of self.new false) (Err e)) }
         ensures counts { SameCounts self.old self.new }
         ensures cause { is_read_fault result ≡ false }

@@ -2,7 +2,7 @@ ghost use Rattle.std.specs.Prelude.{◌≡◌, ℕ, List, IfOk, false, is_err};
 ghost use Rattle.cv_seq.specs.Cause.{CausedBy};
 ghost use Rattle.cv_io.specs.Fault.{is_read_fault};
 ghost use Rattle.cv_io.specs.Lines.{Finished, lines_of, reading_of};
-ghost use Rattle.cv_io.specs.Reader.{Step, Reads, Gives, Narrows, reading, ungiven, new_reader};
+ghost use Rattle.cv_io.specs.Reader.{Step, Reads, Gives, Narrows, IsAhead, reading, ungiven, new_reader};
 
 use crate::gather::Gather;
 use crate::line::{Line, LineError};
@@ -58,6 +58,7 @@ impl LineReader {
         ensures reads { Reads (reading self.old (S.remaining input.old)) (reading self.new (S.remaining input.new)) result }
         ensures gives { Gives (ungiven self.old (S.remaining input.old)) (ungiven self.new (S.remaining input.new)) result }
         ensures room { Narrows self.old self.new result }
+        ensures ahead { IsAhead self.new result }
         ensures spent { self.new.spent ≡ is_err result }
         ensures max_line { self.new.max_line ≡ self.old.max_line }
         ensures max_input { self.new.max_input ≡ self.old.max_input }

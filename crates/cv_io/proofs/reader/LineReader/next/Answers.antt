@@ -22,3 +22,6 @@ returns-clause-gives g c = rw (← c.self.view_is) ((meant g c).gives)
 
 pub returns-clause-room : goal.returns-clause-room
 returns-clause-room g c = rw (← c.self.view_is) ((meant g c).narrows)
+
+pub returns-clause-ahead : goal.returns-clause-ahead
+returns-clause-ahead g c = c.next_line-answer.ensures.ahead c.is_err-self-inside.result
