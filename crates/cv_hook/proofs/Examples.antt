@@ -41,12 +41,12 @@ steps = (
     least = All-from_recursion (λ other. 0 < other → 1 ≤ other) (1 ∷ 2 ∷ 3 ∷ []) ((λ h. omega arith), ((λ h. omega arith), ((λ h. omega arith), tt)));
   },
   (
-  record {
-    stands = (1, omega arith, refl);
-    above = omega arith;
-    least = All-from_recursion (λ other. 1 < other → 2 ≤ other) (1 ∷ 2 ∷ 3 ∷ []) ((λ h. omega (arith, h)), ((λ h. omega arith), ((λ h. omega arith), tt)));
-  },
-  refl,
+    record {
+      stands = (1, omega arith, refl);
+      above = omega arith;
+      least = All-from_recursion (λ other. 1 < other → 2 ≤ other) (1 ∷ 2 ∷ 3 ∷ []) ((λ h. omega (arith, h)), ((λ h. omega arith), ((λ h. omega arith), tt)));
+    },
+    refl,
   ),
 )
 

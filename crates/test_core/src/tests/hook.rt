@@ -59,11 +59,7 @@ fn attempt(
 /// The first three attempts of a round.
 type Lines = (Option<HookLine>, Option<HookLine>, Option<HookLine>);
 
-fn round(
-    outbox: &mut Outbox,
-    heads: &[NoticeHead],
-    hook: &mut MemHook,
-) -> Result<Lines, NoMemory> {
+fn round(outbox: &mut Outbox, heads: &[NoticeHead], hook: &mut MemHook) -> Result<Lines, NoMemory> {
     outbox.begin_round();
     let first = attempt(outbox, heads, hook)?;
     let second = attempt(outbox, heads, hook)?;
@@ -93,7 +89,10 @@ fn what_is_acknowledged_is_not_offered(rt: HostRuntime) -> Result<(), Fail> {
     let mut hook = hook_of(rt.alloc(), &[Outcome::Refused])?;
     let first = round(&mut outbox, &[head(1), head(2)], &mut hook)?;
     let second = round(&mut outbox, &[head(2)], &mut hook)?;
-    assert_eq!(rt; (first, second), ((refused(1), None, None), (taken(2), None, None)));
+    assert_eq!(rt;
+        (first, second),
+        ((refused(1), None, None), (taken(2), None, None))
+    );
     assert_eq!(rt; hook.offers(), 2);
     Ok(())
 }
@@ -116,7 +115,10 @@ fn a_hook_in_memory_answers_by_its_list(rt: HostRuntime) -> Result<(), Fail> {
     let first = hook.offer(1, &[]);
     let second = hook.offer(1, &[]);
     let third = hook.offer(1, &[]);
-    assert_eq!(rt; (first, second, third), (Ok(Took::Refused), Err(HookFault::Failed), Ok(Took::Taken)));
+    assert_eq!(rt;
+        (first, second, third),
+        (Ok(Took::Refused), Err(HookFault::Failed), Ok(Took::Taken))
+    );
     assert_eq!(rt; hook.offers(), 3);
     Ok(())
 }
