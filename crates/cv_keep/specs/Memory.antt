@@ -1,8 +1,8 @@
 -- A disk in memory, for tests (defined by this project). Its calls are numbered together from 1, and its state is found by going
 -- through the record of its calls.
-use Rattle.std.specs.Prelude.{◌≡◌, ℕ, ◌+◌, ◌≤◌, ◌||◌, nat_lt, Bool, true, false, List, [], ◌∷◌, ◌++◌, length, take, Result, Ok, Err, ⊤}
+use Rattle.std.specs.Prelude.{◌≡◌, ℕ, ◌+◌, ◌≤◌, ◌||◌, nat_lt, Bool, true, false, List, [], ◌∷◌, ◌++◌, length, take, Option, Some, Result, Ok, Err, ⊤}
 use Rattle.cv_seq.specs.Cause.{is_to_fail}
-use Rattle.cv_keep.specs.Disk.{IsCut, IsTorn, written}
+use Rattle.cv_keep.specs.Disk.{IsCut, IsTorn, Steps, written}
 use Rattle.cv_keep.specs.declared.fault.DiskFault.{DiskFault}
 use Rattle.cv_keep.specs.declared.fault.DiskFault.TheVariants as fault
 use Rattle.cv_keep.specs.declared.call.Call.{Call}
@@ -110,3 +110,19 @@ RefusedAs refuses (Err fault.NoMemory) = ⊤
 -- the state of a disk in memory
 abbrev pub state_of : MemoryDisk → DiskState
 state_of d = run (start d.first) d.calls
+
+-- what a read gives
+abbrev pub contents_of : MemoryDisk → Option (List ℕ)
+contents_of d = Some (state_of d).bytes
+
+-- the numbers of the syncs that succeeded, which are their moments
+abbrev pub syncs_of : MemoryDisk → List ℕ
+syncs_of d = syncs_after 0 d.calls
+
+-- what a crash now may leave
+abbrev pub images_of : MemoryDisk → List ℕ → Type 0
+images_of d = MayLeaveSince d.first d.calls (length d.calls)
+
+-- one call; its moments are the numbers of calls so far
+abbrev pub MemorySteps : (List ℕ → List ℕ → Type 0) → MemoryDisk → MemoryDisk → Type 0
+MemorySteps step old new = Steps step (λ d. length d.calls) (λ d. MayLeaveSince d.first d.calls) old new

@@ -1,6 +1,8 @@
-ghost use Rattle.std.specs.Prelude.{◌≡◌, ◌+◌, ◌-◌, ◌^◌, ◌≤◌, ◌++◌, [], ◌∷◌, ℕ, List, Some, length, take, unwrap_or, IfOk, OnOk, OnErr};
-ghost use Rattle.cv_keep.specs.Disk.{IsTorn, written};
-ghost use Rattle.cv_keep.specs.Memory.{MayLeave, MayLeaveSince, Recorded, RefusedAs, after, refused, refuses_next, run, start, state_of, syncs_after};
+ghost use Rattle.std.specs.Prelude.{◌≡◌, ◌+◌, ◌-◌, ◌^◌, ◌≤◌, ◌++◌, [], ◌∷◌, ℕ, List, Some, length, take, drop, unwrap_or, option_map, is_none, IfOk, OnOk, OnErr};
+ghost use Rattle.cv_seq.specs.Cause.{CausedBy};
+ghost use Rattle.cv_keep.specs.Disk.{IsCut, IsDurable, IsSame, IsTorn, written};
+ghost use Rattle.cv_keep.specs.Fault.{is_failed};
+ghost use Rattle.cv_keep.specs.Memory.{MayLeave, MayLeaveSince, MemorySteps, Recorded, RefusedAs, after, contents_of, images_of, refused, refuses_next, run, start, state_of, syncs_after, syncs_of};
 ghost use Rattle.cv_keep.specs.code.Spoil.{Spoils};
 ghost use Rattle.cv_keep.specs.declared.call.Call.TheVariants.{Look, Write, Cut, Sync};
 
@@ -243,13 +245,30 @@ impl Disk for MemDisk {
     ghost reads = { λ d. left_now d.first d.calls };
 
     #[tactic(auto, using(crate::proofs::MemoryLemmas::look_contents, crate::proofs::MemoryLemmas::look_syncs, crate::proofs::MemoryLemmas::look_crash, crate::proofs::MemoryLemmas::look_cause))]
-    fn len(&mut self) -> Result<u64, DiskFault> {
+    fn len(&mut self) -> Result<u64, DiskFault>
+        ensures length { IfOk result (λ len. len ≡ length (state_of self.old).bytes) }
+        ensures contents { contents_of self.new ≡ contents_of self.old }
+        ensures syncs { syncs_of self.new ≡ syncs_of self.old }
+        ensures crash { MemorySteps IsSame self.old self.new }
+        ensures cause { CausedBy (refused self.old.calls) (refused self.new.calls) (is_failed result) }
+        ensures recorded { Recorded Look self.old self.new result }
+        ensures refused { RefusedAs (refuses_next self.old) result }
+    {
         self.look()?;
         Ok(self.bytes().len() as u64)
     }
 
     #[tactic(auto, using(crate::proofs::MemoryLemmas::look_contents, crate::proofs::MemoryLemmas::look_syncs, crate::proofs::MemoryLemmas::look_crash, crate::proofs::MemoryLemmas::look_cause))]
-    fn read(&mut self, at: u64, buf: &mut [u8]) -> Result<(), DiskFault> {
+    fn read(&mut self, at: u64, buf: &mut [u8]) -> Result<(), DiskFault>
+        requires inside { at + length buf.old ≤ length (state_of self.old).bytes }
+        ensures read { OnOk result (buf.new ≡ take (length buf.old) (drop at (state_of self.old).bytes)) }
+        ensures contents { contents_of self.new ≡ contents_of self.old }
+        ensures syncs { syncs_of self.new ≡ syncs_of self.old }
+        ensures crash { MemorySteps IsSame self.old self.new }
+        ensures cause { CausedBy (refused self.old.calls) (refused self.new.calls) (is_failed result) }
+        ensures recorded { Recorded Look self.old self.new result }
+        ensures refused { RefusedAs (refuses_next self.old) result }
+    {
         self.look()?;
         let (_, rest) = self.bytes().split_at(at as usize);
         buf.copy_from_slice(&rest[..buf.len()]);
@@ -257,17 +276,44 @@ impl Disk for MemDisk {
     }
 
     #[tactic(auto, using(crate::proofs::MemoryLemmas::write_contents, crate::proofs::MemoryLemmas::write_syncs, crate::proofs::MemoryLemmas::write_crash, crate::proofs::MemoryLemmas::write_cause))]
-    fn write_at(&mut self, at: u64, bytes: &[u8]) -> Result<(), DiskFault> {
+    fn write_at(&mut self, at: u64, bytes: &[u8]) -> Result<(), DiskFault>
+        requires inside { at ≤ length (state_of self.old).bytes }
+        ensures written { OnOk result (contents_of self.new ≡ option_map (written at bytes.now) (contents_of self.old)) }
+        ensures known { is_none (contents_of self.new) ≡ is_none (contents_of self.old) }
+        ensures syncs { syncs_of self.new ≡ syncs_of self.old }
+        ensures crash { MemorySteps (IsTorn at (length bytes.now)) self.old self.new }
+        ensures cause { CausedBy (refused self.old.calls) (refused self.new.calls) (is_failed result) }
+        ensures recorded { Recorded (Write at bytes.now) self.old self.new result }
+        ensures refused { RefusedAs (refuses_next self.old) result }
+    {
         self.write(at, bytes)
     }
 
     #[tactic(auto, using(crate::proofs::MemoryLemmas::cut_contents, crate::proofs::MemoryLemmas::cut_syncs, crate::proofs::MemoryLemmas::cut_crash, crate::proofs::MemoryLemmas::cut_cause))]
-    fn cut(&mut self, len: u64) -> Result<(), DiskFault> {
+    fn cut(&mut self, len: u64) -> Result<(), DiskFault>
+        requires inside { len ≤ length (state_of self.old).bytes }
+        ensures cut { OnOk result (contents_of self.new ≡ option_map (take len) (contents_of self.old)) }
+        ensures known { is_none (contents_of self.new) ≡ is_none (contents_of self.old) }
+        ensures syncs { syncs_of self.new ≡ syncs_of self.old }
+        ensures crash { MemorySteps (IsCut len) self.old self.new }
+        ensures cause { CausedBy (refused self.old.calls) (refused self.new.calls) (is_failed result) }
+        ensures recorded { Recorded (Cut len) self.old self.new result }
+        ensures refused { RefusedAs (refuses_next self.old) result }
+    {
         self.shorten(len)
     }
 
     #[tactic(auto, using(crate::proofs::MemoryLemmas::sync_durable, crate::proofs::MemoryLemmas::sync_contents, crate::proofs::MemoryLemmas::sync_syncs, crate::proofs::MemoryLemmas::not_synced, crate::proofs::MemoryLemmas::sync_crash, crate::proofs::MemoryLemmas::sync_cause))]
-    fn sync(&mut self) -> Result<(), DiskFault> {
+    fn sync(&mut self) -> Result<(), DiskFault>
+        ensures durable { OnOk result (IsDurable (state_of self.old).bytes (images_of self.new)) }
+        ensures contents { contents_of self.new ≡ contents_of self.old }
+        ensures syncs { OnOk result (syncs_of self.new ≡ syncs_of self.old ++ length self.new.calls ∷ []) }
+        ensures not_synced { OnErr result (syncs_of self.new ≡ syncs_of self.old) }
+        ensures crash { MemorySteps IsSame self.old self.new }
+        ensures cause { CausedBy (refused self.old.calls) (refused self.new.calls) (is_failed result) }
+        ensures recorded { Recorded Sync self.old self.new result }
+        ensures refused { RefusedAs (refuses_next self.old) result }
+    {
         self.flush()
     }
 }
