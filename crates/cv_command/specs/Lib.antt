@@ -4,6 +4,7 @@ pub mod List
 pub mod Order
 pub mod Outcome
 pub mod Printed
+pub mod SameFindings
 pub mod Status
 pub mod World
 pub mod code

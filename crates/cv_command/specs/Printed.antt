@@ -12,7 +12,7 @@ pub record Printed : Type 0 where
 
 -- the usage line, for arguments that are not a command
 abbrev pub usage : Printed
-usage = record { text = codes "usage: cvwatch serve|scan|order|drill|sbom|scan-list\n"; ended = status.Usage }
+usage = record { text = codes "usage: cvwatch serve|scan|order|drill|sbom|scan-list|keep|push\n"; ended = status.Usage }
 
 -- a status that follows a text that was written
 abbrev pub is_end : Status → Bool

@@ -7,7 +7,7 @@ use crate::status::Status;
 use cv_io::Sink;
 
 /// What is printed if the arguments are not a command.
-const USAGE: &str = "usage: cvwatch serve|scan|order|drill|sbom|scan-list\n";
+const USAGE: &str = "usage: cvwatch serve|scan|order|drill|sbom|scan-list|keep|push\n";
 
 /// Prints the usage line.
 pub fn print_usage<K: Sink>(output: &mut K) -> Status

@@ -36,10 +36,10 @@ use Rattle.cv_scan_input.specs.declared.error.InputFault.TheVariants.{Components
 use Rattle.cv_scan_input.specs.declared.later.Later.TheVariants.{Records, Nothing}
 use Rattle.cv_scan_output.specs.Refusal.{no_manifest_text}
 use Rattle.cv_scan_output.specs.Scan.{good_text}
-use Rattle.cv_list_law.specs.SameFindings.{FindsTheSame, KnowsLayers}
-use Rattle.cv_list_law.proofs.FirstLines.{all_written, first_line, has_answered, of_known}
-use Rattle.cv_list_law.proofs.NoLineEnd.{list_plain, plain_line, plain_text}
-use Rattle.cv_list_law.proofs.SameFindings.{same_findings}
+use Rattle.cv_command.specs.SameFindings.{FindsTheSame, KnowsLayers}
+use Rattle.cv_command.proofs.FirstLines.{all_written, first_line, has_answered, of_known}
+use Rattle.cv_command.proofs.NoLineEnd.{list_plain, plain_line, plain_text}
+use Rattle.cv_command.proofs.SameFindings.{same_findings}
 
 -- ---- the packages of an image stand below the top
 

@@ -1,4 +1,0 @@
-pub mod FirstLines
-pub mod ListRuns
-pub mod NoLineEnd
-pub mod SameFindings
