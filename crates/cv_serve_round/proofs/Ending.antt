@@ -1,5 +1,5 @@
 -- The end of the input: the round that has begun is run, and one more if a layer is queued.
-use Rattle.std.specs.Prelude.{◌≡◌, ℕ, Bool, true, false, if◌then◌else◌, List, [], ◌∷◌, ◌++◌, Option, refl}
+use Rattle.std.specs.Prelude.{◌≡◌, ℕ, Bool, true, false, if◌then◌else◌, List, [], ◌∷◌, ◌++◌, refl}
 use Rattle.std.proofs.Common.{append_assoc, subst, sym, ◌∙◌}
 use Rattle.std.proofs.lemmas.Bool.{false≢true}
 use Rattle.cv_base.specs.Lines.{Line}
@@ -12,11 +12,11 @@ use Rattle.cv_serve_legal.specs.Served.{Served}
 use Rattle.cv_serve_legal.specs.Whole.{AreAllRounds, AreLastRounds, WholeRound}
 use Rattle.cv_serve_legal.specs.declared.parsed_line.ParsedLine.{ParsedLine}
 use Rattle.cv_serve_legal.proofs.Serving.{all_rounds, all_rounds_ended}
-use Rattle.cv_serve_round.specs.Kept.{FurtherKept, ServedToEndKept}
+use Rattle.cv_serve_round.specs.Done.{FurtherDone, ToEndDone}
 use Rattle.cv_serve_round.specs.code.LineParts.{LastRun}
 use Rattle.cv_serve_round.proofs.Counts.{counts_both}
-use Rattle.cv_serve_round.proofs.Further.{lines_both, same_cons, tags_both}
-use Rattle.cv_serve_round.proofs.Kept.{kept_both}
+use Rattle.cv_serve_round.proofs.Further.{same_cons, tags_both}
+use Rattle.cv_serve_round.proofs.Done.{done_both}
 
 pub nothing : (lines : List Line) → is_cons lines ≡ false → lines ≡ []
 nothing [] e = refl
@@ -29,20 +29,17 @@ all_by : (known : Type 0) (trees : Trees) (workers : ℕ) (start : Moment) (cut 
 all_by known trees workers start cut last taken bytes whole now more after true is h k after_last = all_rounds_ended known trees workers start cut last taken bytes whole now more after k after_last h (sym is)
 all_by known trees workers start cut last taken bytes whole now more after false is h k after_last = all_rounds known trees workers start cut last taken bytes whole now more after k after_last h (nothing cut.begun (sym is))
 
-pub ends_input : {D X : Type 0} (known : Type 0) (trees : Trees) (workers : ℕ) (start : Moment) (listings faults : D → ℕ) (keeps : X → WholeRound → X → Type 0) (cut : Cut) (last : ℕ) (taken left : List ParsedLine) (bytes size : ℕ) (noted : Round → Type 0)
-    (earlier : List WholeRound) (now between after : Moment) (begun : Bool) (w u v : Option (List ℕ)) (l i n : List D) (held middle held_now : X)
+pub ends_input : {D S : Type 0} (known : Type 0) (trees : Trees) (workers : ℕ) (start : Moment) (listings faults : D → ℕ) (ends : S → WholeRound → Moment → S → Type 0) (cut : Cut) (last : ℕ) (taken left : List ParsedLine) (bytes size : ℕ) (noted : Round → Type 0)
+    (earlier : List WholeRound) (now between after : Moment) (begun : Bool) (l i n : List D) (held middle held_now : S)
     → Served known trees workers start cut last taken bytes earlier now → begun ≡ is_cons taken
-    → FurtherKept known trees workers start listings faults keeps (if begun then end_round cut else cut) last left size noted earlier between w u l i held middle
-    → LastRun known trees workers listings faults keeps between after u v i n middle held_now
-    → ServedToEndKept known trees workers start listings faults keeps cut earlier after w v l n held held_now
-ends_input known trees workers start listings faults keeps cut last taken left bytes size noted earlier now between after begun w u v l i n held middle held_now h is f g = record {
-  done = record {
-    more = f.done.more ++ g.more;
-    legal = λ k. subst (λ whole. AreAllRounds trees workers start (counted true cut) whole after) (append_assoc earlier f.done.more g.more)
-        (all_by known trees workers start cut last left size (earlier ++ f.done.more) between g.more after begun (is ∙ sym (same_cons cut.begun taken h.begun)) f.done.served k (g.last k));
-    lines = lines_both w u v f.done.more g.more f.done.lines g.appended;
-    tags = tags_both f.done.more g.more f.done.tags g.tags;
-    counts = counts_both listings faults 0 l i n f.done.more g.more f.done.counts g.counts;
-  };
-  kept = kept_both keeps held middle held_now f.done.more g.more f.kept g.kept;
+    → FurtherDone known trees workers start listings faults ends (if begun then end_round cut else cut) last left size noted earlier now between l i held middle
+    → LastRun known trees workers listings faults ends between after i n middle held_now
+    → ToEndDone known trees workers start listings faults ends cut earlier now after l n held held_now
+ends_input known trees workers start listings faults ends cut last taken left bytes size noted earlier now between after begun l i n held middle held_now h is f g = record {
+  more = f.more ++ g.more;
+  legal = λ k. subst (λ whole. AreAllRounds trees workers start (counted true cut) whole after) (append_assoc earlier f.more g.more)
+      (all_by known trees workers start cut last left size (earlier ++ f.more) between g.more after begun (is ∙ sym (same_cons cut.begun taken h.begun)) f.served k (g.last k));
+  tags = tags_both f.more g.more f.tags g.tags;
+  counts = counts_both listings faults 0 l i n f.more g.more f.counts g.counts;
+  done = done_both known trees workers ends now between after held middle held_now f.more g.more f.done g.done;
 }

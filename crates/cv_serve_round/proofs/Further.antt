@@ -1,14 +1,10 @@
 -- What a service did goes on by what it does next.
-use Rattle.std.specs.Prelude.{◌≡◌, ℕ, suc, ◌+◌, Bool, true, false, ◌&&◌, nat_le, nat_lt, if◌then◌else◌, List, [], ◌∷◌, ◌++◌, length, Option, refl}
-use Rattle.std.specs.Io.KnownBytes.{Appends}
-use Rattle.std.specs.List.{AllByRecursion, AllZip, flat_map}
+use Rattle.std.specs.Prelude.{◌≡◌, ℕ, suc, ◌+◌, Bool, true, false, ◌&&◌, nat_le, nat_lt, if◌then◌else◌, List, [], ◌∷◌, ◌++◌, length, refl}
+use Rattle.std.specs.List.{AllByRecursion, AllZip}
 use Rattle.std.proofs.Common.{ap, append_assoc, subst, sym, ◌∙◌}
-use Rattle.std.proofs.KnownBytes.{Appends-nil, Appends-trans}
-use Rattle.std.proofs.lemmas.Grind.{flat_map-append}
 use Rattle.std.proofs.lemmas.List.{append-nil}
 use Rattle.cv_base.specs.Lines.{Line}
 use Rattle.cv_base.specs.Texts.{is_cons, is_nil}
-use Rattle.cv_transcript.specs.Entry.{entry_text}
 use Rattle.cv_transcript.specs.declared.entry.Entry.{Entry}
 use Rattle.cv_core_machine.specs.Scans.{Trees}
 use Rattle.cv_serve_legal.specs.Replay.{Moment}
@@ -22,11 +18,11 @@ use Rattle.cv_serve_legal.proofs.Serving.{ends_round, takes_line}
 use Rattle.cv_serve_legal.proofs.Whole.{joined_entries}
 use Rattle.cv_serve_round.specs.Round.{DesksCounted}
 use Rattle.cv_serve_round.specs.Begun.{RoundView, no_lines}
-use Rattle.cv_serve_round.specs.Kept.{FurtherKept}
+use Rattle.cv_serve_round.specs.Done.{FurtherDone}
 use Rattle.cv_serve_round.specs.code.LineParts.{RoundRun}
 use Rattle.cv_serve_round.specs.Printed.{HasTag}
 use Rattle.cv_serve_round.proofs.Counts.{counts_both, counts_none}
-use Rattle.cv_serve_round.proofs.Kept.{kept_both}
+use Rattle.cv_serve_round.proofs.Done.{done_both, done_none, done_one}
 
 pub tags_joined : (xs ys : List Entry) → AllByRecursion HasTag xs → AllByRecursion HasTag ys → AllByRecursion HasTag (xs ++ ys)
 tags_joined [] ys h k = k
@@ -35,13 +31,6 @@ tags_joined (x ∷ xs) ys h k = (h.0, tags_joined xs ys h.1 k)
 -- of rounds one after the other
 pub tags_both : (xs ys : List WholeRound) → AllByRecursion HasTag (entries_in xs) → AllByRecursion HasTag (entries_in ys) → AllByRecursion HasTag (entries_in (xs ++ ys))
 tags_both xs ys h k = subst (λ entries. AllByRecursion HasTag entries) (sym (joined_entries xs ys)) (tags_joined (entries_in xs) (entries_in ys) h k)
-
--- lines that were written one after the other
-pub lines_both : (w m v : Option (List ℕ)) (xs ys : List WholeRound) → Appends w m (flat_map entry_text (entries_in xs)) → Appends m v (flat_map entry_text (entries_in ys))
-    → Appends w v (flat_map entry_text (entries_in (xs ++ ys)))
-lines_both w m v xs ys h k =
-    let text = ap (flat_map entry_text) (joined_entries xs ys) ∙ flat_map-append entry_text (entries_in xs) (entries_in ys) in
-    subst (Appends w v) (sym text) (Appends-trans w m v _ _ h k)
 
 -- a line came to the round that has begun
 pub puts : (known : Type 0) (trees : Trees) (workers : ℕ) (start : Moment) (cut : Cut) (last : ℕ) (taken more : List ParsedLine) (bytes all : ℕ) (whole : List WholeRound) (now : Moment) (line : Line) (t : ParsedLine)
@@ -52,77 +41,68 @@ puts known trees workers start cut last taken more bytes all whole now line t h 
     (subst (λ x. Served known trees workers start (put_line line cut) (last + 1) (taken ++ t ∷ []) x whole now) (sym sum)
     (takes_line known trees workers start cut last taken bytes whole now h line t number is))
 
-module _ {D X : Type 0} (known : Type 0) (trees : Trees) (workers : ℕ) (start : Moment) (listings faults : D → ℕ) (keeps : X → WholeRound → X → Type 0) where
+module _ {D S : Type 0} (known : Type 0) (trees : Trees) (workers : ℕ) (start : Moment) (listings faults : D → ℕ) (ends : S → WholeRound → Moment → S → Type 0) where
   -- nothing was done yet
-  pub stays_kept : (cut : Cut) (last : ℕ) (taken : List ParsedLine) (bytes : ℕ) (noted : Round → Type 0) (earlier : List WholeRound) (now : Moment) (w : Option (List ℕ)) (l : List D) (held : X)
+  pub stays : (cut : Cut) (last : ℕ) (taken : List ParsedLine) (bytes : ℕ) (noted : Round → Type 0) (earlier : List WholeRound) (now : Moment) (l : List D) (held : S)
       → noted cut.begun → Served known trees workers start cut last taken bytes earlier now
-      → FurtherKept known trees workers start listings faults keeps cut last taken bytes noted earlier now w w l l held held
-  stays_kept cut last taken bytes noted earlier now w l held begun h = record {
-    done = record {
-      more = [];
-      served = subst (λ whole. Served known trees workers start cut last taken bytes whole now) (sym (append-nil earlier)) h;
-      lines = Appends-nil w;
-      tags = tt;
-      counts = counts_none listings faults 0 l;
-    };
+      → FurtherDone known trees workers start listings faults ends cut last taken bytes noted earlier now now l l held held
+  stays cut last taken bytes noted earlier now l held begun h = record {
+    more = [];
+    served = subst (λ whole. Served known trees workers start cut last taken bytes whole now) (sym (append-nil earlier)) h;
+    tags = tt;
+    counts = counts_none listings faults 0 l;
     begun = begun;
-    kept = refl;
+    done = done_none known trees workers ends now held;
   }
 
-  pub stays_at : (cut to : Cut) (last : ℕ) (taken : List ParsedLine) (bytes : ℕ) (noted : Round → Type 0) (earlier : List WholeRound) (now : Moment) (w : Option (List ℕ)) (l : List D) (held : X)
+  pub stays_at : (cut to : Cut) (last : ℕ) (taken : List ParsedLine) (bytes : ℕ) (noted : Round → Type 0) (earlier : List WholeRound) (now : Moment) (l : List D) (held : S)
       → noted cut.begun → Served known trees workers start cut last taken bytes earlier now → to ≡ cut
-      → FurtherKept known trees workers start listings faults keeps to last taken bytes noted earlier now w w l l held held
-  stays_at cut to last taken bytes noted earlier now w l held begun h is =
-      subst (λ c. FurtherKept known trees workers start listings faults keeps c last taken bytes noted earlier now w w l l held held) (sym is)
-      (stays_kept cut last taken bytes noted earlier now w l held begun h)
+      → FurtherDone known trees workers start listings faults ends to last taken bytes noted earlier now now l l held held
+  stays_at cut to last taken bytes noted earlier now l held begun h is =
+      subst (λ c. FurtherDone known trees workers start listings faults ends c last taken bytes noted earlier now now l l held held) (sym is)
+      (stays cut last taken bytes noted earlier now l held begun h)
 
   -- a round was run
-  runs : (cut : Cut) (last : ℕ) (taken : List ParsedLine) (bytes : ℕ) (noted next : Round → Type 0) (earlier : List WholeRound) (now after : Moment) (w v : Option (List ℕ)) (l m : List D) (held held_now : X)
-      → noted cut.begun → next [] → Served known trees workers start cut last taken bytes earlier now → RoundRun known trees workers listings faults noted keeps taken now after w v l m held held_now
-      → FurtherKept known trees workers start listings faults keeps (end_round cut) last [] 0 next earlier after w v l m held held_now
-  runs cut last taken bytes noted next earlier now after w v l m held held_now begun none h r =
+  runs : (cut : Cut) (last : ℕ) (taken : List ParsedLine) (bytes : ℕ) (noted next : Round → Type 0) (earlier : List WholeRound) (now after : Moment) (l m : List D) (held held_now : S)
+      → noted cut.begun → next [] → Served known trees workers start cut last taken bytes earlier now → RoundRun known trees workers listings faults noted ends taken now after l m held held_now
+      → FurtherDone known trees workers start listings faults ends (end_round cut) last [] 0 next earlier now after l m held held_now
+  runs cut last taken bytes noted next earlier now after l m held held_now begun none h r =
       let only : r.made.entries ≡ entries_in (whole_round cut.begun r.made.entries ∷ []) = sym (append-nil r.made.entries) in
       record {
-        done = record {
-          more = whole_round cut.begun r.made.entries ∷ [];
-          served = ends_round known trees workers start cut last taken bytes earlier now h r.made.entries after (λ k. r.made.legal k cut.begun last h.begun h.ascend);
-          lines = subst (λ entries. Appends w v (flat_map entry_text entries)) only r.appended;
-          tags = subst (λ entries. AllByRecursion HasTag entries) only r.made.tags;
-          counts = subst (λ entries. DesksCounted listings faults 0 l m entries) only r.made.counts;
-        };
+        more = whole_round cut.begun r.made.entries ∷ [];
+        served = ends_round known trees workers start cut last taken bytes earlier now h r.made.entries after (λ k. r.made.legal k cut.begun last h.begun h.ascend);
+        tags = subst (λ entries. AllByRecursion HasTag entries) only r.made.tags;
+        counts = subst (λ entries. DesksCounted listings faults 0 l m entries) only r.made.counts;
         begun = none;
-        kept = (held_now, r.kept cut.begun begun, refl);
+        done = done_one known trees workers ends now after held held_now (whole_round cut.begun r.made.entries) (λ k. r.made.legal k cut.begun last h.begun h.ascend) (r.ended cut.begun begun);
       }
 
   -- a round was run, and this is the one that has begun now
-  pub runs_to : (notes : List Line → Round → Type 0) (cut to : Cut) (last : ℕ) (taken : List ParsedLine) (bytes : ℕ) (noted : List Line) (begun : RoundView) (earlier : List WholeRound) (now after : Moment) (w v : Option (List ℕ)) (l m : List D)
-      (held held_now : X) → notes [] [] → notes noted cut.begun → Served known trees workers start cut last taken bytes earlier now
-      → RoundRun known trees workers listings faults (notes noted) keeps taken now after w v l m held held_now → to ≡ end_round cut → begun ≡ no_lines
-      → FurtherKept known trees workers start listings faults keeps to last begun.taken begun.bytes (notes begun.noted) earlier after w v l m held held_now
-  runs_to notes cut to last taken bytes noted begun earlier now after w v l m held held_now nothing lines h r to_is none =
-      subst (λ c. FurtherKept known trees workers start listings faults keeps c last begun.taken begun.bytes (notes begun.noted) earlier after w v l m held held_now) (sym to_is)
-      (subst (λ (b : RoundView). FurtherKept known trees workers start listings faults keeps (end_round cut) last b.taken b.bytes (notes b.noted) earlier after w v l m held held_now) (sym none)
-      (runs cut last taken bytes (notes noted) (notes []) earlier now after w v l m held held_now lines nothing h r))
+  pub runs_to : (notes : List Line → Round → Type 0) (cut to : Cut) (last : ℕ) (taken : List ParsedLine) (bytes : ℕ) (noted : List Line) (begun : RoundView) (earlier : List WholeRound) (now after : Moment) (l m : List D)
+      (held held_now : S) → notes [] [] → notes noted cut.begun → Served known trees workers start cut last taken bytes earlier now
+      → RoundRun known trees workers listings faults (notes noted) ends taken now after l m held held_now → to ≡ end_round cut → begun ≡ no_lines
+      → FurtherDone known trees workers start listings faults ends to last begun.taken begun.bytes (notes begun.noted) earlier now after l m held held_now
+  runs_to notes cut to last taken bytes noted begun earlier now after l m held held_now nothing lines h r to_is none =
+      subst (λ c. FurtherDone known trees workers start listings faults ends c last begun.taken begun.bytes (notes begun.noted) earlier now after l m held held_now) (sym to_is)
+      (subst (λ (b : RoundView). FurtherDone known trees workers start listings faults ends (end_round cut) last b.taken b.bytes (notes b.noted) earlier now after l m held held_now) (sym none)
+      (runs cut last taken bytes (notes noted) (notes []) earlier now after l m held held_now lines nothing h r))
 
   -- one thing after the other, up to a line
-  pub further_kept : (first next to : Cut) (last number at : ℕ) (taken begun : List ParsedLine) (bytes more : ℕ) (noted_before noted : Round → Type 0) (earlier : List WholeRound) (now after : Moment)
-      (w m v : Option (List ℕ)) (l k n : List D) (held middle held_now : X)
-      → (f : FurtherKept known trees workers start listings faults keeps first last taken bytes noted_before earlier now w m l k held middle)
-      → FurtherKept known trees workers start listings faults keeps next at begun more noted (earlier ++ f.done.more) after m v k n middle held_now → to ≡ next → number ≡ at
-      → FurtherKept known trees workers start listings faults keeps to number begun more noted earlier after w v l n held held_now
-  further_kept first next to last number at taken begun bytes more noted_before noted earlier now after w m v l k n held middle held_now f g to_is number_is = record {
-    done = record {
-      more = f.done.more ++ g.done.more;
-      served =
-          subst (λ c. Served known trees workers start c number begun more (earlier ++ (f.done.more ++ g.done.more)) after) (sym to_is)
-          (subst (λ i. Served known trees workers start next i begun more (earlier ++ (f.done.more ++ g.done.more)) after) (sym number_is)
-          (subst (λ whole. Served known trees workers start next at begun more whole after) (append_assoc earlier f.done.more g.done.more) g.done.served));
-      lines = lines_both w m v f.done.more g.done.more f.done.lines g.done.lines;
-      tags = tags_both f.done.more g.done.more f.done.tags g.done.tags;
-      counts = counts_both listings faults 0 l k n f.done.more g.done.more f.done.counts g.done.counts;
-    };
+  pub further_done : (first next to : Cut) (last number at : ℕ) (taken begun : List ParsedLine) (bytes more : ℕ) (noted_before noted : Round → Type 0) (earlier : List WholeRound) (was now after : Moment)
+      (l k n : List D) (held middle held_now : S)
+      → (f : FurtherDone known trees workers start listings faults ends first last taken bytes noted_before earlier was now l k held middle)
+      → FurtherDone known trees workers start listings faults ends next at begun more noted (earlier ++ f.more) now after k n middle held_now → to ≡ next → number ≡ at
+      → FurtherDone known trees workers start listings faults ends to number begun more noted earlier was after l n held held_now
+  further_done first next to last number at taken begun bytes more noted_before noted earlier was now after l k n held middle held_now f g to_is number_is = record {
+    more = f.more ++ g.more;
+    served =
+        subst (λ c. Served known trees workers start c number begun more (earlier ++ (f.more ++ g.more)) after) (sym to_is)
+        (subst (λ i. Served known trees workers start next i begun more (earlier ++ (f.more ++ g.more)) after) (sym number_is)
+        (subst (λ whole. Served known trees workers start next at begun more whole after) (append_assoc earlier f.more g.more) g.served));
+    tags = tags_both f.more g.more f.tags g.tags;
+    counts = counts_both listings faults 0 l k n f.more g.more f.counts g.counts;
     begun = subst (λ (c : Cut). noted c.begun) (sym to_is) g.begun;
-    kept = kept_both keeps held middle held_now f.done.more g.done.more f.kept g.kept;
+    done = done_both known trees workers ends was now after held middle held_now f.more g.more f.done g.done;
   }
 
 -- ---- by the kinds of lines

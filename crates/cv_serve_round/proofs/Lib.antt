@@ -1,10 +1,12 @@
 pub use Rattle.cv_serve_lanes.proofs.WorkerLemmas
 pub mod Counts
+pub mod Done
 mod Ending
 pub mod Further
-pub mod Kept
 pub mod LaneLineLemmas
 pub mod LegalRoundLemmas
+pub mod Lines
+mod Prepared
 mod Queued
 pub mod ReplayLemmas
 pub mod SeatingLemmas

@@ -1,9 +1,9 @@
 -- Lines one after the other have the bytes of their entries, also where only some of the bytes were written.
-use Rattle.std.specs.Prelude.{◌≡◌, ℕ, ◌+◌, ◌<◌, List, [], ◌∷◌, ◌++◌, drop, get_or, length, map, take, Option, IfErr, IsErrAnd, OnErr, Result, Ok, Err, refl}
+use Rattle.std.specs.Prelude.{◌≡◌, ℕ, ◌+◌, ◌<◌, List, [], ◌∷◌, ◌++◌, drop, get_or, length, map, take, Option, IfErr, IsErrAnd, OnErr, OnOk, Result, Ok, Err, refl}
 use Rattle.std.specs.Io.KnownBytes.{Appends}
 use Rattle.std.specs.List.{AllByRecursion, AllZip, flat_map}
-use Rattle.std.proofs.Common.{ap, arith, inl, inr, length-append, subst, sym, ◌∙◌}
-use Rattle.std.proofs.KnownBytes.{Appends-nil, Appends-trans}
+use Rattle.std.proofs.Common.{ap, arith, inl, length-append, subst, sym, ◌∙◌}
+use Rattle.std.proofs.KnownBytes.{Appends-trans}
 use Rattle.std.proofs.Math.Seq.{take-append-add}
 use Rattle.std.proofs.lemmas.Grind.{flat_map-append}
 use Rattle.std.proofs.lemmas.List.{drop_more, take-append-drop, take-append-le}
@@ -20,7 +20,6 @@ use Rattle.cv_serve_legal.specs.Rounds.{Round}
 use Rattle.cv_serve_legal.specs.Served.{LinesAscend}
 use Rattle.cv_serve_legal.specs.Whole.{WholeRound, whole_round}
 use Rattle.cv_serve_legal.specs.declared.parsed_line.ParsedLine.{ParsedLine}
-use Rattle.cv_serve_round.specs.Kept.{IsKeptOrUnwritten}
 use Rattle.cv_serve_round.specs.Printed.{HasTag}
 use Rattle.cv_serve_round.specs.Round.{DesksCounted}
 use Rattle.cv_serve_round.specs.code.LineParts.{LegalTexts, RoundRun, RoundStops, RoundTorn}
@@ -94,46 +93,42 @@ legal_texts known trees workers listings faults texts size taken before after l 
   printed = text;
 }
 
-module _ {D X : Type 0} (known : Type 0) (trees : Trees) (workers : ℕ) (listings faults : D → ℕ) (noted : Round → Type 0) (keeps may_keep : X → WholeRound → X → Type 0) {S : Type 0} (f : S → List ℕ) (lines shown : List S) (taken given : List ParsedLine)
-    (entries given_entries : List Entry) (before after : Moment) (w v : Option (List ℕ)) (l n : List D) (held held_now : X)
-    (is : taken ≡ given) (same_entries : given_entries ≡ entries) (t : LegalTexts known trees workers listings faults taken before l entries (map f lines) after n) where
-  text_is : shown ≡ lines → flat_map f shown ≡ flat_map entry_text t.made.entries
-  text_is same = ap (flat_map f) same ∙ same_bytes f lines t.made.entries t.printed
+-- the bytes of the lines of a round are those of its entries
+pub text_of_lines : {D : Type 0} (known : Type 0) (trees : Trees) (workers : ℕ) (listings faults : D → ℕ) (taken : List ParsedLine) (before after : Moment) (l n : List D) {S : Type 0} (f : S → List ℕ) (lines shown : List S) (entries given : List Entry)
+    → LegalTexts known trees workers listings faults taken before l entries (map f lines) after n → shown ≡ lines → given ≡ entries → flat_map f shown ≡ flat_map entry_text given
+text_of_lines known trees workers listings faults taken before after l n f lines shown entries given t same_lines same_entries =
+    ap (flat_map f) same_lines ∙ same_bytes f lines t.made.entries t.printed ∙ ap (flat_map entry_text) (t.entries_are ∙ sym same_entries)
 
+module _ {D S : Type 0} (known : Type 0) (trees : Trees) (workers : ℕ) (listings faults : D → ℕ) (noted : Round → Type 0) (ends : S → WholeRound → Moment → S → Type 0) (may_stop : WriteError → S → WholeRound → Moment → S → Type 0) (texts : List (List ℕ)) (taken given : List ParsedLine)
+    (entries given_entries : List Entry) (before after : Moment) (l n : List D) (held held_now : S)
+    (is : taken ≡ given) (same_entries : given_entries ≡ entries) (t : LegalTexts known trees workers listings faults taken before l entries texts after n) where
   entries_are : given_entries ≡ t.made.entries
   entries_are = same_entries ∙ sym t.entries_are
 
-  -- it was kept, and its lines were written
-  pub round_run : shown ≡ lines → ((round : Round) → noted round → keeps held (whole_round round given_entries) held_now) → Appends w v (flat_map f shown)
-      → RoundRun known trees workers listings faults noted keeps given before after w v l n held held_now
-  round_run same kept written = subst (λ some. RoundRun known trees workers listings faults noted keeps some before after w v l n held held_now) is (record {
+  -- it was kept and written, and what follows its lines was done
+  pub round_run : (r : Result Unit WriteError) → ((round : Round) → noted round → OnOk r (ends held (whole_round round given_entries) after held_now))
+      → OnOk r (RoundRun known trees workers listings faults noted ends given before after l n held held_now)
+  round_run (Ok x) ended = subst (λ some. RoundRun known trees workers listings faults noted ends some before after l n held held_now) is (record {
     made = t.made;
-    appended = subst (Appends w v) (text_is same) written;
-    kept = λ round is_noted. subst (λ es. keeps held (whole_round round es) held_now) entries_are (kept round is_noted);
+    ended = λ round is_noted. subst (λ es. ends held (whole_round round es) after held_now) entries_are (ended round is_noted);
   })
+  round_run (Err error) ended = tt
 
-  round_part : ((round : Round) → noted round → IsKeptOrUnwritten keeps may_keep held (whole_round round given_entries) held_now w v) → AppendsPrefix w v (flat_map entry_text t.made.entries)
-      → RoundTorn known trees workers listings faults noted keeps may_keep given before w v l n held held_now
-  round_part kept written = subst (λ some. RoundTorn known trees workers listings faults noted keeps may_keep some before w v l n held held_now) is (record {
+  -- it stopped somewhere
+  round_torn : (error : WriteError) → ((round : Round) → noted round → may_stop error held (whole_round round given_entries) after held_now)
+      → RoundTorn known trees workers listings faults noted (may_stop error) given before l n held held_now
+  round_torn error stopped = subst (λ some. RoundTorn known trees workers listings faults noted (may_stop error) some before l n held held_now) is (record {
     after = after;
     made = t.made;
-    part = written;
-    kept = λ round is_noted. subst (λ es. IsKeptOrUnwritten keeps may_keep held (whole_round round es) held_now w v) entries_are (kept round is_noted);
+    stopped = λ round is_noted. subst (λ es. may_stop error held (whole_round round es) after held_now) entries_are (stopped round is_noted);
   })
 
-  -- it was not kept, and nothing of it was written
-  pub round_unkept : v ≡ w → ((round : Round) → noted round → may_keep held (whole_round round given_entries) held_now)
-      → RoundStops known trees workers listings faults noted keeps may_keep given before w v l n held held_now error.NoMemory
-  round_unkept same kept =
-      inl (round_part (λ round is_noted. inr (kept round is_noted, same)) (0, omega arith, subst (λ now. Appends w now []) (sym same) (Appends-nil w)))
+  pub round_stopped : (error : WriteError) → ((round : Round) → noted round → may_stop error held (whole_round round given_entries) after held_now)
+      → RoundStops known trees workers listings faults noted may_stop given before l n held held_now error
+  round_stopped error.WriteFault stopped = round_torn error.WriteFault stopped
+  round_stopped error.NoMemory stopped = inl (round_torn error.NoMemory stopped)
 
-  -- it was kept, and a part of its lines was written
-  round_stopped : shown ≡ lines → ((round : Round) → noted round → keeps held (whole_round round given_entries) held_now) → (error : WriteError) → AppendsPrefix w v (flat_map f shown)
-      → RoundStops known trees workers listings faults noted keeps may_keep given before w v l n held held_now error
-  round_stopped same kept error.WriteFault written = round_part (λ round is_noted. inl (kept round is_noted)) (subst (AppendsPrefix w v) (text_is same) written)
-  round_stopped same kept error.NoMemory written = inl (round_part (λ round is_noted. inl (kept round is_noted)) (subst (AppendsPrefix w v) (text_is same) written))
-
-  pub round_stops_by : shown ≡ lines → ((round : Round) → noted round → keeps held (whole_round round given_entries) held_now) → (r : Result Unit WriteError) → OnErr r (AppendsPrefix w v (flat_map f shown))
-      → IfErr r (RoundStops known trees workers listings faults noted keeps may_keep given before w v l n held held_now)
-  round_stops_by same kept (Ok x) h = tt
-  round_stops_by same kept (Err error) h = round_stopped same kept error h
+  pub round_stops_by : (r : Result Unit WriteError) → ((round : Round) → noted round → IfErr r (λ error. may_stop error held (whole_round round given_entries) after held_now))
+      → IfErr r (RoundStops known trees workers listings faults noted may_stop given before l n held held_now)
+  round_stops_by (Ok x) stopped = tt
+  round_stops_by (Err error) stopped = round_stopped error stopped

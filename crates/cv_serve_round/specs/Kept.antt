@@ -5,28 +5,14 @@ use Rattle.cv_io.specs.declared.write.WriteError.{WriteError}
 use Rattle.cv_io.specs.declared.write.WriteError.TheVariants as error
 use Rattle.cv_core_machine.specs.Scans.{Trees}
 use Rattle.cv_serve_legal.specs.Replay.{Moment}
-use Rattle.cv_serve_legal.specs.Rounds.{Cut, Round}
+use Rattle.cv_serve_legal.specs.Rounds.{Round}
 use Rattle.cv_serve_legal.specs.Whole.{WholeRound}
-use Rattle.cv_serve_legal.specs.declared.parsed_line.ParsedLine.{ParsedLine}
-use Rattle.cv_serve_round.specs.Further.{AreToEnd, Further, ServedToEnd, Torn, Unfinished}
+use Rattle.cv_serve_round.specs.Stops.{Torn, Unfinished}
 
 -- these rounds were kept, one after the other
 abbrev pub AreKept : {X : Type 0} → (X → WholeRound → X → Type 0) → X → List WholeRound → X → Type 0
 AreKept keeps before [] after = after ≡ before
 AreKept {X} keeps before (round ∷ rounds) after = (between : X) × keeps before round between × AreKept keeps between rounds after
-
--- more rounds were carried out, kept and written, and these lines of the round that has begun are noted
-pub record FurtherKept {D X : Type 0} (known : Type 0) (trees : Trees) (workers : ℕ) (start : Moment) (listings faults : D → ℕ) (keeps : X → WholeRound → X → Type 0) (cut : Cut) (last : ℕ) (taken : List ParsedLine) (bytes : ℕ) (noted : Round → Type 0) (earlier : List WholeRound) (now : Moment) (written written_now : Option (List ℕ)) (desks desks_now : List D) (held held_now : X) : Type 0 where
-  pub done : Further known trees workers start listings faults cut last taken bytes earlier now written written_now desks desks_now
-  pub begun : noted cut.begun
-  pub kept : AreKept keeps held done.more held_now
-
--- the last rounds of an input were carried out, kept and written
-pub record ServedToEndKept {D X : Type 0} (known : Type 0) (trees : Trees) (workers : ℕ) (start : Moment) (listings faults : D → ℕ) (keeps : X → WholeRound → X → Type 0) (cut : Cut) (earlier : List WholeRound) (now : Moment) (written written_now : Option (List ℕ)) (desks desks_now : List D) (held held_now : X) : Type 0 where
-  pub done : ServedToEnd known trees workers start listings faults cut earlier now written written_now desks desks_now
-  pub kept : AreKept keeps held done.more held_now
-
--- ---- a service that stops
 
 -- a round was kept, or it may have been, and nothing of it was written
 abbrev pub IsKeptOrUnwritten : {X : Type 0} → (X → WholeRound → X → Type 0) → (X → WholeRound → X → Type 0) → X → WholeRound → X → Option (List ℕ) → Option (List ℕ) → Type 0
@@ -44,16 +30,11 @@ pub record UnfinishedKept {D X : Type 0} (known : Type 0) (trees : Trees) (worke
   pub unfinished : Unfinished known trees workers start listings faults all earlier written written_now desks desks_now
   pub kept : AreKept keeps held unfinished.whole held_now
 
--- what is left by this error
+-- what is left by this error. After a failed write the last round was kept
 abbrev pub StopsKept : {D X : Type 0} → Type 0 → Trees → ℕ → Moment → (D → ℕ) → (D → ℕ) → (X → WholeRound → X → Type 0) → (X → WholeRound → X → Type 0) → List Round → List WholeRound → Option (List ℕ) → Option (List ℕ) → List D → List D → X → X → WriteError → Type 0
 StopsKept known trees workers start listings faults keeps may_keep all earlier written written_now desks desks_now held held_now error.WriteFault =
-    TornKept known trees workers start listings faults keeps may_keep all earlier written written_now desks desks_now held held_now
+    (stopped : TornKept known trees workers start listings faults keeps may_keep all earlier written written_now desks desks_now held held_now)
+    × keeps stopped.middle stopped.torn.last held_now
 StopsKept known trees workers start listings faults keeps may_keep all earlier written written_now desks desks_now held held_now error.NoMemory =
     TornKept known trees workers start listings faults keeps may_keep all earlier written written_now desks desks_now held held_now
     ⊎ UnfinishedKept known trees workers start listings faults keeps all earlier written written_now desks desks_now held held_now
-
--- what is left by this error, of an input that ended
-pub record StopsAtEndKept {D X : Type 0} (known : Type 0) (trees : Trees) (workers : ℕ) (start : Moment) (listings faults : D → ℕ) (keeps may_keep : X → WholeRound → X → Type 0) (cut : Cut) (earlier : List WholeRound) (written written_now : Option (List ℕ)) (desks desks_now : List D) (held held_now : X) (error : WriteError) : Type 0 where
-  pub all : List Round
-  pub to_end : AreToEnd cut all
-  pub stops : StopsKept known trees workers start listings faults keeps may_keep all earlier written written_now desks desks_now held held_now error

@@ -1,7 +1,9 @@
 pub use Rattle.cv_core.specs.Core
 pub mod Begun
-pub mod Further
+pub mod Done
 pub mod Kept
 pub mod Printed
 pub mod Round
+pub mod Stops
+pub mod Written
 pub mod code

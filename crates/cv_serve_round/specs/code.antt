@@ -2,3 +2,4 @@ pub mod Begun
 pub mod LineParts
 pub mod Parts
 pub mod Ran
+pub mod WrittenLaws

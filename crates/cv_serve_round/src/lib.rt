@@ -1,8 +1,9 @@
 //! The rounds of a service over a hub of `cv_hub`: it takes lines into the round that has begun, carries out each round that ends, eight
-//! lanes and the workers concurrently, has a keeper keep it, and then writes the round's lines. `specs/Round.antt` says what a round leaves
-//! of the desks and of the seats; its entries are a legal round of `cv_serve_legal`. `specs/Further.antt` says what a service did, and what
-//! it leaves that stops because a round was not kept, its output was not written, or memory ran out; `specs/Kept.antt` adds which rounds
-//! were kept.
+//! lanes and the workers concurrently, has a keeper keep it, writes the round's lines, and lets the keeper do what follows them.
+//! `specs/Round.antt` says what a round leaves of the desks and of the seats; its entries are a legal round of `cv_serve_legal`.
+//! `specs/Done.antt` says what a service did, and what it leaves that stops because a round was not kept, its output was not written, or
+//! memory ran out. Where nothing follows the lines of a round, `specs/Stops.antt` says so by lines and entries, and `specs/Kept.antt` adds
+//! which rounds were kept.
 //!
 //! ```text
 //! let core = new_core(alloc)?;
@@ -15,6 +16,7 @@
 #![tactic(auto)]
 
 mod begun;
+mod keeping;
 mod print;
 mod round;
 mod rounds;
@@ -24,5 +26,6 @@ mod whole;
 pub use begun::Round;
 pub use cv_core::Core;
 pub use cv_hub::{Blank, Identity};
+pub use keeping::RoundKeeper;
 pub use rounds::{end_input, take_line};
 pub use start::{Service, new_core, started};

@@ -14,10 +14,11 @@ ghost use Rattle.cv_serve_round.specs.Round.{IsSoundTaken, failures, moment_of};
 ghost use Rattle.cv_seq.specs.Cause.{CausedBy};
 ghost use Rattle.cv_serve_round.specs.Begun.{IsPrepared, line_at, no_lines};
 ghost use Rattle.cv_serve_legal.specs.Whole.{WholeRound};
-ghost use Rattle.cv_serve_round.specs.Kept.{FurtherKept, ServedToEndKept, StopsAtEndKept, StopsKept};
+ghost use Rattle.cv_serve_round.specs.Done.{FurtherDone, StopsAtEndDone, StopsDone, ToEndDone};
 ghost use Rattle.cv_serve_round.specs.code.LineParts.{LastRun, LegalTexts, RoundRun, RoundStops};
 
 use crate::begun::Round;
+use crate::keeping::RoundKeeper;
 use crate::print::{lines_of, write_lines};
 use crate::start::Service;
 use crate::whole::run_round;
@@ -26,7 +27,6 @@ use cv_desk::Desk;
 use cv_hub::{Hub, Identity};
 use cv_io::{Sink, WriteError};
 use cv_osv_text::read_request;
-use cv_serve_dealing::Keeper;
 use cv_serve_legal::ParsedLine;
 use cv_transcript::Entry;
 use std::alloc::Global;
@@ -37,7 +37,7 @@ use std::thread::Threads;
 /// round too long, that round is run first; a full round is run at once.
 pub fn take_line<
     K: Sink,
-    P: Keeper,
+    P: RoundKeeper,
     D: Desk + Drop + Send + Sync,
     L: Identity + Send + Sync,
     W: Threads + Wait + Sync,
@@ -59,13 +59,13 @@ pub fn take_line<
     ensures further { (workers : ℕ) → length desks.old ≡ workers → (start : Moment) (cut : Cut) (last : ℕ) (earlier : List WholeRound) → number ≡ last + 1
         → P.notes round.old.noted cut.begun
         → Served (StatesEveryLayer D.tree) (trees_of D.tree) workers start cut last round.old.taken round.old.bytes earlier (moment_of (trees_of D.tree) L.limits service.old.hub)
-        → OnOk result (FurtherKept (StatesEveryLayer D.tree) (trees_of D.tree) workers start D.listings D.faults P.keeps (cut_line round_limits cut (line_at number text.now)) number round.new.taken round.new.bytes (P.notes round.new.noted) earlier (moment_of (trees_of D.tree) L.limits service.new.hub)
-        (K.contents output.old) (K.contents output.new) desks.old desks.new (keeper.old, disk.old) (keeper.new, disk.new)) }
+        → OnOk result (FurtherDone (StatesEveryLayer D.tree) (trees_of D.tree) workers start D.listings D.faults (P.ends D.tree) (cut_line round_limits cut (line_at number text.now)) number round.new.taken round.new.bytes (P.notes round.new.noted) earlier (moment_of (trees_of D.tree) L.limits service.old.hub) (moment_of (trees_of D.tree) L.limits service.new.hub)
+        desks.old desks.new ((keeper.old, disk.old), K.contents output.old) ((keeper.new, disk.new), K.contents output.new)) }
     ensures stops { (workers : ℕ) → length desks.old ≡ workers → (start : Moment) (cut : Cut) (last : ℕ) (earlier : List WholeRound) → number ≡ last + 1
         → P.notes round.old.noted cut.begun
         → Served (StatesEveryLayer D.tree) (trees_of D.tree) workers start cut last round.old.taken round.old.bytes earlier (moment_of (trees_of D.tree) L.limits service.old.hub)
-        → IfErr result (λ error. StopsKept (StatesEveryLayer D.tree) (trees_of D.tree) workers start D.listings D.faults P.keeps P.may_keep (cut_line round_limits cut (line_at number text.now)).rounds earlier
-        (K.contents output.old) (K.contents output.new) desks.old desks.new (keeper.old, disk.old) (keeper.new, disk.new) error) }
+        → IfErr result (λ error. StopsDone (StatesEveryLayer D.tree) (trees_of D.tree) workers D.listings D.faults (P.ends D.tree) (P.may_stop D.tree) (cut_line round_limits cut (line_at number text.now)).rounds earlier (moment_of (trees_of D.tree) L.limits service.old.hub)
+        desks.old desks.new ((keeper.old, disk.old), K.contents output.old) ((keeper.new, disk.new), K.contents output.new) error) }
     ensures prepared { OnOk result (IsPrepared D.listings L.parts service.new.hub service.new.seats.items desks.new) }
     ensures ready { OnOk result (P.is_ready (keeper.new, disk.new)) }
     ensures cause { CausedBy (K.faults output.old) (K.faults output.new) (is_write_fault result) }
@@ -103,7 +103,7 @@ fn take(alloc: Global, number: u64, text: &[u8]) -> ParsedLine
 /// Runs the round that has begun, if it ends here.
 fn end_if<
     K: Sink,
-    P: Keeper,
+    P: RoundKeeper,
     D: Desk + Drop + Send + Sync,
     L: Identity + Send + Sync,
     W: Threads + Wait + Sync,
@@ -123,13 +123,13 @@ fn end_if<
     ensures further { (workers : ℕ) → length desks.old ≡ workers → (start : Moment) (cut : Cut) (last : ℕ) (earlier : List WholeRound)
         → P.notes round.old.noted cut.begun
         → Served (StatesEveryLayer D.tree) (trees_of D.tree) workers start cut last round.old.taken round.old.bytes earlier (moment_of (trees_of D.tree) L.limits service.old.hub)
-        → OnOk result (FurtherKept (StatesEveryLayer D.tree) (trees_of D.tree) workers start D.listings D.faults P.keeps (if ends then end_round cut else cut) last round.new.taken round.new.bytes (P.notes round.new.noted) earlier (moment_of (trees_of D.tree) L.limits service.new.hub)
-        (K.contents output.old) (K.contents output.new) desks.old desks.new (keeper.old, disk.old) (keeper.new, disk.new)) }
+        → OnOk result (FurtherDone (StatesEveryLayer D.tree) (trees_of D.tree) workers start D.listings D.faults (P.ends D.tree) (if ends then end_round cut else cut) last round.new.taken round.new.bytes (P.notes round.new.noted) earlier (moment_of (trees_of D.tree) L.limits service.old.hub) (moment_of (trees_of D.tree) L.limits service.new.hub)
+        desks.old desks.new ((keeper.old, disk.old), K.contents output.old) ((keeper.new, disk.new), K.contents output.new)) }
     ensures stops { (workers : ℕ) → length desks.old ≡ workers → (start : Moment) (cut : Cut) (last : ℕ) (earlier : List WholeRound)
         → P.notes round.old.noted cut.begun
         → Served (StatesEveryLayer D.tree) (trees_of D.tree) workers start cut last round.old.taken round.old.bytes earlier (moment_of (trees_of D.tree) L.limits service.old.hub)
-        → IfErr result (λ error. StopsKept (StatesEveryLayer D.tree) (trees_of D.tree) workers start D.listings D.faults P.keeps P.may_keep (end_round cut).rounds earlier
-        (K.contents output.old) (K.contents output.new) desks.old desks.new (keeper.old, disk.old) (keeper.new, disk.new) error) }
+        → IfErr result (λ error. StopsDone (StatesEveryLayer D.tree) (trees_of D.tree) workers D.listings D.faults (P.ends D.tree) (P.may_stop D.tree) (end_round cut).rounds earlier (moment_of (trees_of D.tree) L.limits service.old.hub)
+        desks.old desks.new ((keeper.old, disk.old), K.contents output.old) ((keeper.new, disk.new), K.contents output.new) error) }
     ensures ended { OnErr result (ends ≡ true) }
     ensures begun { OnOk result (round.new ≡ (if ends then no_lines else round.old)) }
     ensures prepared { OnOk result (IsPrepared D.listings L.parts service.new.hub service.new.seats.items desks.new) }
@@ -142,10 +142,10 @@ fn end_if<
     Ok(())
 }
 
-/// Runs the round that has begun, keeps it, and then writes its lines. The next round has no lines yet.
+/// Runs the round that has begun, keeps it, writes its lines, and does what follows them. The next round has no lines yet.
 fn write_round<
     K: Sink,
-    P: Keeper,
+    P: RoundKeeper,
     D: Desk + Drop + Send + Sync,
     L: Identity + Send + Sync,
     W: Threads + Wait + Sync,
@@ -162,11 +162,11 @@ fn write_round<
     requires prepared { IsPrepared D.listings L.parts service.old.hub service.old.seats.items desks.old }
     requires ready { P.is_ready (keeper.old, disk.old) }
     ensures ran { (workers : ℕ) → length desks.old ≡ workers
-        → OnOk result (RoundRun (StatesEveryLayer D.tree) (trees_of D.tree) workers D.listings D.faults (P.notes round.old.noted) P.keeps round.old.taken (moment_of (trees_of D.tree) L.limits service.old.hub) (moment_of (trees_of D.tree) L.limits service.new.hub)
-        (K.contents output.old) (K.contents output.new) desks.old desks.new (keeper.old, disk.old) (keeper.new, disk.new)) }
+        → OnOk result (RoundRun (StatesEveryLayer D.tree) (trees_of D.tree) workers D.listings D.faults (P.notes round.old.noted) (P.ends D.tree) round.old.taken (moment_of (trees_of D.tree) L.limits service.old.hub) (moment_of (trees_of D.tree) L.limits service.new.hub)
+        desks.old desks.new ((keeper.old, disk.old), K.contents output.old) ((keeper.new, disk.new), K.contents output.new)) }
     ensures stops { (workers : ℕ) → length desks.old ≡ workers
-        → IfErr result (λ error. RoundStops (StatesEveryLayer D.tree) (trees_of D.tree) workers D.listings D.faults (P.notes round.old.noted) P.keeps P.may_keep round.old.taken (moment_of (trees_of D.tree) L.limits service.old.hub)
-        (K.contents output.old) (K.contents output.new) desks.old desks.new (keeper.old, disk.old) (keeper.new, disk.new) error) }
+        → IfErr result (λ error. RoundStops (StatesEveryLayer D.tree) (trees_of D.tree) workers D.listings D.faults (P.notes round.old.noted) (P.may_stop D.tree) round.old.taken (moment_of (trees_of D.tree) L.limits service.old.hub)
+        desks.old desks.new ((keeper.old, disk.old), K.contents output.old) ((keeper.new, disk.new), K.contents output.new) error) }
     ensures begins { round.new ≡ no_lines }
     ensures prepared { OnOk result (IsPrepared D.listings L.parts service.new.hub service.new.seats.items desks.new) }
     ensures ready { OnOk result (P.is_ready (keeper.new, disk.new)) }
@@ -175,7 +175,8 @@ fn write_round<
     let (taken, noted) = round.take_all(alloc);
     let (entries, lines) = round_lines(rt, alloc, service, desks, taken)?;
     keeper.keep(alloc, disk, noted.as_slice(), entries.as_slice())?;
-    write_lines(output, lines.as_slice())
+    write_lines(output, lines.as_slice())?;
+    keeper.end_round(rt, alloc, service, disk, output)
 }
 
 /// The entries of a round that is carried out, and their lines. No count of a desk falls, whatever comes.
@@ -205,7 +206,7 @@ fn round_lines<D: Desk + Drop + Send + Sync, L: Identity + Send + Sync, W: Threa
 /// `Err` no further round is run.
 pub fn end_input<
     K: Sink,
-    P: Keeper,
+    P: RoundKeeper,
     D: Desk + Drop + Send + Sync,
     L: Identity + Send + Sync,
     W: Threads + Wait + Sync,
@@ -224,13 +225,13 @@ pub fn end_input<
     ensures legal { (workers : ℕ) → length desks.old ≡ workers → (start : Moment) (cut : Cut) (last : ℕ) (earlier : List WholeRound)
         → P.notes round.noted cut.begun
         → Served (StatesEveryLayer D.tree) (trees_of D.tree) workers start cut last round.taken round.bytes earlier (moment_of (trees_of D.tree) L.limits service.old.hub)
-        → OnOk result (ServedToEndKept (StatesEveryLayer D.tree) (trees_of D.tree) workers start D.listings D.faults P.keeps cut earlier (moment_of (trees_of D.tree) L.limits service.new.hub)
-        (K.contents output.old) (K.contents output.new) desks.old desks.new (keeper.old, disk.old) (keeper.new, disk.new)) }
+        → OnOk result (ToEndDone (StatesEveryLayer D.tree) (trees_of D.tree) workers start D.listings D.faults (P.ends D.tree) cut earlier (moment_of (trees_of D.tree) L.limits service.old.hub) (moment_of (trees_of D.tree) L.limits service.new.hub)
+        desks.old desks.new ((keeper.old, disk.old), K.contents output.old) ((keeper.new, disk.new), K.contents output.new)) }
     ensures stops { (workers : ℕ) → length desks.old ≡ workers → (start : Moment) (cut : Cut) (last : ℕ) (earlier : List WholeRound)
         → P.notes round.noted cut.begun
         → Served (StatesEveryLayer D.tree) (trees_of D.tree) workers start cut last round.taken round.bytes earlier (moment_of (trees_of D.tree) L.limits service.old.hub)
-        → IfErr result (StopsAtEndKept (StatesEveryLayer D.tree) (trees_of D.tree) workers start D.listings D.faults P.keeps P.may_keep cut earlier
-        (K.contents output.old) (K.contents output.new) desks.old desks.new (keeper.old, disk.old) (keeper.new, disk.new)) }
+        → IfErr result (StopsAtEndDone (StatesEveryLayer D.tree) (trees_of D.tree) workers D.listings D.faults (P.ends D.tree) (P.may_stop D.tree) cut earlier (moment_of (trees_of D.tree) L.limits service.old.hub)
+        desks.old desks.new ((keeper.old, disk.old), K.contents output.old) ((keeper.new, disk.new), K.contents output.new)) }
     ensures cause { CausedBy (K.faults output.old) (K.faults output.new) (is_write_fault result) }
 {
     let begun = round.has_lines();
@@ -243,7 +244,7 @@ pub fn end_input<
 /// Runs one more round without requests, if a layer is queued.
 fn end_queued<
     K: Sink,
-    P: Keeper,
+    P: RoundKeeper,
     D: Desk + Drop + Send + Sync,
     L: Identity + Send + Sync,
     W: Threads + Wait + Sync,
@@ -259,11 +260,11 @@ fn end_queued<
     requires prepared { IsPrepared D.listings L.parts service.old.hub service.old.seats.items desks.old }
     requires ready { P.is_ready (keeper.old, disk.old) }
     ensures further { (workers : ℕ) → length desks.old ≡ workers
-        → OnOk result (LastRun (StatesEveryLayer D.tree) (trees_of D.tree) workers D.listings D.faults P.keeps (moment_of (trees_of D.tree) L.limits service.old.hub) (moment_of (trees_of D.tree) L.limits service.new.hub)
-        (K.contents output.old) (K.contents output.new) desks.old desks.new (keeper.old, disk.old) (keeper.new, disk.new)) }
+        → OnOk result (LastRun (StatesEveryLayer D.tree) (trees_of D.tree) workers D.listings D.faults (P.ends D.tree) (moment_of (trees_of D.tree) L.limits service.old.hub) (moment_of (trees_of D.tree) L.limits service.new.hub)
+        desks.old desks.new ((keeper.old, disk.old), K.contents output.old) ((keeper.new, disk.new), K.contents output.new)) }
     ensures stops { (workers : ℕ) → length desks.old ≡ workers
-        → IfErr result (λ error. RoundStops (StatesEveryLayer D.tree) (trees_of D.tree) workers D.listings D.faults (P.notes []) P.keeps P.may_keep [] (moment_of (trees_of D.tree) L.limits service.old.hub)
-        (K.contents output.old) (K.contents output.new) desks.old desks.new (keeper.old, disk.old) (keeper.new, disk.new) error) }
+        → IfErr result (λ error. RoundStops (StatesEveryLayer D.tree) (trees_of D.tree) workers D.listings D.faults (P.notes []) (P.may_stop D.tree) [] (moment_of (trees_of D.tree) L.limits service.old.hub)
+        desks.old desks.new ((keeper.old, disk.old), K.contents output.old) ((keeper.new, disk.new), K.contents output.new) error) }
     ensures cause { CausedBy (K.faults output.old) (K.faults output.new) (is_write_fault result) }
 {
     if !is_some_queued(rt, alloc, &service.hub)? {

@@ -1,8 +1,6 @@
 -- A round that has begun, a line that fits, and a round that is carried out.
-use Rattle.std.specs.Prelude.{◌≡◌, ℕ, ◌≤◌, ◌+◌, ◌⊎◌, List, [], map, Option}
-use Rattle.std.specs.Io.KnownBytes.{Appends}
-use Rattle.std.specs.List.{AllByRecursion, AllZip, flat_map}
-use Rattle.cv_io.specs.Writes.{AppendsPrefix}
+use Rattle.std.specs.Prelude.{◌≡◌, ℕ, ◌≤◌, ◌+◌, ◌⊎◌, List, [], map}
+use Rattle.std.specs.List.{AllByRecursion, AllZip}
 use Rattle.cv_io.specs.declared.write.WriteError.{WriteError}
 use Rattle.cv_io.specs.declared.write.WriteError.TheVariants as error
 use Rattle.cv_transcript.specs.Entry.{entry_text}
@@ -18,7 +16,7 @@ use Rattle.cv_serve_legal.specs.Whole.{AreLastRounds, WholeRound, entries_in, wh
 use Rattle.cv_serve_legal.specs.declared.limits.TheConstants.{MAX_ROUND_BYTES}
 use Rattle.cv_serve_legal.specs.declared.parsed_line.ParsedLine.{ParsedLine}
 use Rattle.cv_serve_round.specs.Round.{DesksAtLeast, DesksCounted, IsSoundTaken}
-use Rattle.cv_serve_round.specs.Kept.{AreKept, IsKeptOrUnwritten}
+use Rattle.cv_serve_round.specs.Done.{AreDone}
 use Rattle.cv_serve_round.specs.Printed.{HasTag}
 
 -- a round that has begun: without lines it has no bytes
@@ -42,38 +40,34 @@ pub record LegalTexts {D : Type 0} (known : Type 0) (trees : Trees) (workers : �
   pub entries_are : made.entries ≡ entries
   pub printed : texts ≡ map (λ entry. entry_text entry) made.entries
 
--- a round was run and kept, and its lines were written
-pub record RoundRun {D X : Type 0} (known : Type 0) (trees : Trees) (workers : ℕ) (listings faults : D → ℕ) (noted : Round → Type 0) (keeps : X → WholeRound → X → Type 0) (taken : List ParsedLine) (before after : Moment) (written written_now : Option (List ℕ)) (desks desks_now : List D) (held held_now : X) : Type 0 where
+-- a round was run and kept, its lines were written, and what follows them was done
+pub record RoundRun {D S : Type 0} (known : Type 0) (trees : Trees) (workers : ℕ) (listings faults : D → ℕ) (noted : Round → Type 0) (ends : S → WholeRound → Moment → S → Type 0) (taken : List ParsedLine) (before after : Moment) (desks desks_now : List D) (held held_now : S) : Type 0 where
   pub made : RoundMade known trees workers listings faults taken before after desks desks_now
-  pub appended : Appends written written_now (flat_map entry_text made.entries)
-  pub kept : (lines : Round) → noted lines → keeps held (whole_round lines made.entries) held_now
+  pub ended : (lines : Round) → noted lines → ends held (whole_round lines made.entries) after held_now
 
--- a round was run, and the first bytes of its lines were written; it was kept, or nothing of it was written
-pub record RoundTorn {D X : Type 0} (known : Type 0) (trees : Trees) (workers : ℕ) (listings faults : D → ℕ) (noted : Round → Type 0) (keeps may_keep : X → WholeRound → X → Type 0) (taken : List ParsedLine) (before : Moment) (written written_now : Option (List ℕ)) (desks desks_now : List D) (held held_now : X) : Type 0 where
+-- a round was run, and stopped somewhere after that
+pub record RoundTorn {D S : Type 0} (known : Type 0) (trees : Trees) (workers : ℕ) (listings faults : D → ℕ) (noted : Round → Type 0) (may_stop : S → WholeRound → Moment → S → Type 0) (taken : List ParsedLine) (before : Moment) (desks desks_now : List D) (held held_now : S) : Type 0 where
   pub after : Moment
   pub made : RoundMade known trees workers listings faults taken before after desks desks_now
-  pub part : AppendsPrefix written written_now (flat_map entry_text made.entries)
-  pub kept : (lines : Round) → noted lines → IsKeptOrUnwritten keeps may_keep held (whole_round lines made.entries) held_now written written_now
+  pub stopped : (lines : Round) → noted lines → may_stop held (whole_round lines made.entries) after held_now
 
 -- nothing of a round was written or kept, and no count of a desk fell
-pub record RoundLost {D X : Type 0} (listings faults : D → ℕ) (written written_now : Option (List ℕ)) (desks desks_now : List D) (held held_now : X) : Type 0 where
-  pub unwritten : Appends written written_now []
+pub record RoundLost {D S : Type 0} (listings faults : D → ℕ) (desks desks_now : List D) (held held_now : S) : Type 0 where
   pub counts : DesksAtLeast listings faults 0 desks desks_now []
   pub unkept : held_now ≡ held
 
 -- what is left of a round by this error
-abbrev pub RoundStops : {D X : Type 0} → Type 0 → Trees → ℕ → (D → ℕ) → (D → ℕ) → (Round → Type 0) → (X → WholeRound → X → Type 0) → (X → WholeRound → X → Type 0) → List ParsedLine → Moment → Option (List ℕ) → Option (List ℕ) → List D → List D → X → X → WriteError → Type 0
-RoundStops known trees workers listings faults noted keeps may_keep taken before written written_now desks desks_now held held_now error.WriteFault =
-    RoundTorn known trees workers listings faults noted keeps may_keep taken before written written_now desks desks_now held held_now
-RoundStops known trees workers listings faults noted keeps may_keep taken before written written_now desks desks_now held held_now error.NoMemory =
-    RoundTorn known trees workers listings faults noted keeps may_keep taken before written written_now desks desks_now held held_now
-    ⊎ RoundLost listings faults written written_now desks desks_now held held_now
+abbrev pub RoundStops : {D S : Type 0} → Type 0 → Trees → ℕ → (D → ℕ) → (D → ℕ) → (Round → Type 0) → (WriteError → S → WholeRound → Moment → S → Type 0) → List ParsedLine → Moment → List D → List D → S → S → WriteError → Type 0
+RoundStops known trees workers listings faults noted may_stop taken before desks desks_now held held_now error.WriteFault =
+    RoundTorn known trees workers listings faults noted (may_stop error.WriteFault) taken before desks desks_now held held_now
+RoundStops known trees workers listings faults noted may_stop taken before desks desks_now held held_now error.NoMemory =
+    RoundTorn known trees workers listings faults noted (may_stop error.NoMemory) taken before desks desks_now held held_now
+    ⊎ RoundLost listings faults desks desks_now held held_now
 
--- one more round was run exactly if a layer was queued, it was kept, and its lines were written
-pub record LastRun {D X : Type 0} (known : Type 0) (trees : Trees) (workers : ℕ) (listings faults : D → ℕ) (keeps : X → WholeRound → X → Type 0) (before after : Moment) (written written_now : Option (List ℕ)) (desks desks_now : List D) (held held_now : X) : Type 0 where
+-- one more round was carried out exactly if a layer was queued
+pub record LastRun {D S : Type 0} (known : Type 0) (trees : Trees) (workers : ℕ) (listings faults : D → ℕ) (ends : S → WholeRound → Moment → S → Type 0) (before after : Moment) (desks desks_now : List D) (held held_now : S) : Type 0 where
   pub more : List WholeRound
   pub last : known → AreLastRounds (queued before.state.layers) trees workers before more after
-  pub appended : Appends written written_now (flat_map entry_text (entries_in more))
   pub tags : AllByRecursion HasTag (entries_in more)
   pub counts : DesksCounted listings faults 0 desks desks_now (entries_in more)
-  pub kept : AreKept keeps held more held_now
+  pub done : AreDone known trees workers ends before held more after held_now

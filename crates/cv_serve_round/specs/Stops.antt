@@ -1,6 +1,6 @@
--- What a service did from one moment of its run to another, and what it leaves that stops. It began at the moment `start`, and had
--- carried out the earlier rounds. That rounds are legal is known where the layers of the desks' type are known; which lines they have, what
--- was written, and what the desks counted, is known of every desk.
+-- What a service leaves that stops and wrote nothing but the lines of its rounds. It began at the moment `start`, and had carried out the
+-- earlier rounds. That rounds are legal is known where the layers of the desks' type are known; which lines they have, what was written,
+-- and what the desks counted, is known of every desk.
 use Rattle.std.specs.Prelude.{◌≡◌, ◌⊎◌, ℕ, true, List, [], ◌∷◌, ◌++◌, Option}
 use Rattle.std.specs.Io.KnownBytes.{Appends}
 use Rattle.std.specs.List.{AllByRecursion, flat_map}
@@ -12,30 +12,9 @@ use Rattle.cv_core_machine.specs.Scans.{Trees}
 use Rattle.cv_serve_legal.specs.Replay.{Moment}
 use Rattle.cv_serve_legal.specs.Round.{IsLegalRound}
 use Rattle.cv_serve_legal.specs.Rounds.{Cut, Round, counted}
-use Rattle.cv_serve_legal.specs.Served.{Served}
-use Rattle.cv_serve_legal.specs.Whole.{AreAllRounds, AreWholeRounds, WholeRound, entries_in, lines_in}
-use Rattle.cv_serve_legal.specs.declared.parsed_line.ParsedLine.{ParsedLine}
+use Rattle.cv_serve_legal.specs.Whole.{AreWholeRounds, WholeRound, entries_in, lines_in}
 use Rattle.cv_serve_round.specs.Round.{DesksAtLeast, DesksCounted}
 use Rattle.cv_serve_round.specs.Printed.{HasTag}
-
--- more rounds were carried out, whose lines were written, and the desks counted what their entries say
-pub record Further {D : Type 0} (known : Type 0) (trees : Trees) (workers : ℕ) (start : Moment) (listings faults : D → ℕ) (cut : Cut) (last : ℕ) (taken : List ParsedLine) (bytes : ℕ) (earlier : List WholeRound) (now : Moment) (written written_now : Option (List ℕ)) (desks desks_now : List D) : Type 0 where
-  pub more : List WholeRound
-  pub served : Served known trees workers start cut last taken bytes (earlier ++ more) now
-  pub lines : Appends written written_now (flat_map entry_text (entries_in more))
-  pub tags : AllByRecursion HasTag (entries_in more)
-  pub counts : DesksCounted listings faults 0 desks desks_now (entries_in more)
-
--- the input ended, and the last rounds were carried out, whose lines were written: with those before them they are all rounds of the
--- input, and one more exactly if a layer was queued then. The desks counted what the entries of the last rounds say
-pub record ServedToEnd {D : Type 0} (known : Type 0) (trees : Trees) (workers : ℕ) (start : Moment) (listings faults : D → ℕ) (cut : Cut) (earlier : List WholeRound) (now : Moment) (written written_now : Option (List ℕ)) (desks desks_now : List D) : Type 0 where
-  pub more : List WholeRound
-  pub legal : known → AreAllRounds trees workers start (counted true cut) (earlier ++ more) now
-  pub lines : Appends written written_now (flat_map entry_text (entries_in more))
-  pub tags : AllByRecursion HasTag (entries_in more)
-  pub counts : DesksCounted listings faults 0 desks desks_now (entries_in more)
-
--- ---- a service that stops
 
 -- rounds are legal, and so is one more
 pub record AreTornRounds (trees : Trees) (workers : ℕ) (start : Moment) (whole : List WholeRound) (last : WholeRound) : Type 0 where
@@ -80,9 +59,3 @@ Stops known trees workers start listings faults all earlier written written_now 
 -- the rounds of an input that ended, and then maybe one more without lines
 abbrev pub AreToEnd : Cut → List Round → Type 0
 AreToEnd cut all = (all ≡ counted true cut) ⊎ (all ≡ counted true cut ++ [] ∷ [])
-
--- what is left by this error, of an input that ended
-pub record StopsAtEnd {D : Type 0} (known : Type 0) (trees : Trees) (workers : ℕ) (start : Moment) (listings faults : D → ℕ) (cut : Cut) (earlier : List WholeRound) (written written_now : Option (List ℕ)) (desks desks_now : List D) (error : WriteError) : Type 0 where
-  pub all : List Round
-  pub to_end : AreToEnd cut all
-  pub stops : Stops known trees workers start listings faults all earlier written written_now desks desks_now error
