@@ -1,5 +1,6 @@
 pub mod Ending
 mod Fronts
 mod Input
+pub mod Lines
 mod Quiet
 mod UpTo

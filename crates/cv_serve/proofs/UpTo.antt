@@ -1,5 +1,5 @@
 -- How the lines of the bytes stop that were taken.
-use Rattle.std.specs.Prelude.{◌≡◌, ⊤, ℕ, ◌+◌, ◌-◌, ◌<◌, ◌≤◌, ◌^◌, false, List, [], ◌∷◌, ◌++◌, length, take, drop, Option, IsErrAnd, Result, Ok, Err, refl}
+use Rattle.std.specs.Prelude.{◌≡◌, ⊤, ℕ, ◌+◌, ◌-◌, ◌<◌, ◌≤◌, ◌^◌, false, List, [], ◌∷◌, ◌++◌, length, map, take, drop, Option, IsErrAnd, Result, Ok, Err, refl}
 use Rattle.std.specs.Io.KnownBytes.{Consumes}
 use Rattle.std.specs.List.{AllByRecursion}
 use Rattle.std.proofs.Common.{ap, append_assoc, append-nil, arith, inl, inr, length-append, length-take-le, subst, sym, take-append-drop, ◌∙◌}
@@ -10,24 +10,24 @@ use Rattle.std.proofs.lemmas.List.Elements.{All-nil}
 use Rattle.cv_base.proofs.AllItems.{all_more}
 use Rattle.cv_base.specs.Lines.{numbered}
 use Rattle.cv_io.specs.Lines.{Finished, HasNoLineEnd, LF, LongInput, LongLine, Stop, is_line_end, reading_of, text_of}
-use Rattle.cv_io.specs.Reader.{Reader, Step}
+use Rattle.cv_io.specs.Reader.{IsAhead, Reader, Step}
 use Rattle.cv_io.specs.declared.line.Line.{Line}
 use Rattle.cv_io.specs.declared.line.Line.TheVariants.{Text}
 use Rattle.cv_io.specs.declared.line.LineError.{LineError}
 use Rattle.cv_io.specs.declared.line.LineError.TheVariants as line
-use Rattle.cv_io.proofs.Lines.{reading_of-last, reading_of-line, reading_of-long_input, reading_of-long_line, reading_of-nil}
+use Rattle.cv_io.proofs.Lines.{lines_of-last, reading_of-last, reading_of-line, reading_of-long_input, reading_of-long_line, reading_of-nil}
 use Rattle.cv_io.proofs.Takes.{Consumes-more}
 use Rattle.cv_scan_input.specs.Unrefused.{IsPiece, ended_lines}
 use Rattle.cv_scan_input.proofs.Accepted.{ended_snoc}
 use Rattle.cv_serve_legal.specs.Rounds.{cut_lines, round_limits, rounds_of}
 use Rattle.cv_serve.specs.code.Ends.{end_of}
-use Rattle.cv_serve.specs.Served.{IsBeforeRefusal, IsTakenUpTo, TakesUpTo}
+use Rattle.cv_serve.specs.Served.{IsBeforeRefusal, IsTakenNoFurther, IsTakenUpTo, TakesUpTo}
 use Rattle.cv_serve.specs.code.Reading.{AreTaken, IsTakenLines}
 use Rattle.cv_serve.specs.declared.end.ServeEnd.{ServeEnd}
 use Rattle.cv_serve.specs.declared.end.ServeEnd.TheVariants as end
 use Rattle.cv_serve.specs.declared.end.Stop.{Stop as Stopped}
 use Rattle.cv_serve.specs.declared.end.Stop.TheVariants as stop
-use Rattle.cv_serve.proofs.Fronts.{one_line, rounds_ended}
+use Rattle.cv_serve.proofs.Fronts.{lines_all, lines_ended, one_line, rounds_ended}
 
 -- ---- whole lines, and then more
 
@@ -71,6 +71,13 @@ none_given reader l none zero = inl (record {
   counted = zero ∙ sym (ap length none);
   texts_are = refl;
 })
+
+-- what was taken are the lines that were given, and what the reader holds
+pub no_further : (now : Reader) (first m : Option (List ℕ)) (texts : List (List ℕ)) (text : List ℕ) → AreTaken now first m texts → IsAhead now (Ok (Text text)) → IsTakenNoFurther first m texts
+no_further now first m texts text (inl h) few =
+    record { given = ended_lines h.pieces; lines = lines_all h.pieces h.lines ∙ h.texts_are; ahead = now.held; front = h.front; few = few }
+no_further now first m texts text (inr h) few =
+    record { given = h.bytes; lines = h.lines; ahead = []; front = subst (λ v. Consumes first m v) (sym (append-nil h.bytes)) h.front; few = omega arith }
 
 -- how the lines of the bytes stop that were taken, and the bytes before the refusal: their rounds are those of these lines
 pub record IsRefusal (stop : Stop) (first m : Option (List ℕ)) (texts : List (List ℕ)) : Type 0 where
@@ -116,11 +123,21 @@ module _ (before now : Reader) (first l m : Option (List ℕ)) (texts : List (Li
               counted = omega (arith, s.takes.counted, h.counted, ap length join, length-append (ended_lines h.pieces ++ before.held) s.takes.more);
               texts_are = map-append text_of h.pieces (s.answers.piece ∷ []) ∙ ap (λ given. given ++ text_of s.answers.piece ∷ []) h.texts_are ∙ ap (λ last. texts ++ last ∷ []) (sym s.answers.text);
             })
-        | inr e ↦ inr (e.2, e.3)
+        | inr e ↦
+            let join = joined h s.bytes s.takes.more s.takes.joined ∙ ap (λ v. ended_lines h.pieces ++ v) e.0 in
+            inr (record {
+              bytes = ended_lines h.pieces ++ s.answers.piece;
+              front = subst (λ v. Consumes first m v) join (Consumes-more first l m (ended_lines h.pieces ++ before.held) s.takes.more h.front s.takes.consumed);
+              lines =
+                  lines_ended h.pieces s.answers.piece h.lines ∙ ap (λ last. map text_of h.pieces ++ last) (lines_of-last s.answers.piece s.answers.whole e.1)
+                  ∙ ap (λ given. given ++ text_of s.answers.piece ∷ []) h.texts_are ∙ ap (λ last. texts ++ last ∷ []) (sym s.answers.text);
+              held = e.2;
+              ended = e.3;
+            })
       ]
   one_given text (inr h) s =
-      let over = s.takes.over h.1 in
-      let none : length s.bytes ≡ 0 = omega (arith, ap length s.takes.joined, length-append before.held s.takes.more, ap length h.0, ap length over.0) in
+      let over = s.takes.over h.ended in
+      let none : length s.bytes ≡ 0 = omega (arith, ap length s.takes.joined, length-append before.held s.takes.more, ap length h.held, ap length over.0) in
       elim s.answers.rest [
         | inl e ↦ absurd (omega (arith, none, ap length e, length-append s.answers.piece (LF ∷ now.held)))
         | inr e ↦ absurd (omega (arith, none, ap length e.0, e.1))
@@ -153,7 +170,7 @@ module _ (before now : Reader) (first l m : Option (List ℕ)) (texts : List (Li
       let all = all_bytes Finished (Err line.ReadFault) h s inputs
       (λ room whole count. stop_last room s.bytes x.whole (omega (arith, x.short, limit)) (omega (arith, whole, count, s.answers.1, inputs))) in
       record { taken = all.0; front = ended_lines h.pieces ++ s.bytes; refused = sym all.1; rounds = rounds_ended h.pieces s.bytes texts h.lines x.whole h.texts_are }
-  none_left line.ReadFault (inr h) s inputs = absurd (false≢true (sym s.answers.0.not_ended ∙ (s.takes.over h.1).1))
+  none_left line.ReadFault (inr h) s inputs = absurd (false≢true (sym s.answers.0.not_ended ∙ (s.takes.over h.ended).1))
   none_left line.LineTooLong (inl h) s inputs =
       let all = all_bytes LongLine (Err line.LineTooLong) h s inputs
       (λ room whole count. subst (λ most. (reading_of most room s.bytes).stop ≡ LongLine) limit
@@ -175,13 +192,13 @@ module _ (before now : Reader) (first l m : Option (List ℕ)) (texts : List (Li
             ∙ rounds_ended h.pieces [] texts h.lines (All-nil (λ b. is_line_end b ≡ false)) h.texts_are;
       }
   none_left line.LineTooLong (inr h) s inputs =
-      absurd (omega (arith, s.answers.long, ap length s.takes.joined, length-append before.held s.takes.more, ap length h.0, ap length (s.takes.over h.1).0))
+      absurd (omega (arith, s.answers.long, ap length s.takes.joined, length-append before.held s.takes.more, ap length h.held, ap length (s.takes.over h.ended).0))
   none_left line.InputTooLong (inl h) s inputs =
       let x = s.answers.0 in
       let all = all_bytes LongInput (Err line.InputTooLong) h s inputs
       (λ room whole count. stop_cut 67108864 room s.bytes x.whole (omega (arith, x.short, limit)) (omega (arith, whole, count, s.answers.1, inputs))) in
       record { taken = all.0; front = ended_lines h.pieces ++ s.bytes; refused = sym all.1; rounds = rounds_ended h.pieces s.bytes texts h.lines x.whole h.texts_are }
-  none_left line.InputTooLong (inr h) s inputs = absurd (false≢true (sym s.answers.0.not_ended ∙ (s.takes.over h.1).1))
+  none_left line.InputTooLong (inr h) s inputs = absurd (false≢true (sym s.answers.0.not_ended ∙ (s.takes.over h.ended).1))
 
   pub stop_given : (error : LineError) (r : Result Unit Stopped) → AreTaken before first l texts → Step before now l m (Err error) → now.max_input ≡ 2 ^ 36
       → IsErrAnd r (λ e. e ≡ stop.Input error) → TakesUpTo first m (end_of r)

@@ -9,7 +9,7 @@ use Rattle.cv_serve_legal.specs.Replay.{Moment}
 use Rattle.cv_serve_legal.specs.Rounds.{Round, round_limits, rounds_of}
 use Rattle.cv_serve_legal.specs.Whole.{AreAllRounds, AreWholeRounds, WholeRound, entries_in}
 use Rattle.cv_serve_round.specs.Kept.{AreKept, StopsKept}
-use Rattle.cv_serve.specs.Served.{AreGiven, AreRoundsEnded, IsCounted, IsServedFrom, IsServedUpTo}
+use Rattle.cv_serve.specs.Served.{AreGiven, AreRoundsEnded, IsAtOnce, IsCounted, IsServedFrom, IsServedUpTo}
 use Rattle.cv_serve.specs.declared.end.ServeEnd.{ServeEnd}
 use Rattle.cv_serve.specs.declared.end.ServeEnd.TheVariants as end
 
@@ -34,12 +34,13 @@ pub record IsServedUpToKept {D X : Type 0} (known : Type 0) (trees : Trees) (wor
   pub kept : AreKept keeps held served.rounds held_now
 
 -- a write was not made, or memory ran out, or the last round was not kept
-pub record IsStoppedKept {D X : Type 0} (known : Type 0) (trees : Trees) (workers : ℕ) (start : Moment) (listings faults : D → ℕ) (keeps may_keep : X → WholeRound → X → Type 0) (remaining written written_now : Option (List ℕ)) (desks desks_now : List D) (held held_now : X) (error : WriteError) : Type 0 where
+pub record IsStoppedKept {D X : Type 0} (known : Type 0) (trees : Trees) (workers : ℕ) (start : Moment) (listings faults : D → ℕ) (keeps may_keep : X → WholeRound → X → Type 0) (remaining remaining_now written written_now : Option (List ℕ)) (desks desks_now : List D) (held held_now : X) (error : WriteError) : Type 0 where
   pub texts : List (List ℕ)
   pub are_all : Bool
   pub given : AreGiven are_all remaining texts
   pub all : List Round
   pub ended : AreRoundsEnded are_all texts all
+  pub at_once : IsAtOnce error are_all remaining remaining_now texts all
   pub stops : StopsKept known trees workers start listings faults keeps may_keep all [] written written_now desks desks_now held held_now error
 
 -- what an end says of the output, of the desks and of what was kept, of a service that began at the moment `start`
@@ -53,6 +54,6 @@ WroteKept known trees workers start listings faults keeps may_keep remaining rem
 WroteKept known trees workers start listings faults keeps may_keep remaining remaining_now written written_now desks desks_now held held_now end.InputTooLong =
     IsServedUpToKept known trees workers start listings faults keeps LongInput remaining remaining_now written written_now desks desks_now held held_now
 WroteKept known trees workers start listings faults keeps may_keep remaining remaining_now written written_now desks desks_now held held_now end.WriteFault =
-    IsStoppedKept known trees workers start listings faults keeps may_keep remaining written written_now desks desks_now held held_now error.WriteFault
+    IsStoppedKept known trees workers start listings faults keeps may_keep remaining remaining_now written written_now desks desks_now held held_now error.WriteFault
 WroteKept known trees workers start listings faults keeps may_keep remaining remaining_now written written_now desks desks_now held held_now end.NoMemory =
-    IsStoppedKept known trees workers start listings faults keeps may_keep remaining written written_now desks desks_now held held_now error.NoMemory
+    IsStoppedKept known trees workers start listings faults keeps may_keep remaining remaining_now written written_now desks desks_now held held_now error.NoMemory

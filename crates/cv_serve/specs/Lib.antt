@@ -1,4 +1,5 @@
 pub use Rattle.cv_serve_round.specs.Round
+pub mod Done
 pub mod Kept
 pub mod Quiet
 pub mod Served

@@ -1,10 +1,10 @@
 -- What a service did that is done (defined by this project): what it wrote is a legal transcript of what it read, and the desk of
 -- each worker counted what the transcript says of that worker. And what each end says of the input, and of how much of it was taken.
-use Rattle.std.specs.Prelude.{◌≡◌, ⊤, ℕ, ◌<◌, ◌≤◌, ◌^◌, Bool, true, false, List, [], ◌++◌, Option, IfSome, length, take}
+use Rattle.std.specs.Prelude.{◌≡◌, ⊤, ℕ, ◌<◌, ◌≤◌, ◌^◌, Bool, true, false, List, [], ◌∷◌, ◌++◌, Option, IfSome, length, take}
 use Rattle.std.specs.Io.KnownBytes.{Appends, Consumes}
 use Rattle.std.specs.List.{AllByRecursion}
 use Rattle.cv_base.specs.Lines.{numbered}
-use Rattle.cv_io.specs.Lines.{Stop, Finished, HasNoLineEnd, LongLine, LongInput}
+use Rattle.cv_io.specs.Lines.{Stop, Finished, HasNoLineEnd, LongLine, LongInput, lines_of}
 use Rattle.cv_io.specs.declared.write.WriteError.{WriteError}
 use Rattle.cv_io.specs.declared.write.WriteError.TheVariants as error
 use Rattle.cv_core_machine.specs.Scans.{Trees}
@@ -13,7 +13,7 @@ use Rattle.cv_serve_legal.specs.Legal.{AreLines, IsLegalFrom}
 use Rattle.cv_serve_legal.specs.Replay.{Moment, beginning}
 use Rattle.cv_serve_legal.specs.Rounds.{Round, cut_lines, round_limits, rounds_of}
 use Rattle.cv_serve_legal.specs.Whole.{AreWholeRounds, WholeRound, entries_in, lines_in}
-use Rattle.cv_serve_round.specs.Further.{AreToEnd, Stops}
+use Rattle.cv_serve_round.specs.Stops.{AreToEnd, Stops}
 use Rattle.cv_serve_round.specs.Round.{DesksCounted}
 use Rattle.cv_scan_input.specs.Request.{input_of}
 use Rattle.cv_scan_input.specs.Unrefused.{IsPiece, ended_lines}
@@ -114,15 +114,36 @@ abbrev pub AreRoundsEnded : Bool → List (List ℕ) → List Round → Type 0
 AreRoundsEnded true texts all = AreToEnd (cut_lines round_limits (numbered 1 texts)) all
 AreRoundsEnded false texts all = all ≡ (cut_lines round_limits (numbered 1 texts)).rounds
 
+-- the last of these rounds ended with the last line that was given or, where these lines are all, with the end of the input
+abbrev pub EndsLastRound : Bool → List (List ℕ) → List Round → Type 0
+EndsLastRound true texts all = length (cut_lines round_limits (numbered 1 texts)).rounds < length all
+EndsLastRound false texts all =
+    (earlier : List (List ℕ)) × (text : List ℕ) × (texts ≡ earlier ++ text ∷ []) × (length (cut_lines round_limits (numbered 1 earlier)).rounds < length all)
+
+-- what was taken of the input are the lines that were given, and less behind them than one read gives
+pub record IsTakenNoFurther (before now : Option (List ℕ)) (texts : List (List ℕ)) : Type 0 where
+  pub given : List ℕ
+  pub lines : lines_of given ≡ texts
+  pub ahead : List ℕ
+  pub front : Consumes before now (given ++ ahead)
+  pub few : length ahead < 65536
+
+-- a write that is not made is answered at once: no line is asked for between that of its round and the answer
+abbrev pub IsAtOnce : WriteError → Bool → Option (List ℕ) → Option (List ℕ) → List (List ℕ) → List Round → Type 0
+IsAtOnce error.WriteFault true remaining remaining_now texts all = EndsLastRound true texts all
+IsAtOnce error.WriteFault false remaining remaining_now texts all = EndsLastRound false texts all × IsTakenNoFurther remaining remaining_now texts
+IsAtOnce error.NoMemory are_all remaining remaining_now texts all = ⊤
+
 -- A write was not made, or memory ran out. What was appended to the output are whole lines of legal rounds, from the moment `start` on,
 -- and if a write was not made, then the first bytes of one more round, which is the last that the lines ended that were given, and was
 -- run. What the desks counted is by the rounds that were run
-pub record IsStopped {D : Type 0} (known : Type 0) (trees : Trees) (workers : ℕ) (start : Moment) (listings faults : D → ℕ) (remaining written written_now : Option (List ℕ)) (desks desks_now : List D) (error : WriteError) : Type 0 where
+pub record IsStopped {D : Type 0} (known : Type 0) (trees : Trees) (workers : ℕ) (start : Moment) (listings faults : D → ℕ) (remaining remaining_now written written_now : Option (List ℕ)) (desks desks_now : List D) (error : WriteError) : Type 0 where
   pub texts : List (List ℕ)
   pub are_all : Bool
   pub given : AreGiven are_all remaining texts
   pub all : List Round
   pub ended : AreRoundsEnded are_all texts all
+  pub at_once : IsAtOnce error are_all remaining remaining_now texts all
   pub stops : Stops known trees workers start listings faults all [] written written_now desks desks_now error
 
 -- what an end says of the output and the desks, of a service that began at the moment `start`
@@ -136,9 +157,9 @@ WroteFrom known trees workers start listings faults remaining remaining_now writ
 WroteFrom known trees workers start listings faults remaining remaining_now written written_now desks desks_now end.InputTooLong =
     IsServedUpTo known trees workers start listings faults LongInput remaining remaining_now written written_now desks desks_now
 WroteFrom known trees workers start listings faults remaining remaining_now written written_now desks desks_now end.WriteFault =
-    IsStopped known trees workers start listings faults remaining written written_now desks desks_now error.WriteFault
+    IsStopped known trees workers start listings faults remaining remaining_now written written_now desks desks_now error.WriteFault
 WroteFrom known trees workers start listings faults remaining remaining_now written written_now desks desks_now end.NoMemory =
-    IsStopped known trees workers start listings faults remaining written written_now desks desks_now error.NoMemory
+    IsStopped known trees workers start listings faults remaining remaining_now written written_now desks desks_now error.NoMemory
 
 -- the same of a service that begins
 abbrev pub Wrote : {D : Type 0} → Type 0 → Trees → ℕ → (D → ℕ) → (D → ℕ) → Option (List ℕ) → Option (List ℕ) → Option (List ℕ) → Option (List ℕ) → List D → List D → ServeEnd → Type 0

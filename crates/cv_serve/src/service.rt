@@ -13,7 +13,7 @@ ghost use Rattle.cv_serve_round.specs.Core.{opened};
 ghost use Rattle.cv_serve_round.specs.Round.{moment_of};
 ghost use Rattle.cv_serve.specs.code.Ends.{end_of, is_read_stop, is_write_stop};
 ghost use Rattle.cv_serve.specs.Served.{FitsInput, IsServed, TakesUpTo, Wrote};
-ghost use Rattle.cv_serve.specs.Kept.{IsServedKept, WroteKept};
+ghost use Rattle.cv_serve.specs.Done.{IsServedDone, WroteDone};
 ghost use Rattle.cv_serve_round.specs.Begun.{IsPrepared};
 ghost use Rattle.cv_serve.specs.code.Reading.{Done, HasReadAll, StopsLines};
 ghost use Rattle.cv_serve.specs.declared.end.Stop.TheVariants as stop;
@@ -23,10 +23,10 @@ use cv_desk::Desk;
 use cv_io::{Line, LineReader, Sink, Source};
 use cv_request::MAX_LANES;
 use cv_scan_input::{MAX_INPUT, MAX_LINE};
-use cv_serve_dealing::{KeepNothing, Keeper};
+use cv_serve_dealing::KeepNothing;
 use cv_serve_legal::completeness_laws;
 use cv_serve_round::{
-    Blank, Core, Identity, Round, Service, end_input, new_core, started, take_line,
+    Blank, Core, Identity, Round, RoundKeeper, Service, end_input, new_core, started, take_line,
 };
 use std::alloc::Global;
 use std::marker::Brand;
@@ -143,12 +143,12 @@ fn serve_with<
     end
 }
 
-/// Serves with a hub that has applied some events, and keeps each round before its lines are written. Each desk has a
-/// worker. It waits for its threads.
+/// Serves with a hub that has applied some events, keeps each round before its lines are written, and does what follows them. Each
+/// desk has a worker. It waits for its threads.
 pub fn serve_from<
     S: Source,
     K: Sink,
-    P: Keeper,
+    P: RoundKeeper,
     D: Desk + Drop + Send + Sync,
     L: Identity + Send + Sync,
     W: Threads + Wait + Sync,
@@ -165,13 +165,14 @@ pub fn serve_from<
     requires prepared { IsPrepared D.listings L.parts service.old.hub service.old.seats.items desks.old }
     requires ready { P.is_ready (keeper.old, disk.old) }
     ensures done { StatesEveryLayer D.tree → (start : Moment) → moment_of (trees_of D.tree) L.limits service.old.hub ≡ start → result ≡ ServeEnd.Done → IfSome (S.remaining input.old) (λ bytes.
-        IsServedKept (trees_of D.tree) (length desks.old) start D.listings D.faults P.keeps bytes (K.contents output.old) (K.contents output.new) desks.old desks.new (keeper.old, disk.old) (keeper.new, disk.new)) }
+        IsServedDone (StatesEveryLayer D.tree) (trees_of D.tree) (length desks.old) start D.listings D.faults (P.ends D.tree) bytes
+        desks.old desks.new ((keeper.old, disk.old), K.contents output.old) ((keeper.new, disk.new), K.contents output.new)) }
     ensures ended { result ≡ ServeEnd.Done → IsAtEnd (S.remaining input.new) }
     ensures input { FitsInput (S.remaining input.old) result }
     ensures front { TakesUpTo (S.remaining input.old) (S.remaining input.new) result }
     ensures wrote { (start : Moment) → moment_of (trees_of D.tree) L.limits service.old.hub ≡ start
-        → WroteKept (StatesEveryLayer D.tree) (trees_of D.tree) (length desks.old) start D.listings D.faults P.keeps P.may_keep (S.remaining input.old) (S.remaining input.new)
-        (K.contents output.old) (K.contents output.new) desks.old desks.new (keeper.old, disk.old) (keeper.new, disk.new) result }
+        → WroteDone (StatesEveryLayer D.tree) (trees_of D.tree) (length desks.old) start D.listings D.faults (P.ends D.tree) (P.may_stop D.tree) (S.remaining input.old) (S.remaining input.new)
+        desks.old desks.new ((keeper.old, disk.old), K.contents output.old) ((keeper.new, disk.new), K.contents output.new) result }
     ensures limit { IsTakenWithin (2 ^ 36) (S.remaining input.old) (S.remaining input.new) }
     ensures taken { result ≡ ServeEnd.InputTooLong → IsTaken (2 ^ 36) (S.remaining input.old) (S.remaining input.new) }
     ensures read_fault { result ≡ ServeEnd.ReadFault → Rose (S.faults input.old) (S.faults input.new) }
@@ -184,7 +185,7 @@ pub fn serve_from<
 fn serve_by<
     S: Source,
     K: Sink,
-    P: Keeper,
+    P: RoundKeeper,
     D: Desk + Drop + Send + Sync,
     L: Identity + Send + Sync,
     W: Threads + Wait + Sync,
@@ -201,13 +202,14 @@ fn serve_by<
     requires prepared { IsPrepared D.listings L.parts service.old.hub service.old.seats.items desks.old }
     requires ready { P.is_ready (keeper.old, disk.old) }
     ensures done { StatesEveryLayer D.tree → (start : Moment) → moment_of (trees_of D.tree) L.limits service.old.hub ≡ start → OnOk result (IfSome (S.remaining input.old) (λ bytes.
-        IsServedKept (trees_of D.tree) (length desks.old) start D.listings D.faults P.keeps bytes (K.contents output.old) (K.contents output.new) desks.old desks.new (keeper.old, disk.old) (keeper.new, disk.new))) }
+        IsServedDone (StatesEveryLayer D.tree) (trees_of D.tree) (length desks.old) start D.listings D.faults (P.ends D.tree) bytes
+        desks.old desks.new ((keeper.old, disk.old), K.contents output.old) ((keeper.new, disk.new), K.contents output.new))) }
     ensures ended { OnOk result (IsAtEnd (S.remaining input.new)) }
     ensures input { FitsInput (S.remaining input.old) (end_of result) }
     ensures front { TakesUpTo (S.remaining input.old) (S.remaining input.new) (end_of result) }
     ensures wrote { (start : Moment) → moment_of (trees_of D.tree) L.limits service.old.hub ≡ start
-        → WroteKept (StatesEveryLayer D.tree) (trees_of D.tree) (length desks.old) start D.listings D.faults P.keeps P.may_keep (S.remaining input.old) (S.remaining input.new)
-        (K.contents output.old) (K.contents output.new) desks.old desks.new (keeper.old, disk.old) (keeper.new, disk.new) (end_of result) }
+        → WroteDone (StatesEveryLayer D.tree) (trees_of D.tree) (length desks.old) start D.listings D.faults (P.ends D.tree) (P.may_stop D.tree) (S.remaining input.old) (S.remaining input.new)
+        desks.old desks.new ((keeper.old, disk.old), K.contents output.old) ((keeper.new, disk.new), K.contents output.new) (end_of result) }
     ensures limit { IsTakenWithin (2 ^ 36) (S.remaining input.old) (S.remaining input.new) }
     ensures taken { IsErrOf result (stop.Input line.InputTooLong) → IsTaken (2 ^ 36) (S.remaining input.old) (S.remaining input.new) }
     ensures read_cause { CausedBy (S.faults input.old) (S.faults input.new) (is_read_stop result) }
@@ -226,7 +228,7 @@ fn serve_by<
 fn read_lines<
     S: Source,
     K: Sink,
-    P: Keeper,
+    P: RoundKeeper,
     D: Desk + Drop + Send + Sync,
     L: Identity + Send + Sync,
     W: Threads + Wait + Sync,
@@ -251,14 +253,14 @@ fn read_lines<
     requires ready { P.is_ready (keeper.old, disk.old) }
     ensures lines { OnOk result ((texts : List (List ℕ)) × HasReadAll (reading reader.old (S.remaining input.old)) texts
         × ((workers : ℕ) → length desks.old ≡ workers → (start : Moment)
-        → Done (StatesEveryLayer D.tree) (trees_of D.tree) workers start D.listings D.faults P.keeps [] round.old.taken round.old.bytes (P.notes round.old.noted) (moment_of (trees_of D.tree) L.limits service.old.hub) (K.contents output.old) (K.contents output.old) desks.old desks.old (keeper.old, disk.old) (keeper.old, disk.old)
-        → Done (StatesEveryLayer D.tree) (trees_of D.tree) workers start D.listings D.faults P.keeps texts round.new.taken round.new.bytes (P.notes round.new.noted) (moment_of (trees_of D.tree) L.limits service.new.hub) (K.contents output.old) (K.contents output.new) desks.old desks.new (keeper.old, disk.old) (keeper.new, disk.new))) }
+        → Done (StatesEveryLayer D.tree) (trees_of D.tree) workers start D.listings D.faults (P.ends D.tree) [] round.old.taken round.old.bytes (P.notes round.old.noted) (moment_of (trees_of D.tree) L.limits service.old.hub) desks.old desks.old ((keeper.old, disk.old), K.contents output.old) ((keeper.old, disk.old), K.contents output.old)
+        → Done (StatesEveryLayer D.tree) (trees_of D.tree) workers start D.listings D.faults (P.ends D.tree) texts round.new.taken round.new.bytes (P.notes round.new.noted) (moment_of (trees_of D.tree) L.limits service.new.hub) desks.old desks.new ((keeper.old, disk.old), K.contents output.old) ((keeper.new, disk.new), K.contents output.new))) }
     ensures stops { IfSome (reading reader.old (S.remaining input.old)) (λ whole. StopsLines whole.stop result) }
     ensures front { TakesUpTo (S.remaining input.old) (S.remaining input.new) (end_of result) }
     ensures wrote { (workers : ℕ) → length desks.old ≡ workers → (start : Moment)
-        → Done (StatesEveryLayer D.tree) (trees_of D.tree) workers start D.listings D.faults P.keeps [] round.old.taken round.old.bytes (P.notes round.old.noted) (moment_of (trees_of D.tree) L.limits service.old.hub) (K.contents output.old) (K.contents output.old) desks.old desks.old (keeper.old, disk.old) (keeper.old, disk.old)
-        → WroteKept (StatesEveryLayer D.tree) (trees_of D.tree) workers start D.listings D.faults P.keeps P.may_keep (S.remaining input.old) (S.remaining input.new)
-        (K.contents output.old) (K.contents output.new) desks.old desks.new (keeper.old, disk.old) (keeper.new, disk.new) (end_of result) }
+        → Done (StatesEveryLayer D.tree) (trees_of D.tree) workers start D.listings D.faults (P.ends D.tree) [] round.old.taken round.old.bytes (P.notes round.old.noted) (moment_of (trees_of D.tree) L.limits service.old.hub) desks.old desks.old ((keeper.old, disk.old), K.contents output.old) ((keeper.old, disk.old), K.contents output.old)
+        → WroteDone (StatesEveryLayer D.tree) (trees_of D.tree) workers start D.listings D.faults (P.ends D.tree) (P.may_stop D.tree) (S.remaining input.old) (S.remaining input.new)
+        desks.old desks.new ((keeper.old, disk.old), K.contents output.old) ((keeper.new, disk.new), K.contents output.new) (end_of result) }
     ensures limit { IsTakenFrom reader.old.taken (S.remaining input.old) (S.remaining input.new) }
     ensures taken { IsErrOf result (stop.Input line.InputTooLong) → IsTakenTo reader.old.taken (2 ^ 36) (S.remaining input.old) (S.remaining input.new) }
     ensures ended { OnOk result (IsAtEnd (S.remaining input.new)) }

@@ -3,7 +3,7 @@ use Rattle.std.specs.Prelude.{◌≡◌, ◌⊎◌, ⊤, ℕ, true, List, [], �
 use Rattle.std.specs.Io.KnownBytes.{Consumes}
 use Rattle.std.specs.List.{AllByRecursion}
 use Rattle.cv_base.specs.Lines.{numbered}
-use Rattle.cv_io.specs.Lines.{Reading, Stop, Finished, LongLine, LongInput, text_of}
+use Rattle.cv_io.specs.Lines.{Reading, Stop, Finished, LongLine, LongInput, lines_of, text_of}
 use Rattle.cv_io.specs.code.Lines.{lines_then}
 use Rattle.cv_io.specs.Reader.{Reader}
 use Rattle.cv_io.specs.declared.line.LineError.TheVariants as line
@@ -13,7 +13,7 @@ use Rattle.cv_serve_legal.specs.Replay.{Moment}
 use Rattle.cv_serve_legal.specs.Rounds.{Round, cut_lines, round_limits}
 use Rattle.cv_serve_legal.specs.Whole.{WholeRound}
 use Rattle.cv_serve_legal.specs.declared.parsed_line.ParsedLine.{ParsedLine}
-use Rattle.cv_serve_round.specs.Kept.{FurtherKept}
+use Rattle.cv_serve_round.specs.Done.{FurtherDone}
 use Rattle.cv_serve.specs.declared.end.Stop.{Stop as Stopped}
 use Rattle.cv_serve.specs.declared.end.Stop.TheVariants as stop
 
@@ -40,11 +40,19 @@ pub record IsTakenLines (now : Reader) (before rest : Option (List ℕ)) (texts 
   pub counted : now.taken ≡ length (ended_lines pieces ++ now.held)
   pub texts_are : map text_of pieces ≡ texts
 
--- so it is, or the last line was given, which ended with the input
-abbrev pub AreTaken : Reader → Option (List ℕ) → Option (List ℕ) → List (List ℕ) → Type 0
-AreTaken now before rest texts = IsTakenLines now before rest texts ⊎ ((now.held ≡ []) × (now.ended ≡ true))
+-- the bytes that were taken are these lines, of which the last one ended with the input
+pub record IsTakenWhole (now : Reader) (before rest : Option (List ℕ)) (texts : List (List ℕ)) : Type 0 where
+  pub bytes : List ℕ
+  pub front : Consumes before rest bytes
+  pub lines : lines_of bytes ≡ texts
+  pub held : now.held ≡ []
+  pub ended : now.ended ≡ true
 
--- what was done with these lines, of a service that began at the moment `start`, and kept each round
-abbrev pub Done : {D X : Type 0} → Type 0 → Trees → ℕ → Moment → (D → ℕ) → (D → ℕ) → (X → WholeRound → X → Type 0) → List (List ℕ) → List ParsedLine → ℕ → (Round → Type 0) → Moment → Option (List ℕ) → Option (List ℕ) → List D → List D → X → X → Type 0
-Done known trees workers start listings faults keeps texts taken bytes noted now written written_now desks desks_now held held_now =
-    FurtherKept known trees workers start listings faults keeps (cut_lines round_limits (numbered 1 texts)) (length texts) taken bytes noted [] now written written_now desks desks_now held held_now
+-- one of the two
+abbrev pub AreTaken : Reader → Option (List ℕ) → Option (List ℕ) → List (List ℕ) → Type 0
+AreTaken now before rest texts = IsTakenLines now before rest texts ⊎ IsTakenWhole now before rest texts
+
+-- what was done with these lines, of a service that began at the moment `start`, and what followed each round
+abbrev pub Done : {D S : Type 0} → Type 0 → Trees → ℕ → Moment → (D → ℕ) → (D → ℕ) → (S → WholeRound → Moment → S → Type 0) → List (List ℕ) → List ParsedLine → ℕ → (Round → Type 0) → Moment → List D → List D → S → S → Type 0
+Done known trees workers start listings faults ends texts taken bytes noted now desks desks_now held held_now =
+    FurtherDone known trees workers start listings faults ends (cut_lines round_limits (numbered 1 texts)) (length texts) taken bytes noted [] start now desks desks_now held held_now

@@ -2,18 +2,18 @@ use Rattle.std.specs.Prelude.{◌≡◌, ◌+◌, ◌<◌, ◌^◌, ℕ, List, [
 use Rattle.std.proofs.Common.{ap, arith, length-append, subst, sym, ◌∙◌}
 use Rattle.std.proofs.lemmas.Bool.{false≢true}
 use Rattle.cv_base.specs.Lines.{numbered}
-use Rattle.cv_io.specs.Reader.{Narrows, Reads, Step, reading}
+use Rattle.cv_io.specs.Reader.{IsAhead, Narrows, Reads, Step, reading}
 use Rattle.cv_scan_input.proofs.Taken.{taken_first, taken_from, taken_more}
 use Rattle.cv_core_machine.specs.Scans.{StatesEveryLayer, trees_of}
 use Rattle.cv_serve_legal.specs.Rounds.{Cut, cut_line, cut_lines, round_limits}
 use Rattle.cv_serve_legal.proofs.Serving.{cut_more, numbered_more}
 use Rattle.cv_serve_round.specs.Begun.{line_at}
-use Rattle.cv_serve_round.proofs.Further.{further_kept}
-use Rattle.cv_serve.specs.Kept.{WroteKept}
+use Rattle.cv_serve_round.proofs.Further.{further_done}
+use Rattle.cv_serve.specs.Done.{WroteDone}
 use Rattle.cv_serve.specs.declared.end.Stop.TheVariants as stop
 use Rattle.cv_serve.proofs.Input.{fresh_reader, given_first, handed_end, reads_more, reads_none, short_text, taken_stop}
 use Rattle.cv_serve.proofs.Ending.{stopped_at, wrote_all, wrote_before, wrote_part}
-use Rattle.cv_serve.proofs.UpTo.{none_given, none_left, one_given, stop_given}
+use Rattle.cv_serve.proofs.UpTo.{no_further, none_given, none_left, one_given, stop_given}
 use Rattle.cv_serve.proofs.service.read_lines.Goals as goal
 
 pub loop-text-init : goal.loop-text-init
@@ -58,8 +58,8 @@ loop-text-preserved g c =
         one_given c.loop-text.reader c.next.new.self _ _ _ texts (c.next.ensures.max_line ∙ before.limits.0) text before.lines.3 step,
         λ workers many start begun.
             let done = before.lines.4 workers many start begun in
-            further_kept (StatesEveryLayer g.D.Desk.tree) (trees_of g.D.Desk.tree) workers start g.D.Desk.listings g.D.Desk.faults g.P.Keeper.keeps cut (cut_line round_limits cut (line_at number c.as_slice.result.now)) (cut_lines round_limits (numbered 1 (texts ++ text ∷ []))) (length texts) _ number _ _ _ _ _ _ [] _ _ _ _ _ _ _ _ _ _ _ done
-            (c.in_ok-take_line.ensures.further workers (before.count ∙ many) start cut (length texts) done.done.more here done.begun done.done.served) next long,
+            further_done (StatesEveryLayer g.D.Desk.tree) (trees_of g.D.Desk.tree) workers start g.D.Desk.listings g.D.Desk.faults (g.P.RoundKeeper.ends g.D.Desk.tree) cut (cut_line round_limits cut (line_at number c.as_slice.result.now)) (cut_lines round_limits (numbered 1 (texts ++ text ∷ []))) (length texts) _ number _ _ _ _ _ _ [] _ _ _ _ _ _ _ _ _ done
+            (c.in_ok-take_line.ensures.further workers (before.count ∙ many) start cut (length texts) done.more here done.begun done.served) next long,
       );
       seen = c.next.ensures.step.takes.seen before.seen;
       limits = (c.next.ensures.max_line ∙ before.limits.0, c.next.ensures.max_input ∙ before.limits.1);
@@ -99,10 +99,10 @@ returns-in_err-text-clause-wrote g c = λ workers many start begun.
     let remaining = g.S.Source.remaining c.args.input.now in
     let error = c.in_err-text.field-0.0 in
     handed_end
-    (λ ended. WroteKept (StatesEveryLayer g.D.Desk.tree) (trees_of g.D.Desk.tree) workers start g.D.Desk.listings g.D.Desk.faults g.P.Keeper.keeps g.P.Keeper.may_keep remaining (g.S.Source.remaining c.next.new.input)
-    (g.K.Sink.contents c.args.output.now) (g.K.Sink.contents c.loop-text.output) c.args.desks.now c.loop-text.desks (c.args.keeper.now, c.args.disk.now) (c.loop-text.keeper, c.loop-text.disk) ended)
+    (λ ended. WroteDone (StatesEveryLayer g.D.Desk.tree) (trees_of g.D.Desk.tree) workers start g.D.Desk.listings g.D.Desk.faults (g.P.RoundKeeper.ends g.D.Desk.tree) (g.P.RoundKeeper.may_stop g.D.Desk.tree) remaining (g.S.Source.remaining c.next.new.input)
+    c.args.desks.now c.loop-text.desks ((c.args.keeper.now, c.args.disk.now), g.K.Sink.contents c.args.output.now) ((c.loop-text.keeper, c.loop-text.disk), g.K.Sink.contents c.loop-text.output) ended)
     (stop.Input error) c.from_residual.result c.from_residual.ensures.1
-    (wrote_before (StatesEveryLayer g.D.Desk.tree) (trees_of g.D.Desk.tree) workers start g.D.Desk.listings g.D.Desk.faults g.P.Keeper.keeps g.P.Keeper.may_keep remaining (g.S.Source.remaining c.next.new.input) before.lines.0 _ _ _ _ _ _ _ _ _ _ (before.lines.4 workers many start begun) error
+    (wrote_before (StatesEveryLayer g.D.Desk.tree) (trees_of g.D.Desk.tree) workers start g.D.Desk.listings g.D.Desk.faults (g.P.RoundKeeper.ends g.D.Desk.tree) (g.P.RoundKeeper.may_stop g.D.Desk.tree) remaining (g.S.Source.remaining c.next.new.input) before.lines.0 _ _ _ _ _ _ _ _ (before.lines.4 workers many start begun) error
     (given_first c.args.reader.now remaining _ before.lines.0
     (fresh_reader c.args.reader.now c.requires.fresh.0 c.requires.fresh.1 c.requires.begins c.requires.limits.0 c.requires.limits.1 remaining) before.lines.2)
     (none_left c.loop-text.reader c.next.new.self _ _ _ before.lines.0 (c.next.ensures.max_line ∙ before.limits.0) error before.lines.3 c.in_err-text.ensures.step (c.next.ensures.max_input ∙ before.limits.1)))
@@ -119,6 +119,9 @@ returns-in_err-take_line-clause-wrote g c = λ workers many start begun.
     let was = reading c.loop-text.reader (g.S.Source.remaining c.loop-text.input) in
     let now = reading c.next.new.self (g.S.Source.remaining c.next.new.input) in
     let read = subst (λ line. Reads was now (Ok line)) c.in-Text.is c.in_ok-text.ensures.reads in
+    let step = subst (λ line. Step c.loop-text.reader c.next.new.self (g.S.Source.remaining c.loop-text.input) (g.S.Source.remaining c.next.new.input) (Ok line)) c.in-Text.is c.in_ok-text.ensures.step in
+    let taken = one_given c.loop-text.reader c.next.new.self _ _ _ texts (c.next.ensures.max_line ∙ before.limits.0) text before.lines.3 step in
+    let ahead = subst (λ line. IsAhead c.next.new.self (Ok line)) c.in-Text.is c.in_ok-text.ensures.ahead in
     let here : number ≡ length texts + 1 = omega (arith, before.lines.1) in
     let at : 1 + length texts ≡ number = omega (arith, before.lines.1) in
     let cut : Cut = cut_lines round_limits (numbered 1 texts) in
@@ -127,22 +130,23 @@ returns-in_err-take_line-clause-wrote g c = λ workers many start begun.
     ∙ ap (λ n. cut_line round_limits cut (line_at n text)) at ∙ ap (λ t. cut_line round_limits cut (line_at number t)) (sym c.as_slice.ensures) in
     let done = before.lines.4 workers many start begun in
     handed_end
-    (λ ended. WroteKept (StatesEveryLayer g.D.Desk.tree) (trees_of g.D.Desk.tree) workers start g.D.Desk.listings g.D.Desk.faults g.P.Keeper.keeps g.P.Keeper.may_keep remaining (g.S.Source.remaining c.next.new.input)
-    (g.K.Sink.contents c.args.output.now) (g.K.Sink.contents c.take_line.new.output) c.args.desks.now c.take_line.new.desks (c.args.keeper.now, c.args.disk.now) (c.take_line.new.keeper, c.take_line.new.disk) ended)
+    (λ ended. WroteDone (StatesEveryLayer g.D.Desk.tree) (trees_of g.D.Desk.tree) workers start g.D.Desk.listings g.D.Desk.faults (g.P.RoundKeeper.ends g.D.Desk.tree) (g.P.RoundKeeper.may_stop g.D.Desk.tree) remaining (g.S.Source.remaining c.next.new.input)
+    c.args.desks.now c.take_line.new.desks ((c.args.keeper.now, c.args.disk.now), g.K.Sink.contents c.args.output.now) ((c.take_line.new.keeper, c.take_line.new.disk), g.K.Sink.contents c.take_line.new.output) ended)
     (stop.Output error) c.from_residual-in_err-take_line.result c.from_residual-in_err-take_line.ensures.1
-    (wrote_part (StatesEveryLayer g.D.Desk.tree) (trees_of g.D.Desk.tree) workers start g.D.Desk.listings g.D.Desk.faults g.P.Keeper.keeps g.P.Keeper.may_keep remaining (g.S.Source.remaining c.next.new.input) _ _ _ _ _ _ error
-    (stopped_at (StatesEveryLayer g.D.Desk.tree) (trees_of g.D.Desk.tree) workers start g.D.Desk.listings g.D.Desk.faults g.P.Keeper.keeps g.P.Keeper.may_keep remaining (g.S.Source.remaining c.next.new.input) texts _ _ _ _ _ _ _ _ _ _ done
-    (texts ++ text ∷ []) (cut_line round_limits cut (line_at number c.as_slice.result.now)) _ _ _ error
+    (wrote_part (StatesEveryLayer g.D.Desk.tree) (trees_of g.D.Desk.tree) workers start g.D.Desk.listings g.D.Desk.faults (g.P.RoundKeeper.ends g.D.Desk.tree) (g.P.RoundKeeper.may_stop g.D.Desk.tree) remaining (g.S.Source.remaining c.next.new.input) _ _ _ _ error
+    (stopped_at (StatesEveryLayer g.D.Desk.tree) (trees_of g.D.Desk.tree) workers start g.D.Desk.listings g.D.Desk.faults (g.P.RoundKeeper.ends g.D.Desk.tree) (g.P.RoundKeeper.may_stop g.D.Desk.tree) remaining (g.S.Source.remaining c.next.new.input) texts _ _ _ _ _ _ _ _ done
+    text (cut_line round_limits cut (line_at number c.as_slice.result.now)) _ _ error
     (given_first c.args.reader.now remaining now (texts ++ text ∷ [])
     (fresh_reader c.args.reader.now c.requires.fresh.0 c.requires.fresh.1 c.requires.begins c.requires.limits.0 c.requires.limits.1 remaining) (reads_more _ was now texts text before.lines.2 read))
+    (no_further c.next.new.self remaining (g.S.Source.remaining c.next.new.input) (texts ++ text ∷ []) text taken ahead)
     (sym next)
-    (c.in_err-take_line.ensures.stops workers (before.count ∙ many) start cut (length texts) done.done.more here done.begun done.done.served)))
+    (c.in_err-take_line.ensures.stops workers (before.count ∙ many) start cut (length texts) done.more here done.begun done.served)))
 
 -- all lines were given
 pub returns-clause-wrote : goal.returns-clause-wrote
 returns-clause-wrote g c = λ workers many start begun.
     let before = c.loop-text.invariant in
-    wrote_all (StatesEveryLayer g.D.Desk.tree) (trees_of g.D.Desk.tree) workers start g.D.Desk.listings g.D.Desk.faults g.P.Keeper.keeps g.P.Keeper.may_keep (g.S.Source.remaining c.args.input.now) (g.S.Source.remaining c.next.new.input) before.lines.0 _ _ _ _ _ _ _ _ _ _ (before.lines.4 workers many start begun)
+    wrote_all (StatesEveryLayer g.D.Desk.tree) (trees_of g.D.Desk.tree) workers start g.D.Desk.listings g.D.Desk.faults (g.P.RoundKeeper.ends g.D.Desk.tree) (g.P.RoundKeeper.may_stop g.D.Desk.tree) (g.S.Source.remaining c.args.input.now) (g.S.Source.remaining c.next.new.input) before.lines.0 _ _ _ _ _ _ _ _ (before.lines.4 workers many start begun)
 
 pub returns-in_err-text-clause-limit : goal.returns-in_err-text-clause-limit
 returns-in_err-text-clause-limit g c =

@@ -16,8 +16,8 @@ invariant-loop-text g l = record {
   lines : (texts : List (List ℕ)) × (length texts ≡ l.number) × HasRead (reading l.fn.reader (g.S.Source.remaining l.fn.input)) (reading l.reader (g.S.Source.remaining l.input)) texts
       × AreTaken l.reader (g.S.Source.remaining l.fn.input) (g.S.Source.remaining l.input) texts
       × ((workers : ℕ) → length l.fn.desks ≡ workers → (start : Moment)
-      → Done (StatesEveryLayer g.D.Desk.tree) (trees_of g.D.Desk.tree) workers start g.D.Desk.listings g.D.Desk.faults g.P.Keeper.keeps [] l.fn.round.taken l.fn.round.bytes (g.P.Keeper.notes l.fn.round.noted) (moment_of (trees_of g.D.Desk.tree) g.L.Identity.limits l.fn.service.hub) (g.K.Sink.contents l.fn.output) (g.K.Sink.contents l.fn.output) l.fn.desks l.fn.desks (l.fn.keeper, l.fn.disk) (l.fn.keeper, l.fn.disk)
-      → Done (StatesEveryLayer g.D.Desk.tree) (trees_of g.D.Desk.tree) workers start g.D.Desk.listings g.D.Desk.faults g.P.Keeper.keeps texts l.round.taken l.round.bytes (g.P.Keeper.notes l.round.noted) (moment_of (trees_of g.D.Desk.tree) g.L.Identity.limits l.service.hub) (g.K.Sink.contents l.fn.output) (g.K.Sink.contents l.output) l.fn.desks l.desks (l.fn.keeper, l.fn.disk) (l.keeper, l.disk));
+      → Done (StatesEveryLayer g.D.Desk.tree) (trees_of g.D.Desk.tree) workers start g.D.Desk.listings g.D.Desk.faults (g.P.RoundKeeper.ends g.D.Desk.tree) [] l.fn.round.taken l.fn.round.bytes (g.P.Keeper.notes l.fn.round.noted) (moment_of (trees_of g.D.Desk.tree) g.L.Identity.limits l.fn.service.hub) l.fn.desks l.fn.desks ((l.fn.keeper, l.fn.disk), g.K.Sink.contents l.fn.output) ((l.fn.keeper, l.fn.disk), g.K.Sink.contents l.fn.output)
+      → Done (StatesEveryLayer g.D.Desk.tree) (trees_of g.D.Desk.tree) workers start g.D.Desk.listings g.D.Desk.faults (g.P.RoundKeeper.ends g.D.Desk.tree) texts l.round.taken l.round.bytes (g.P.Keeper.notes l.round.noted) (moment_of (trees_of g.D.Desk.tree) g.L.Identity.limits l.service.hub) l.fn.desks l.desks ((l.fn.keeper, l.fn.disk), g.K.Sink.contents l.fn.output) ((l.keeper, l.disk), g.K.Sink.contents l.output));
   seen : l.reader.ended ≡ true → IsAtEnd (g.S.Source.remaining l.input);
   limits : (l.reader.max_line ≡ 67108864) × (l.reader.max_input ≡ 2 ^ 36);
   taken : IsTakenTo l.fn.reader.taken l.reader.taken (g.S.Source.remaining l.fn.input) (g.S.Source.remaining l.input);
