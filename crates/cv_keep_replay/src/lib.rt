@@ -10,6 +10,7 @@
 
 mod counts;
 mod error;
+mod laws;
 mod limits;
 mod ready;
 mod record;
@@ -18,6 +19,7 @@ mod start;
 mod submit;
 
 pub use error::ReplayError;
+pub use laws::good_laws;
 pub use limits::MAX_WORKERS;
 pub use resumed::Resumed;
 pub use start::replay;

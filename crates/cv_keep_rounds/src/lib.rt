@@ -10,6 +10,7 @@
 #![tactic(auto)]
 
 mod bytes;
+mod ending;
 mod keeper;
 mod lookup;
 
