@@ -138,7 +138,7 @@ module _ {D J : Type 0} (contents : J → Option (List ℕ)) (keep_faults : J �
   torn_later all h = last_later h.torn.whole h.torn.last h.middle h.torn.between (faults_later contents keep_faults x h.torn.whole h.middle h.kept) h.last
 
   stops_later : (all : List Round) (e : WriteError) → StopsKept known trees workers start listings faults (IsKept contents keep_faults) (MayBeKept contents keep_faults) all [] w v l n x y e → keep_faults x.1 ≤ keep_faults y.1
-  stops_later all write.WriteFault h = torn_later all h
+  stops_later all write.WriteFault h = torn_later all h.0
   stops_later all write.NoMemory (inl h) = torn_later all h
   stops_later all write.NoMemory (inr h) = faults_later contents keep_faults x h.unfinished.whole y h.kept
 
@@ -158,9 +158,10 @@ module _ {D J : Type 0} (contents : J → Option (List ℕ)) (keep_faults : J �
     -- and it rose if the remembered error blames the disk
     disk_rose : y.0.error ≡ Some keep.DiskFault → Rose (keep_faults x.1) (keep_faults y.1)
     disk_rose some =
-        let there = (stops_there contents keep_faults known trees workers start x y w v listings faults l n keep.DiskFault none some remaining remaining_now ended h).0 in
+        let stop = (stops_there contents keep_faults known trees workers start x y w v remaining listings faults l n keep.DiskFault none some remaining_now ended h).0 in
+        let there = stop.refusal in
         let is : there.refused.error ≡ keep.DiskFault = some_same y.0.error there.refused.error keep.DiskFault there.refused.remembered some in
-        rose_later (keep_faults x.1) (keep_faults there.middle.1) (keep_faults y.1) (faults_later contents keep_faults x there.rounds there.middle there.kept)
+        rose_later (keep_faults x.1) (keep_faults there.middle.1) (keep_faults y.1) (faults_later contents keep_faults x stop.rounds there.middle there.kept)
         (blamed_rose (keep_faults there.middle.1) (keep_faults y.1) _ there.refused.cause (blames there.refused.error is))
       where
         blames : (e : KeepError) → e ≡ keep.DiskFault → is_disk_error e ≡ true

@@ -18,7 +18,7 @@ use Rattle.cv_serve_kept.specs.code.Stops.{end_of}
 use Rattle.cv_serve_kept.specs.declared.stop.Stop.TheVariants as stop
 use Rattle.cv_serve_kept.proofs.Keepers.{behind, has_room, is_full, may_less, refused_less, round_less, same_if_full}
 use Rattle.cv_serve_kept.proofs.Mapping.{if_served_less, kept_less, wrote_less}
-use Rattle.cv_serve_kept.proofs.Stopping.{StopsThere, stops_there}
+use Rattle.cv_serve_kept.proofs.Stopping.{RefusesLast, StopsThere, stops_there}
 use Rattle.cv_serve_kept.proofs.Writing.{keeps_written}
 
 module _ {D J : Type 0} (tree : DeskTrees) (workers : ℕ) (listings faults : D → ℕ) (contents : J → Option (List ℕ)) (keep_faults : J → ℕ) (start : Moment)
@@ -77,28 +77,38 @@ module _ {D J : Type 0} (tree : DeskTrees) (workers : ℕ) (listings faults : D 
     served_there : Wrote end.NoMemory → HasServed tree workers listings faults before now end.NoMemory
     served_there h = has_served end.NoMemory (λ known is. absurd (no_memory_done is)) h
 
-    module _ (there : StopsThere contents keep_faults Known (trees_of tree) workers start x y between written_now) (wrote : Wrote end.NoMemory) where
-      stops_for : (Why : Option (List (List ℕ)) → WholeRound → Type 0) → Why (behind contents keep_faults there.middle) there.last → StopsAtRecord tree workers listings faults Why before now
+    module _ (there : StopsThere contents keep_faults Known (trees_of tree) workers start x y between written_now remaining listings faults middle desks_now) (wrote : Wrote end.NoMemory) where
+      abbrev last_refused : RefusesLast contents keep_faults Known (trees_of tree) workers start x y between written_now remaining listings faults middle desks_now there.rounds there.last
+      last_refused = there.refusal
+
+      stops_for : (Why : Option (List (List ℕ)) → WholeRound → Type 0) → Why (behind contents keep_faults last_refused.middle) there.last → StopsAtRecord tree workers listings faults Why before now
       unfolding served_there has_served
       stops_for Why why = record {
         served = served_there wrote;
         rounds = there.rounds;
         last = there.last;
+        texts = there.texts;
+        are_all = there.are_all;
+        given = there.given;
+        all = there.all;
+        ended = there.ended;
+        joined = there.joined;
         legal = there.legal;
-        found = behind contents keep_faults there.middle;
+        counts = there.counts;
+        found = behind contents keep_faults last_refused.middle;
         records = kept_less (behind contents keep_faults) (IsKept contents keep_faults) (MayBeKept contents keep_faults) IsRoundKept MayBeRoundKept
-            (round_less contents keep_faults) (may_less contents keep_faults) x there.rounds there.middle there.kept;
-        last_kept = refused_less contents keep_faults there.middle there.last there.bytes y there.of_last there.refused;
-        lines = there.lines;
+            (round_less contents keep_faults) (may_less contents keep_faults) x there.rounds last_refused.middle last_refused.kept;
+        last_kept = refused_less contents keep_faults last_refused.middle there.last last_refused.bytes y last_refused.of_last last_refused.refused;
+        lines = last_refused.lines;
         why = why;
       }
 
-      stop_ends : (e : KeepError) → there.refused.error ≡ e → KeptEnds tree workers listings faults before now (end_of (Err (stop.Keep e)))
+      stop_ends : (e : KeepError) → last_refused.refused.error ≡ e → KeptEnds tree workers listings faults before now (end_of (Err (stop.Keep e)))
       unfolding stops_for
-      stop_ends keep.DiskFault is = inr (stops_for HasRoomFor (has_room contents keep_faults there.middle there.last there.bytes y there.of_last there.refused (λ full. cc (is, full))))
+      stop_ends keep.DiskFault is = inr (stops_for HasRoomFor (has_room contents keep_faults last_refused.middle there.last last_refused.bytes y last_refused.of_last last_refused.refused (λ full. cc (is, full))))
       stop_ends keep.Full is = (
-        stops_for IsFullFor (is_full contents keep_faults there.middle there.last there.bytes y there.of_last there.refused is),
-        same_if_full contents keep_faults there.middle there.last there.bytes y there.of_last there.refused is,
+        stops_for IsFullFor (is_full contents keep_faults last_refused.middle there.last last_refused.bytes y last_refused.of_last last_refused.refused is),
+        same_if_full contents keep_faults last_refused.middle there.last last_refused.bytes y last_refused.of_last last_refused.refused is,
       )
       stop_ends keep.NoMemory is = inr (inr (served_there wrote))
 
@@ -108,8 +118,8 @@ module _ {D J : Type 0} (tree : DeskTrees) (workers : ℕ) (listings faults : D 
     -- by the error that is remembered
     pub ends_with : (ended : ServeEnd) (e : KeepError) → x.0.error ≡ None → y.0.error ≡ Some e → Wrote ended → KeptEnds tree workers listings faults before now (end_of (Err (stop.Keep e)))
     ends_with ended e none some h =
-        let both = stops_there contents keep_faults Known (trees_of tree) workers start x y between written_now listings faults middle desks_now e none some remaining remaining_now ended h in
-        stop_ends both.0 both.1 e (some_same y.0.error both.0.refused.error e both.0.refused.remembered some)
+        let both = stops_there contents keep_faults Known (trees_of tree) workers start x y between written_now remaining listings faults middle desks_now e none some remaining_now ended h in
+        stop_ends both.0 both.1 e (some_same y.0.error both.0.refusal.refused.error e both.0.refusal.refused.remembered some)
 
     pub ends_without : (ended : ServeEnd) → Done ended → Wrote ended → KeptEnds tree workers listings faults before now (end_of (Ok ended))
     ends_without ended done wrote = served_ends ended (has_served ended done wrote)

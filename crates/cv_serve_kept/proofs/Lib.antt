@@ -2,6 +2,7 @@ pub mod Causes
 pub mod Ending
 pub mod Keepers
 pub mod Mapping
+pub mod Reported
 pub mod Resuming
 pub mod Starting
 pub mod Stopping

@@ -24,7 +24,7 @@ module _ {X Y : Type 0} (f : X → Y) (keeps may_keep : X → WholeRound → X �
   last_less x round y w v (inr (may, same)) = inr (may_less x round y may, same)
 
   module _ {D : Type 0} (known : Type 0) (trees : Trees) (workers : ℕ) (start : Moment) (listings faults : D → ℕ) (w v : Option (List ℕ)) (l n : List D) (x y : X) where
-    torn_less : (all : List Round) (earlier : List WholeRound) → TornKept known trees workers start listings faults keeps may_keep all earlier w v l n x y
+    abbrev torn_less : (all : List Round) (earlier : List WholeRound) → TornKept known trees workers start listings faults keeps may_keep all earlier w v l n x y
         → TornKept known trees workers start listings faults keeps_less may_keep_less all earlier w v l n (f x) (f y)
     torn_less all earlier h = record {
       torn = h.torn;
@@ -39,18 +39,19 @@ module _ {X Y : Type 0} (f : X → Y) (keeps may_keep : X → WholeRound → X �
 
     stops_less : (all : List Round) (earlier : List WholeRound) (e : WriteError) → StopsKept known trees workers start listings faults keeps may_keep all earlier w v l n x y e
         → StopsKept known trees workers start listings faults keeps_less may_keep_less all earlier w v l n (f x) (f y) e
-    stops_less all earlier error.WriteFault h = torn_less all earlier h
+    stops_less all earlier error.WriteFault h = (torn_less all earlier h.0, less h.0.middle h.0.torn.last y h.1)
     stops_less all earlier error.NoMemory (inl h) = inl (torn_less all earlier h)
     stops_less all earlier error.NoMemory (inr h) = inr (unfinished_less all earlier h)
 
-    stopped_less : (remaining : Option (List ℕ)) (e : WriteError) → IsStoppedKept known trees workers start listings faults keeps may_keep remaining w v l n x y e
-        → IsStoppedKept known trees workers start listings faults keeps_less may_keep_less remaining w v l n (f x) (f y) e
-    stopped_less remaining e h = record {
+    stopped_less : (remaining remaining_now : Option (List ℕ)) (e : WriteError) → IsStoppedKept known trees workers start listings faults keeps may_keep remaining remaining_now w v l n x y e
+        → IsStoppedKept known trees workers start listings faults keeps_less may_keep_less remaining remaining_now w v l n (f x) (f y) e
+    stopped_less remaining remaining_now e h = record {
       texts = h.texts;
       are_all = h.are_all;
       given = h.given;
       all = h.all;
       ended = h.ended;
+      at_once = h.at_once;
       stops = stops_less h.all [] e h.stops;
     }
 
@@ -61,8 +62,8 @@ module _ {X Y : Type 0} (f : X → Y) (keeps may_keep : X → WholeRound → X �
     wrote_less remaining remaining_now end.ReadFault h = record { served = h.served; kept = kept_less x h.served.rounds y h.kept }
     wrote_less remaining remaining_now end.LineTooLong h = record { served = h.served; kept = kept_less x h.served.rounds y h.kept }
     wrote_less remaining remaining_now end.InputTooLong h = record { served = h.served; kept = kept_less x h.served.rounds y h.kept }
-    wrote_less remaining remaining_now end.WriteFault h = stopped_less remaining error.WriteFault h
-    wrote_less remaining remaining_now end.NoMemory h = stopped_less remaining error.NoMemory h
+    wrote_less remaining remaining_now end.WriteFault h = stopped_less remaining remaining_now error.WriteFault h
+    wrote_less remaining remaining_now end.NoMemory h = stopped_less remaining remaining_now error.NoMemory h
 
     -- and what a service did that is done
     pub served_less : (bytes : List ℕ) → IsServedKept trees workers start listings faults keeps bytes w v l n x y → IsServedKept trees workers start listings faults keeps_less bytes w v l n (f x) (f y)

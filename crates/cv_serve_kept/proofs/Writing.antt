@@ -18,7 +18,7 @@ use Rattle.cv_serve_legal.specs.Replay.{Moment}
 use Rattle.cv_serve_legal.specs.Rounds.{Round}
 use Rattle.cv_serve_legal.specs.Whole.{AreWholeRounds, WholeRound, entries_in}
 use Rattle.cv_serve_legal.proofs.Whole.{joined_entries, joined_rounds}
-use Rattle.cv_serve_round.specs.Further.{AreTornRounds}
+use Rattle.cv_serve_round.specs.Stops.{AreTornRounds}
 use Rattle.cv_serve_round.specs.Kept.{AreKept, IsKeptOrUnwritten, StopsKept, TornKept}
 use Rattle.cv_serve.specs.Kept.{IsServedUpToKept, WroteKept}
 use Rattle.cv_serve.specs.declared.end.ServeEnd.{ServeEnd}
@@ -108,7 +108,7 @@ module _ (tree : DeskTrees) (workers : ℕ) (start : Moment) (kept kept_now : Re
     keeps_torn all h = keeps_last h.torn.whole h.torn.last h.middle h.torn.between h.torn.legal h.kept h.torn.lines h.torn.part h.last
 
     keeps_stopped : (all : List Round) (e : WriteError) → StopsKept (StatesEveryLayer tree) (trees_of tree) workers start listings faults IsRoundKept MayBeRoundKept all [] w v l n kept kept_now e → Keeps
-    keeps_stopped all error.WriteFault h = keeps_torn all h
+    keeps_stopped all error.WriteFault h = keeps_torn all h.0
     keeps_stopped all error.NoMemory (inl h) = keeps_torn all h
     keeps_stopped all error.NoMemory (inr h) = keeps_all h.unfinished.whole h.unfinished.after _ h.unfinished.legal h.kept h.unfinished.lines refl
 

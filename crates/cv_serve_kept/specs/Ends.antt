@@ -1,13 +1,17 @@
 -- How a kept service ends (defined by this project).
-use Rattle.std.specs.Prelude.{◌≡◌, ◌⊎◌, ⊤, ℕ, ◌^◌, List, ◌∷◌, Option}
+use Rattle.std.specs.Prelude.{◌≡◌, ◌⊎◌, ⊤, ℕ, ◌^◌, List, ◌∷◌, Option, IfSome}
 use Rattle.std.specs.Io.KnownBytes.{IsAtEnd}
 use Rattle.cv_seq.specs.Cause.{Rose}
+use Rattle.cv_core_machine.specs.Scans.{trees_of}
 use Rattle.cv_hub_seats.specs.Events.{DeskTrees}
+use Rattle.cv_keep_record.specs.declared.event.KeptEvent.{KeptEvent}
+use Rattle.cv_keep_replay.specs.Good.{AreGoodFrom, IsFirstBad, start_of}
 use Rattle.cv_scan_input.specs.Taken.{IsTaken, IsTakenWithin}
+use Rattle.cv_serve_legal.specs.Replay.{Moment}
 use Rattle.cv_serve.specs.Served.{FitsInput, TakesUpTo}
 use Rattle.cv_serve.specs.declared.end.ServeEnd.TheVariants as end
 use Rattle.cv_serve_kept.specs.Rounds.{HasRoomFor, HasServed, IsFullFor, StopsAtRecord}
-use Rattle.cv_serve_kept.specs.Start.{IsEndedFirst, KeptWorld, WroteBadKeep, WroteFront, WroteNothing}
+use Rattle.cv_serve_kept.specs.Start.{IsEndedFirst, KeptWorld, WroteBadKeep, WroteFront, WroteNothing, service_limits}
 use Rattle.cv_serve_kept.specs.declared.end.KeptEnd.{KeptEnd}
 use Rattle.cv_serve_kept.specs.declared.end.KeptEnd.TheVariants as kept
 
@@ -30,6 +34,12 @@ KeptEnds tree workers listings faults before now kept.KeepFault =
 KeptEnds tree workers listings faults before now kept.BadKeep = IsEndedFirst listings faults (WroteBadKeep tree before.kept) before now
 KeptEnds tree workers listings faults before now kept.KeepFull =
     (stops : StopsAtRecord tree workers listings faults IsFullFor before now) × (now.kept ≡ stops.found)
+
+-- A service ends with this end, `Bad`, that says so exactly if a record of its file is not good: never if all are good one after the other,
+-- and always if one is not, unless something failed first, `Failed`, or memory ran out, `NoMemory`
+pub record ReportsBadKeep (tree : DeskTrees) (kept : Option (List (List ℕ))) (Failed Bad NoMemory : Type 0) : Type 0 where
+  pub good : IfSome kept (λ records. (events : List KeptEvent) (after : Moment) → AreGoodFrom (trees_of tree) (start_of service_limits) records events after → Bad → ⊥)
+  pub bad : IfSome kept (λ records. (k : ℕ) → IsFirstBad (trees_of tree) (start_of service_limits) records k → ¬ Failed → Bad ⊎ NoMemory)
 
 -- an end fits the input, as that of a service does
 abbrev pub FitsKept : Option (List ℕ) → KeptEnd → Type 0

@@ -1,6 +1,6 @@
 -- What a service keeps that goes on (defined by this project): the records of its file are those of before and then those of whole rounds,
 -- and the lines of a round are written after its record is kept. A service that is stopped by its file ends as one that ran out of memory.
-use Rattle.std.specs.Prelude.{◌≡◌, ◌⊎◌, ℕ, ◌+◌, ◌<◌, ◌≤◌, ◌^◌, List, ◌++◌, length, Option, option_map, IfSome}
+use Rattle.std.specs.Prelude.{◌≡◌, ◌⊎◌, ℕ, ◌+◌, ◌<◌, ◌≤◌, ◌^◌, Bool, List, [], ◌∷◌, ◌++◌, length, Option, option_map, IfSome}
 use Rattle.std.specs.Io.KnownBytes.{Appends}
 use Rattle.std.specs.List.{AllByRecursion, flat_map}
 use Rattle.cv_io.specs.Writes.{AppendsPrefix}
@@ -10,10 +10,13 @@ use Rattle.cv_hub_seats.specs.Events.{DeskTrees}
 use Rattle.cv_keep.specs.Records.{gate_after}
 use Rattle.cv_keep_rounds.specs.Rounds.{AreRecordsOf, IsRecordOf}
 use Rattle.cv_serve_legal.specs.Replay.{Moment}
-use Rattle.cv_serve_legal.specs.Whole.{AreWholeRounds, WholeRound, entries_in}
-use Rattle.cv_serve_round.specs.Further.{AreTornRounds}
+use Rattle.cv_serve_legal.specs.Rounds.{Round}
+use Rattle.cv_serve_legal.specs.Whole.{AreWholeRounds, WholeRound, entries_in, lines_in}
+use Rattle.cv_serve_round.specs.Stops.{AreTornRounds}
 use Rattle.cv_serve_round.specs.Kept.{AreKept}
+use Rattle.cv_serve_round.specs.Round.{DesksCounted}
 use Rattle.cv_serve.specs.Kept.{IsServedKept, WroteKept}
+use Rattle.cv_serve.specs.Served.{AreGiven, AreRoundsEnded}
 use Rattle.cv_serve.specs.declared.end.ServeEnd.{ServeEnd}
 use Rattle.cv_serve.specs.declared.end.ServeEnd.TheVariants as end
 use Rattle.cv_serve_kept.specs.Start.{IsResumed, KeptWorld}
@@ -67,12 +70,19 @@ pub record HasServed {D : Type 0} (tree : DeskTrees) (workers : ℕ) (listings f
   pub keeps : KeepsBeforeWriting tree workers start before.kept now.kept between now.written
 
 -- the service went on, and a round was run whose record was not appended, for this reason. The rounds before it were kept, and their lines
--- written, and nothing was written of the last one
+-- written, and nothing was written of the last one. With those before it, the last round is all that ended of the lines that were given
 pub record StopsAtRecord {D : Type 0} (tree : DeskTrees) (workers : ℕ) (listings faults : D → ℕ) (Why : Option (List (List ℕ)) → WholeRound → Type 0) (before now : KeptWorld D) : Type 0 where
   pub served : HasServed tree workers listings faults before now end.NoMemory
   pub rounds : List WholeRound
   pub last : WholeRound
+  pub texts : List (List ℕ)
+  pub are_all : Bool
+  pub given : AreGiven are_all before.remaining texts
+  pub all : List Round
+  pub ended : AreRoundsEnded are_all texts all
+  pub joined : lines_in rounds ++ last.lines ∷ [] ≡ all
   pub legal : StatesEveryLayer tree → AreTornRounds (trees_of tree) workers served.start rounds last
+  pub counts : DesksCounted listings faults 0 served.middle now.desks (entries_in rounds ++ last.entries)
   pub found : Option (List (List ℕ))
   pub records : AreKept IsRoundKept before.kept rounds found
   pub last_kept : MayBeRoundKept found last now.kept

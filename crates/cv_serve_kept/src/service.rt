@@ -1,12 +1,13 @@
-ghost use Rattle.std.specs.Prelude.{◌≡◌, [], ◌+◌, ◌<◌, ◌≤◌, ◌^◌, drop, false, length, option_map, take, true, All};
+ghost use Rattle.std.specs.Prelude.{◌≡◌, ◌⊎◌, [], ◌+◌, ◌<◌, ◌≤◌, ◌^◌, drop, false, length, option_map, take, true, All};
 ghost use Rattle.std.specs.List.{AllByRecursion};
 ghost use Rattle.cv_seq.specs.Cause.{Rose};
 ghost use Rattle.cv_core.specs.Core.{opened};
+ghost use Rattle.cv_core_machine.specs.Scans.{StatesEveryLayer};
 ghost use Rattle.cv_keep.specs.Journal.{Belongs};
 ghost use Rattle.cv_keep.specs.Records.{records};
 ghost use Rattle.cv_hub.specs.Seats.{AreFresh};
 ghost use Rattle.cv_serve_round.specs.Round.{AreRoundSeats};
-ghost use Rattle.cv_serve_kept.specs.Ends.{FirstRose, KeptEnds, ReadsInput};
+ghost use Rattle.cv_serve_kept.specs.Ends.{FirstRose, KeptEnds, ReadsInput, ReportsBadKeep};
 ghost use Rattle.cv_serve_kept.specs.Start.{service_limits};
 ghost use Rattle.cv_serve_kept.specs.code.Stops.{end_of};
 
@@ -58,6 +59,9 @@ pub fn serve_kept<
     ensures write_fault { result ≡ KeptEnd.Served ServeEnd.WriteFault → Rose (K.faults output.old) (K.faults output.new) }
     ensures keep_fault { result ≡ KeptEnd.KeepFault → Rose (J.faults disk.old) (J.faults disk.new) }
     ensures desk_fault { result ≡ KeptEnd.DeskFault → FirstRose D.faults (take workers desks.old.items) (take workers desks.new.items) }
+    ensures bad_keep { StatesEveryLayer D.tree → ReportsBadKeep D.tree (option_map records (J.contents disk.old))
+        (Rose (K.faults output.old) (K.faults output.new) ⊎ Rose (J.faults disk.old) (J.faults disk.new) ⊎ FirstRose D.faults (take workers desks.old.items) (take workers desks.new.items))
+        (result ≡ KeptEnd.BadKeep) (result ≡ KeptEnd.Served ServeEnd.NoMemory) }
 {
     let (mine, _others) = desks.as_mut_slice().split_at_mut(workers as usize);
     end_of(serve_over(rt, alloc, input, output, disk, mine))
