@@ -1,7 +1,8 @@
 -- How a run of `keep` ends.
-use Rattle.std.specs.Prelude.{◌≡◌, ℕ, zero, suc, ◌≤◌, ◌^◌, ◌&&◌, nat_le, Bool, true, false, if◌then◌else◌, List, [], ◌∷◌, codes, length, min, take, Option, Some, None, IfSome, is_some, refl}
-use Rattle.std.proofs.Common.{◌⊎◌, arith, inl, inr, subst, sym, ◌∙◌}
+use Rattle.std.specs.Prelude.{◌≡◌, ℕ, zero, suc, ◌-◌, ◌≤◌, ◌^◌, ◌&&◌, nat_le, Bool, true, false, if◌then◌else◌, List, [], ◌∷◌, codes, length, min, take, drop, map, Option, Some, None, IfSome, is_some, option_map, refl}
+use Rattle.std.proofs.Common.{◌⊎◌, ap, arith, get_or, inl, inr, subst, sym, ◌∙◌}
 use Rattle.std.proofs.lemmas.Bool.{leb-true}
+use Rattle.std.proofs.lemmas.List.{take_all}
 use Rattle.cv_base.specs.Texts.{same}
 use Rattle.cv_base.proofs.Same.{same_is}
 use Rattle.cv_io.specs.Lines.{Finished, Stop}
@@ -14,12 +15,15 @@ use Rattle.cv_command.specs.declared.status.Status.TheVariants as status
 use Rattle.cv_command_arguments.specs.Forms.{workers_of}
 use Rattle.cv_serve.specs.Served.{FitsInput}
 use Rattle.cv_serve.specs.declared.end.ServeEnd.TheVariants as end
-use Rattle.cv_serve_kept.specs.Ends.{FitsKept, FirstRose as FirstRises}
+use Rattle.cv_core_machine.specs.Scans.{StatesEveryLayer}
+use Rattle.cv_keep.specs.Records.{records}
+use Rattle.cv_serve_kept.specs.Ends.{FitsKept, FirstRose as FirstRises, ReportsBadKeep}
 use Rattle.cv_serve_kept.specs.declared.end.KeptEnd.{KeptEnd}
 use Rattle.cv_serve_kept.specs.declared.end.KeptEnd.TheVariants as kept
+use Rattle.cv_serve_kept.proofs.Reported.{reports_as, reports_bad}
 use Rattle.cv_serve_kept.proofs.Starting.{nothing_done}
 use Rattle.cv_run.specs.Arguments.{command_of}
-use Rattle.cv_run.specs.Keep.{CompletesKept, IsKeptService, KeepEnds, RunsKept, asked_count, keep_count, keep_options, kept_status}
+use Rattle.cv_run.specs.Keep.{CompletesKept, IsKeptService, KeepEnds, ReportsBadRecord, RunsKept, asked_count, keep_count, keep_options, kept_status, kept_world}
 use Rattle.cv_run.specs.Run.{FirstRose, IsService, KeepsLimits}
 use Rattle.cv_run.specs.Service.{worker_count}
 use Rattle.cv_run.proofs.Unread.{nothing_written}
@@ -40,18 +44,18 @@ at_least_one : (asked : Option ℕ) (desks count : ℕ) → 1 ≤ desks → work
 at_least_one None desks count some h = let same : min 4 desks ≡ count = cc h in omega (arith, same, some)
 at_least_one (Some workers) desks count some h = by_within workers desks count (nat_le 1 workers) (nat_le workers desks) refl h
 
-one_at_least : (found : Option (Option ℕ)) (desks count : ℕ) → 1 ≤ desks → asked_count found desks ≡ Some count → 1 ≤ count
+pub one_at_least : (found : Option (Option ℕ)) (desks count : ℕ) → 1 ≤ desks → asked_count found desks ≡ Some count → 1 ≤ count
 one_at_least None desks count some h = absurd (cc h)
 one_at_least (Some asked) desks count some h = at_least_one asked desks count some h
 
 -- ---- memory ran out before the arguments were read
 
-some_taken : {D : Type 0} (count : ℕ) (desks : List D) → 1 ≤ count → 1 ≤ length desks → 1 ≤ length (take count desks)
+pub some_taken : {D : Type 0} (count : ℕ) (desks : List D) → 1 ≤ count → 1 ≤ length desks → 1 ≤ length (take count desks)
 some_taken count [] some has = absurd (omega (arith, has))
 some_taken zero (desk ∷ desks) some has = absurd (omega (arith, some))
 some_taken (suc count) (desk ∷ desks) some has = omega arith
 
-fits_any : (remaining : Option (List ℕ)) → FitsInput remaining end.NoMemory
+pub fits_any : (remaining : Option (List ℕ)) → FitsInput remaining end.NoMemory
 fits_any None = tt
 fits_any (Some bytes) = tt
 
@@ -90,9 +94,22 @@ no_service (name ∷ found) options desks is h = by_test (same name (codes "keep
     by_test false other some = cc some
 
 -- the lines of an input that keeps the limits stop at its end
-stops_finished : (stop : Stop) (remaining : Option (List ℕ)) → KeepsLimits remaining → IfSome remaining (λ bytes. (input_of bytes).stop ≡ stop) → Finished ≡ stop
+pub stops_finished : (stop : Stop) (remaining : Option (List ℕ)) → KeepsLimits remaining → IfSome remaining (λ bytes. (input_of bytes).stop ≡ stop) → Finished ≡ stop
 stops_finished stop None keeps stops = absurd keeps
 stops_finished stop (Some bytes) keeps stops = sym keeps ∙ stops
+
+-- the status of a bad record is of that end alone
+bad_end : (end : KeptEnd) → kept_status end ≡ status.BadKeep → end ≡ kept.BadKeep
+bad_end (kept.Served end.Done) is = absurd (cc is)
+bad_end (kept.Served end.NoMemory) is = absurd (cc is)
+bad_end (kept.Served end.ReadFault) is = absurd (cc is)
+bad_end (kept.Served end.WriteFault) is = absurd (cc is)
+bad_end (kept.Served end.LineTooLong) is = absurd (cc is)
+bad_end (kept.Served end.InputTooLong) is = absurd (cc is)
+bad_end kept.DeskFault is = absurd (cc is)
+bad_end kept.KeepFault is = absurd (cc is)
+bad_end kept.BadKeep is = refl
+bad_end kept.KeepFull is = absurd (cc is)
 
 module _ (remaining : Option (List ℕ)) (reads reads_now writes writes_now keeps keeps_now : ℕ) (FirstRises : Type 0) (ended : Status)
     (read : ended ≡ status.ReadFault → Rose reads reads_now) (write : ended ≡ status.WriteFault → Rose writes writes_now)
@@ -118,6 +135,22 @@ module _ (remaining : Option (List ℕ)) (reads reads_now writes writes_now keep
     count_completes None h some quiet = absurd (cc some)
     count_completes (Some count) h some quiet = end_completes h.end h.status (subst (λ r. FitsKept r h.end) same h.reads.fits) quiet
 
+    count_reports : (known : StatesEveryLayer trees) (count : Option ℕ) → KeepEnds trees rest listings faults contents count before now disk disk_now ended → is_some count ≡ true
+        → ReportsBadKeep trees (option_map records (contents disk)) (Rose writes writes_now ⊎ Rose keeps keeps_now ⊎ FirstRises) (ended ≡ status.BadKeep) (ended ≡ status.NoMemory)
+    count_reports known None h some = absurd (cc some)
+    count_reports known (Some count) h some =
+        reports_as trees (option_map records (contents disk)) (Rose writes writes_now ⊎ Rose keeps keeps_now ⊎ FirstRises) (h.end ≡ kept.BadKeep) (h.end ≡ kept.Served end.NoMemory) (ended ≡ status.BadKeep) (ended ≡ status.NoMemory)
+        (λ is. bad_end h.end (h.status ∙ is)) (λ is. sym h.status ∙ ap kept_status is) (λ is. sym h.status ∙ ap kept_status is)
+        (reports_bad trees known count listings faults (kept_world rest contents count before disk) (kept_world rest contents count now disk_now) (Rose writes writes_now ⊎ Rose keeps keeps_now ⊎ FirstRises) h.end h.ends
+        (λ is. inl (write (sym h.status ∙ ap kept_status is))) (λ is. inr (inl (keep (sym h.status ∙ ap kept_status is)))) (λ is. inr (inr (first (sym h.status ∙ ap kept_status is)))))
+
+    pub run_reports : (arguments : List (List ℕ)) (found : Option (List (List ℕ))) → keep_options arguments ≡ found
+        → RunsKept found trees rest listings faults contents arguments before now disk disk_now ended
+        → ReportsBadRecord arguments (length before.desks) trees (option_map records (contents disk)) writes writes_now keeps keeps_now FirstRises ended
+    run_reports arguments None is h = λ service known. absurd (subst (λ o. IsKeptService o (length before.desks)) is service)
+    run_reports arguments (Some options) is h = λ service known.
+        count_reports known (keep_count options (length before.desks)) h (subst (λ o. IsKeptService o (length before.desks)) is service)
+
     -- the run of `keep`, or of another command
     pub run_completes : (arguments : List (List ℕ)) (found : Option (List (List ℕ))) → keep_options arguments ≡ found
         → RunsKept found trees rest listings faults contents arguments before now disk disk_now ended
@@ -125,6 +158,17 @@ module _ (remaining : Option (List ℕ)) (reads reads_now writes writes_now keep
     run_completes arguments None is h = λ service limits no_read no_write no_keep no_desk. absurd (subst (λ o. IsKeptService o (length before.desks)) is service)
     run_completes arguments (Some options) is h = λ service limits no_read no_write no_keep no_desk.
         count_completes (keep_count options (length before.desks)) h (subst (λ o. IsKeptService o (length before.desks)) is service) (limits, no_read, no_write, no_keep, no_desk)
+
+-- ---- arguments
+
+-- the first argument is `keep`, and these are the others
+pub options_are : {A : Type 0} (f : A → List ℕ) (arguments : List A) (first : A) → 1 ≤ length arguments → first ≡ get_or arguments 0 first → true ≡ same (f first) (codes "keep")
+    → keep_options (map f arguments) ≡ Some (map f (take (length arguments - 1) (drop 1 arguments)))
+options_are f [] first some is keep = absurd (omega (arith, some))
+options_are f (x ∷ xs) first some is keep =
+    let whole : take (length (x ∷ xs) - 1) xs ≡ xs = take_all (length (x ∷ xs) - 1) xs (omega arith) in
+    let test : same (f x) (codes "keep") ≡ true = subst (λ y. same (f y) (codes "keep") ≡ true) is (sym keep) in
+    ap (λ (b : Bool). if b then Some (map f xs) else None) test ∙ ap (λ l. Some (map f l)) (sym whole)
 
 -- ---- the first desk
 

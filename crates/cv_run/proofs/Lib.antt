@@ -5,5 +5,6 @@ pub mod FaultLines
 pub mod FirstDesk
 pub mod KeepEnds
 pub mod ListRuns
+pub mod PushEnds
 pub mod ShortInput
 pub mod Unread

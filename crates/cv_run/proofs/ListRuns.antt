@@ -6,8 +6,8 @@ use Rattle.cv_command.specs.World.{RunWorld, Trees, World, counts_of, streams, w
 use Rattle.cv_command.specs.declared.status.Status.{Status}
 use Rattle.cv_command.specs.declared.status.Status.TheVariants as status
 use Rattle.cv_command_arguments.proofs.BareForm.{bare_form}
-use Rattle.cv_list_law.proofs.ListRuns.{finds_the_same}
-use Rattle.cv_list_law.specs.SameFindings.{IsDone}
+use Rattle.cv_command.proofs.ListRuns.{finds_the_same}
+use Rattle.cv_command.specs.SameFindings.{IsDone}
 use Rattle.cv_run.specs.Arguments.{command_of}
 use Rattle.cv_run.specs.ListRuns.{IsRun, RunsFindTheSame}
 use Rattle.cv_run.specs.Run.{FirstEnds, RunsAs}

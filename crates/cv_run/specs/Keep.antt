@@ -3,12 +3,13 @@
 use Rattle.std.specs.Prelude.{◌≡◌, ◌⊎◌, ℕ, true, if◌then◌else◌, List, [], ◌∷◌, codes, length, take, Option, Some, None, option_map, is_some}
 use Rattle.cv_base.specs.Texts.{same}
 use Rattle.cv_seq.specs.Cause.{Rose}
+use Rattle.cv_core_machine.specs.Scans.{StatesEveryLayer}
 use Rattle.cv_keep.specs.Records.{records}
 use Rattle.cv_command.specs.World.{RunWorld, Trees}
 use Rattle.cv_command.specs.declared.status.Status.{Status}
 use Rattle.cv_command.specs.declared.status.Status.TheVariants as status
 use Rattle.cv_command_arguments.specs.Forms.{workers_of}
-use Rattle.cv_serve_kept.specs.Ends.{KeptEnds, ReadsInput}
+use Rattle.cv_serve_kept.specs.Ends.{KeptEnds, ReadsInput, ReportsBadKeep}
 use Rattle.cv_serve_kept.specs.Start.{KeptWorld}
 use Rattle.cv_serve_kept.specs.declared.end.KeptEnd.{KeptEnd}
 use Rattle.cv_serve_kept.specs.declared.end.KeptEnd.TheVariants as kept
@@ -71,7 +72,7 @@ abbrev pub RunKeptEnds : {S D J : Type 0} → Trees → (S → Option (List ℕ)
 RunKeptEnds trees remaining listings faults contents arguments before now disk disk_now ended =
     RunsKept (keep_options arguments) trees remaining listings faults contents arguments before now disk disk_now ended
 
--- ---- a law of the kept service
+-- ---- laws of the kept service
 
 -- these are the arguments of a kept service, and it may have as many workers as were asked for
 abbrev pub IsKeptService : Option (List (List ℕ)) → ℕ → Type 0
@@ -87,3 +88,10 @@ CompletesKept arguments desks remaining reads reads_now writes writes_now keeps 
     → ¬ Rose reads reads_now → ¬ Rose writes writes_now → ¬ Rose keeps keeps_now → (ended ≡ status.DeskFault → ¬ FirstRises)
     → (ended ≡ status.BadKeep → ⊥) → (ended ≡ status.KeepFull → ⊥)
     → (ended ≡ status.Done) ⊎ (ended ≡ status.NoMemory)
+
+-- It ends with the status `BadKeep` exactly if a record of its file is not good: not if all are good, and if one is not, then that is the
+-- status, unless the count of failures rose of the output, of the file or of the first desk, or memory ran out
+abbrev pub ReportsBadRecord : List (List ℕ) → ℕ → Trees → Option (List (List ℕ)) → ℕ → ℕ → ℕ → ℕ → Type 0 → Status → Type 0
+ReportsBadRecord arguments desks trees kept writes writes_now keeps keeps_now FirstRises ended =
+    IsKeptService (keep_options arguments) desks → StatesEveryLayer trees
+    → ReportsBadKeep trees kept (Rose writes writes_now ⊎ Rose keeps keeps_now ⊎ FirstRises) (ended ≡ status.BadKeep) (ended ≡ status.NoMemory)

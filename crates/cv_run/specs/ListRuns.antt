@@ -4,7 +4,7 @@ use Rattle.std.specs.Prelude.{◌≡◌, ℕ, List, [], ◌∷◌, ◌++◌, cod
 use Rattle.cv_command.specs.World.{RunWorld, Trees}
 use Rattle.cv_command.specs.declared.status.Status.TheVariants as status
 use Rattle.cv_io.specs.Lines.{HasNoLineEnd, LF}
-use Rattle.cv_list_law.specs.SameFindings.{KnowsLayers, SayTheSame}
+use Rattle.cv_command.specs.SameFindings.{KnowsLayers, SayTheSame}
 use Rattle.cv_run.specs.Run.{RunEnds}
 
 -- a run of a command without arguments was done: it read these bytes, and wrote those

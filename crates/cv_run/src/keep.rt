@@ -1,7 +1,8 @@
-ghost use Rattle.std.specs.Prelude.{◌≡◌, ◌^◌, ◌<◌, ◌≤◌, length, All};
+ghost use Rattle.std.specs.Prelude.{◌≡◌, ◌^◌, ◌<◌, ◌≤◌, length, option_map, All};
 ghost use Rattle.cv_command_arguments.specs.Simple.{texts_of};
 ghost use Rattle.cv_seq.specs.Cause.{Rose};
-ghost use Rattle.cv_run.specs.Keep.{CompletesKept, KeepEnds, KeepsServing, RunKeptEnds, keep_count, kept_status};
+ghost use Rattle.cv_keep.specs.Records.{records};
+ghost use Rattle.cv_run.specs.Keep.{CompletesKept, KeepEnds, KeepsServing, ReportsBadRecord, RunKeptEnds, keep_count, kept_status};
 ghost use Rattle.cv_run.specs.Run.{Completes, FirstRose};
 ghost use Rattle.cv_run.specs.Service.{worker_count};
 
@@ -50,6 +51,8 @@ pub fn run_kept<
     ensures completes_kept { CompletesKept (texts_of arguments.now) (length desks.old.items) (S.remaining input.old)
         (S.faults input.old) (S.faults input.new) (K.faults output.old) (K.faults output.new) (J.faults disk.old) (J.faults disk.new)
         (FirstRose D.faults desks.old.items desks.new.items) result }
+    ensures bad_keep { ReportsBadRecord (texts_of arguments.now) (length desks.old.items) D.tree (option_map records (J.contents disk.old))
+        (K.faults output.old) (K.faults output.new) (J.faults disk.old) (J.faults disk.new) (FirstRose D.faults desks.old.items desks.new.items) result }
 {
     match arguments {
         [name, options @ ..] if name.as_str() == "keep" => {
