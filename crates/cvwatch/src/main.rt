@@ -5,6 +5,7 @@
 //! cd examples/first-scan && cvwatch scan < input.jsonl
 //! cd examples/service && cvwatch serve < input.jsonl
 //! cvwatch keep --workers 2 < input.jsonl
+//! cvwatch push --workers 2 < input.jsonl
 //! ```
 #![tactic(auto)]
 
@@ -12,9 +13,10 @@ ghost use Rattle.std.specs.Prelude.{◌≡◌, ◌+◌, ◌^◌, ◌<◌, length
 
 use cv_desk::Desk;
 use cv_desk_folder::FolderDesk;
+use cv_hook_folder::FolderHook;
 use cv_io::{StdSink, StdSource};
 use cv_keep::FileDisk;
-use cv_run::{Status, run_kept};
+use cv_run::{Status, run_all};
 use std::env;
 use std::io::{self, ErrorKind};
 use std::process::ExitCode;
@@ -40,7 +42,8 @@ fn start<W: Threads + Wait + Sync>(rt: &HostRuntime, threads: &W) -> io::Result<
     let mut input = StdSource::new(rt.reader());
     let mut output = StdSink::new(io::writer(rt));
     let mut disk = FileDisk::new(rt.clone()?);
-    let status = run_kept(
+    let mut hook = FolderHook::new(rt.clone()?);
+    let status = run_all(
         threads,
         rt.alloc(),
         arguments.as_slice(),
@@ -48,7 +51,9 @@ fn start<W: Threads + Wait + Sync>(rt: &HostRuntime, threads: &W) -> io::Result<
         &mut output,
         &mut desks,
         &mut disk,
+        &mut hook,
     );
+    explain_hook(rt, &hook);
     match status {
         Status::Usage => say_commands(rt),
         Status::ReadFault => explain(rt, "standard input could not be read", input.last_error()),
@@ -101,6 +106,11 @@ Tells which container images hold packages with known vulnerabilities.
       that this file has.
       Example: cvwatch keep --workers 2 <input.jsonl
 
+  cvwatch push [--workers N]
+      Serves as serve does, and writes the rows of each notification as ./hook/NUMBER.json after its round, in order. The
+      folder has to be there; a file of an earlier run is replaced.
+      Example: mkdir hook && cvwatch push --workers 2 <input.jsonl
+
   cvwatch order deb|apk|semver|pypi A B
       Compares two versions, and prints <, = or >.
       Example: cvwatch order deb 1.0~rc1 1.0
@@ -142,6 +152,14 @@ fn explain(rt: &HostRuntime, reason: &str, error: Option<io::Error>) {
 /// Says on standard error why a desk failed the last time, of each that did: a scan ends there, and a service goes on.
 fn explain_desks(rt: &HostRuntime, desks: &[FolderDesk<HostRuntime>]) {
     for failure in desks.iter().filter_map(FolderDesk::last_failure) {
+        let _ = eprintln!(rt; "cvwatch: {failure}");
+    }
+}
+
+/// Says on standard error which notification could not be written the last time, and why, if one could not. A failure to say it is
+/// ignored.
+fn explain_hook(rt: &HostRuntime, hook: &FolderHook) {
+    if let Some(failure) = hook.last_failure() {
         let _ = eprintln!(rt; "cvwatch: {failure}");
     }
 }
