@@ -5,11 +5,12 @@ mod tally;
 
 use crate::events::replay::{LIMITS, replay_all};
 use crate::events::script::run_script;
+use crate::service::Service;
 use cv_base::NoMemory;
 use cv_core::Core;
 use std::alloc::Global;
 use std::{fs, io};
-use test_plain::{Lines, Service};
+use test_plain::Lines;
 
 /// Prints for each event its reply and what it leaves: how many events there were, which layers wait for a worker, the notifications,
 /// and the reports of all images. First come the events of the file `events.txt`, a line each, and then generated ones, which a plain

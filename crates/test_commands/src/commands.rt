@@ -7,9 +7,18 @@ use cv_desk::TableDesk;
 use cv_desk_wrappers::Faulty;
 use std::alloc::Global;
 
-/// Scans over one desk. Whether the scan ends so and prints this text; in the input and in the text names in brackets stand for texts.
-pub fn scans_to(
+/// A command over an input.
+#[derive(Clone, Copy)]
+pub enum InputCommand {
+    Scan,
+    Sbom,
+    ListScan,
+}
+
+/// Runs a command over one desk. Whether it ends so and prints this text; in the input and in the text names in brackets stand for texts.
+pub fn command_ends(
     alloc: Global,
+    command: InputCommand,
     input: &str,
     outside: &Outside,
     (status, text): (Status, &str),
@@ -17,34 +26,11 @@ pub fn scans_to(
     let mut desk = Faulty::new(TableDesk::<Layers>::new(), listed(alloc, outside.desk)?);
     let mut source = source_of(alloc, input, outside)?;
     let mut sink = sink_of(alloc, outside)?;
-    let ended = scan_command(alloc, &mut source, &mut sink, &mut desk);
-    is_ended(alloc, &(ended, sink), status, text)
-}
-
-/// Lists the packages of an image over one desk. Whether that ends so and prints this text, as for a scan.
-pub fn sboms_to(
-    alloc: Global,
-    input: &str,
-    outside: &Outside,
-    (status, text): (Status, &str),
-) -> Result<bool, NoMemory> {
-    let mut desk = Faulty::new(TableDesk::<Layers>::new(), listed(alloc, outside.desk)?);
-    let mut source = source_of(alloc, input, outside)?;
-    let mut sink = sink_of(alloc, outside)?;
-    let ended = sbom_command(alloc, &mut source, &mut sink, &mut desk);
-    is_ended(alloc, &(ended, sink), status, text)
-}
-
-/// Scans a list of components. Whether the scan ends so and prints this text, as for a scan of an image.
-pub fn list_scans_to(
-    alloc: Global,
-    input: &str,
-    outside: &Outside,
-    (status, text): (Status, &str),
-) -> Result<bool, NoMemory> {
-    let mut source = source_of(alloc, input, outside)?;
-    let mut sink = sink_of(alloc, outside)?;
-    let ended = list_scan_command(alloc, &mut source, &mut sink);
+    let ended = match command {
+        InputCommand::Scan => scan_command(alloc, &mut source, &mut sink, &mut desk),
+        InputCommand::Sbom => sbom_command(alloc, &mut source, &mut sink, &mut desk),
+        InputCommand::ListScan => list_scan_command(alloc, &mut source, &mut sink),
+    };
     is_ended(alloc, &(ended, sink), status, text)
 }
 

@@ -5,10 +5,10 @@ use cv_io::{MemSink, MemSource};
 use std::alloc::Global;
 
 /// The line for arguments that are not a command.
-pub const USAGE: &str = "usage: cvwatch serve|scan|order|drill|sbom|scan-list\n";
+pub const USAGE: &str = "usage: cvwatch serve|scan|order|drill|sbom|scan-list|keep|push\n";
 
 /// How the streams and the desk behave: how many bytes are written at once, at most, and which calls fail, numbered from 1.
-#[derive(Clone, Copy)]
+#[derive(Clone, Copy, Debug)]
 pub struct Outside {
     pub piece: usize,
     pub reads: &'static [u64],
@@ -20,6 +20,14 @@ pub struct Outside {
 pub const CALM: Outside = Outside {
     piece: 100,
     reads: &[],
+    writes: &[],
+    desk: &[],
+};
+
+/// The first read fails, and a write is of at most five bytes.
+pub const UNREAD: Outside = Outside {
+    piece: 5,
+    reads: &[1],
     writes: &[],
     desk: &[],
 };

@@ -1,5 +1,6 @@
 mod hub;
 mod pool;
+mod pushed;
 mod records;
 mod replay;
 mod seats;

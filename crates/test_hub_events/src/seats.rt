@@ -3,6 +3,7 @@ ghost use Rattle.cv_hub.specs.Seats.{AreNumbered};
 
 use cv_base::NoMemory;
 use cv_core::EventEntry;
+use cv_desk::Desk;
 use cv_hub::{Hub, Identity, Seat, View};
 use std::sync::Wait;
 use test_data::SampleDesk;
@@ -21,7 +22,7 @@ pub fn learned<L: Identity, W: Wait>(
 }
 
 /// The view that a seat enters. It is tried again for as long as the seat is handed back.
-pub fn entered<L: Identity, W: Wait>(rt: &W, mut seat: Seat<SampleDesk, L>) -> View<SampleDesk, L> {
+pub fn entered<D: Desk + Drop, L: Identity, W: Wait>(rt: &W, mut seat: Seat<D, L>) -> View<D, L> {
     for _ in rt.forever() {
         match seat.view() {
             Ok(view) => return view,

@@ -4,6 +4,7 @@ mod draws;
 mod letters;
 mod plain;
 mod step;
+mod table;
 
 pub use draws::Draws;
 pub use letters::IMAGES;

@@ -1,5 +1,6 @@
 mod drills;
 mod hostile;
 mod keep;
+mod push;
 mod run;
 mod workers;

@@ -1,8 +1,9 @@
 use crate::events::tally::{Named, count, show_counts};
+use crate::service::{Service, report_step, restart, show_page};
 use cv_base::NoMemory;
 use cv_core::Limits;
 use std::alloc::Global;
-use test_plain::{Draws, Lines, Machine, Service, Step, report_step, restart, show_page};
+use test_plain::{Draws, Lines, Machine, Step};
 
 /// How many runs there are, and how many events each has. Each begins with a new core.
 const RUNS: u64 = 8;

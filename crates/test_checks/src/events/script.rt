@@ -1,9 +1,9 @@
+use crate::service::{
+    Service, report_step, restart, show_heads, show_page, show_queued, show_report,
+};
 use cv_core::{Limits, MAX_FEEDS, MAX_IMAGES};
 use std::alloc::Global;
-use test_plain::{
-    Lines, Patch, Service, Step, Work, code_of, feed_of, report_step, restart, show_heads,
-    show_page, show_queued, show_report,
-};
+use test_plain::{Lines, Patch, Step, Work, code_of, feed_of};
 
 /// Does what each line of a script says, and writes the line and what came of it.
 pub fn run_script(alloc: Global, core: &mut Service, script: &str, out: &mut Lines) {

@@ -6,9 +6,38 @@ mod versions;
 use std::alloc::Global;
 use std::process::Abort;
 use test_commands::{
-    CALM, NoMemory, Status, USAGE, list_scans_to, orders_to, root_scans_to, sboms_to, scan_input,
-    scans_to,
+    CALM, Failure, InputCommand, NoMemory, Status, USAGE, command_ends, orders_to, root_scans_to,
+    scan_input,
 };
+
+/// Runs a command on each input, and compares how it ends and what it prints.
+fn try_inputs<R: Abort>(
+    rt: &R,
+    alloc: Global,
+    command: InputCommand,
+    rows: &[(&str, Status, &str)],
+) -> Result<(), NoMemory> {
+    for (input, status, output) in rows {
+        let is_same = command_ends(alloc, command, input, &CALM, (*status, *output))?;
+        assert!(rt; is_same, "{input}");
+    }
+    Ok(())
+}
+
+/// Runs a command in which a call fails, for each of these cases.
+fn try_failures<R: Abort>(
+    rt: &R,
+    alloc: Global,
+    command: InputCommand,
+    cases: &[Failure],
+) -> Result<(), NoMemory> {
+    for case in cases {
+        let want = (case.status, case.output);
+        let is_same = command_ends(alloc, command, case.input, &case.outside, want)?;
+        assert!(rt; is_same, "{}", case.input);
+    }
+    Ok(())
+}
 
 /// Scans an image of these layers, and compares how the scan ends and what it prints.
 fn try_scan<R: Abort>(
@@ -19,7 +48,7 @@ fn try_scan<R: Abort>(
     want: (Status, &str),
 ) -> Result<(), NoMemory> {
     let input = scan_input(alloc, layers, records)?;
-    let is_same = scans_to(alloc, input.as_str(), &CALM, want)?;
+    let is_same = command_ends(alloc, InputCommand::Scan, input.as_str(), &CALM, want)?;
     assert!(rt; is_same, "{layers} {records}");
     Ok(())
 }
@@ -64,39 +93,21 @@ fn a_scan_prints_why_there_are_none(rt: HostRuntime) -> Result<(), NoMemory> {
 
 #[test]
 fn a_stated_seal_is_compared(rt: HostRuntime) -> Result<(), NoMemory> {
-    for (input, status, output) in &scans::SEALED {
-        let is_same = scans_to(rt.alloc(), input, &CALM, (*status, *output))?;
-        assert!(rt; is_same, "{input}");
-    }
-    Ok(())
+    try_inputs(&rt, rt.alloc(), InputCommand::Scan, &scans::SEALED)
 }
 
 #[test]
 fn the_packages_of_an_image_are_listed(rt: HostRuntime) -> Result<(), NoMemory> {
-    for (input, status, output) in &lists::SBOMS {
-        let is_same = sboms_to(rt.alloc(), input, &CALM, (*status, *output))?;
-        assert!(rt; is_same, "{input}");
-    }
-    for case in &lists::SBOM_FAILURES {
-        let want = (case.status, case.output);
-        let is_same = sboms_to(rt.alloc(), case.input, &case.outside, want)?;
-        assert!(rt; is_same, "{}", case.input);
-    }
-    Ok(())
+    let sbom = InputCommand::Sbom;
+    try_inputs(&rt, rt.alloc(), sbom, &lists::SBOMS)?;
+    try_failures(&rt, rt.alloc(), sbom, &lists::SBOM_FAILURES)
 }
 
 #[test]
 fn a_list_of_components_is_scanned(rt: HostRuntime) -> Result<(), NoMemory> {
-    for (input, status, output) in &lists::LISTS {
-        let is_same = list_scans_to(rt.alloc(), input, &CALM, (*status, *output))?;
-        assert!(rt; is_same, "{input}");
-    }
-    for case in &lists::LIST_FAILURES {
-        let want = (case.status, case.output);
-        let is_same = list_scans_to(rt.alloc(), case.input, &case.outside, want)?;
-        assert!(rt; is_same, "{}", case.input);
-    }
-    Ok(())
+    let scan = InputCommand::ListScan;
+    try_inputs(&rt, rt.alloc(), scan, &lists::LISTS)?;
+    try_failures(&rt, rt.alloc(), scan, &lists::LIST_FAILURES)
 }
 
 #[test]
@@ -119,10 +130,5 @@ fn arguments_that_are_not_a_comparison(rt: HostRuntime) -> Result<(), NoMemory> 
 
 #[test]
 fn what_fails_is_blamed(rt: HostRuntime) -> Result<(), NoMemory> {
-    for case in &failures::CASES {
-        let want = (case.status, case.output);
-        let is_same = scans_to(rt.alloc(), case.input, &case.outside, want)?;
-        assert!(rt; is_same, "{}", case.input);
-    }
-    Ok(())
+    try_failures(&rt, rt.alloc(), InputCommand::Scan, &failures::CASES)
 }

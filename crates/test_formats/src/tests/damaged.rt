@@ -5,6 +5,7 @@ use cv_base::{FileBad, ReadBad, What};
 use cv_dpkg::{StatusRule, read_status};
 use cv_pypi::read_metadata;
 use std::alloc::Global;
+use std::process::Abort;
 use std::test::Fail;
 
 /// A damaged line, with the lines of its paragraph before it, and its fault.
@@ -153,70 +154,83 @@ fn damaged(
     ]?)
 }
 
-#[test]
-fn a_damaged_line_of_a_status_file_is_named(rt: HostRuntime) -> Result<(), Fail> {
-    let alloc = rt.alloc();
-    for (before, line, what) in STATUS {
-        for (file, number) in damaged(alloc, SOUND_STATUS, before, line)? {
-            let bad = Err(ReadBad::Bad(FileBad {
+/// The files of blocks whose lines are damaged.
+#[derive(Clone, Copy)]
+enum Format {
+    Status,
+    Installed,
+}
+
+/// Why a file is refused, if it is.
+fn refusal(alloc: Global, format: Format, file: &[u8]) -> Option<ReadBad> {
+    match format {
+        Format::Status => read_status(alloc, file, StatusRule::Needed).err(),
+        Format::Installed => read_installed(alloc, file).err(),
+    }
+}
+
+/// Each damaged line of a format is named.
+fn try_damaged<R: Abort>(
+    rt: &R,
+    alloc: Global,
+    format: Format,
+    sound: &[u8],
+    rows: &[Damage],
+) -> Result<(), Fail> {
+    for (before, line, what) in rows {
+        for (file, number) in damaged(alloc, sound, before, line)? {
+            let bad = ReadBad::Bad(FileBad {
                 line: number,
                 what: *what,
-            }));
-            assert_eq!(rt;
-                read_status(alloc, &file, StatusRule::Needed),
-                bad,
-                "{file:?}"
-            );
+            });
+            assert_eq!(rt; refusal(alloc, format, &file), Some(bad), "{file:?}");
         }
     }
     Ok(())
+}
+
+/// A bad first line is named before each damaged line of a format.
+fn try_earlier<R: Abort>(
+    rt: &R,
+    alloc: Global,
+    format: Format,
+    rows: &[Damage],
+) -> Result<(), Fail> {
+    for (before, line, _) in rows {
+        let file = joined(alloc, &[b"x\n\n", before, line])?;
+        let bad = ReadBad::Bad(FileBad {
+            line: 1,
+            what: What::NoColon,
+        });
+        assert_eq!(rt; refusal(alloc, format, &file), Some(bad), "{file:?}");
+    }
+    Ok(())
+}
+
+#[test]
+fn a_damaged_line_of_a_status_file_is_named(rt: HostRuntime) -> Result<(), Fail> {
+    try_damaged(&rt, rt.alloc(), Format::Status, SOUND_STATUS, STATUS)
 }
 
 #[test]
 fn an_earlier_line_of_a_status_file_is_named_before_it(rt: HostRuntime) -> Result<(), Fail> {
-    let alloc = rt.alloc();
-    for (before, line, _) in STATUS {
-        let file = joined(alloc, &[b"x\n\n", before, line])?;
-        let bad = Err(ReadBad::Bad(FileBad {
-            line: 1,
-            what: What::NoColon,
-        }));
-        assert_eq!(rt;
-            read_status(alloc, &file, StatusRule::Needed),
-            bad,
-            "{file:?}"
-        );
-    }
-    Ok(())
+    try_earlier(&rt, rt.alloc(), Format::Status, STATUS)
 }
 
 #[test]
 fn a_damaged_line_of_an_installed_file_is_named(rt: HostRuntime) -> Result<(), Fail> {
-    let alloc = rt.alloc();
-    for (before, line, what) in INSTALLED {
-        for (file, number) in damaged(alloc, SOUND_INSTALLED, before, line)? {
-            let bad = Err(ReadBad::Bad(FileBad {
-                line: number,
-                what: *what,
-            }));
-            assert_eq!(rt; read_installed(alloc, &file), bad, "{file:?}");
-        }
-    }
-    Ok(())
+    try_damaged(
+        &rt,
+        rt.alloc(),
+        Format::Installed,
+        SOUND_INSTALLED,
+        INSTALLED,
+    )
 }
 
 #[test]
 fn an_earlier_line_of_an_installed_file_is_named_before_it(rt: HostRuntime) -> Result<(), Fail> {
-    let alloc = rt.alloc();
-    for (before, line, _) in INSTALLED {
-        let file = joined(alloc, &[b"x\n\n", before, line])?;
-        let bad = Err(ReadBad::Bad(FileBad {
-            line: 1,
-            what: What::NoColon,
-        }));
-        assert_eq!(rt; read_installed(alloc, &file), bad, "{file:?}");
-    }
-    Ok(())
+    try_earlier(&rt, rt.alloc(), Format::Installed, INSTALLED)
 }
 
 /// The name before the version and behind it, with and without an LF at the end, before lines that would name a package, and behind

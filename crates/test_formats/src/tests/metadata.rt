@@ -1,5 +1,5 @@
+use cv_base::Text;
 use cv_pypi::{PypiPackage, read_metadata};
-use cv_seq::Text;
 use std::alloc::Global;
 use std::test::Fail;
 

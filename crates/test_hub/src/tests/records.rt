@@ -28,7 +28,7 @@ pub fn layer() -> Digest {
 /// What is added to a record: a request line with the number of its event and its lane, what a worker did with the layer, or nothing,
 /// as the last byte is taken away.
 #[derive(Clone, Copy)]
-pub enum Step {
+pub enum Part {
     Register(u64, u8),
     Update(u64, u8),
     List(u64, u8),
@@ -36,13 +36,13 @@ pub enum Step {
     Cut,
 }
 
-fn add(bytes: &mut Vec<u8>, step: &Step) -> Result<(), NoMemory> {
-    match step {
-        Step::Register(number, lane) => push_line(bytes, *number, *lane, 1, REGISTER),
-        Step::Update(number, lane) => push_line(bytes, *number, *lane, 1, UPDATE),
-        Step::List(number, lane) => push_line(bytes, *number, *lane, 1, LIST),
-        Step::Work(number, worker, kind) => push_work(bytes, *number, *worker, *kind, &layer()),
-        Step::Cut => {
+fn add(bytes: &mut Vec<u8>, part: &Part) -> Result<(), NoMemory> {
+    match part {
+        Part::Register(number, lane) => push_line(bytes, *number, *lane, 1, REGISTER),
+        Part::Update(number, lane) => push_line(bytes, *number, *lane, 1, UPDATE),
+        Part::List(number, lane) => push_line(bytes, *number, *lane, 1, LIST),
+        Part::Work(number, worker, kind) => push_work(bytes, *number, *worker, *kind, &layer()),
+        Part::Cut => {
             let _ = bytes.pop();
             Ok(())
         }
@@ -50,12 +50,12 @@ fn add(bytes: &mut Vec<u8>, step: &Step) -> Result<(), NoMemory> {
 }
 
 /// A file with these records.
-pub fn file_of(alloc: Global, records: &[&[Step]]) -> Result<MemDisk, Fail> {
+pub fn file_of(alloc: Global, records: &[&[Part]]) -> Result<MemDisk, Fail> {
     let mut disk = disk_over(alloc, &[], u64::MAX)?;
-    for steps in records {
+    for parts in records {
         let mut bytes = Vec::new(alloc);
-        for step in *steps {
-            add(&mut bytes, step)?;
+        for part in *parts {
+            add(&mut bytes, part)?;
         }
         let mut journal = Journal::open(&mut disk)?;
         journal.append(alloc, &mut disk, bytes.as_slice())?;

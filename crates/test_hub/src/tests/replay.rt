@@ -1,9 +1,9 @@
-use crate::tests::records::{Step, disk_over, file_of};
+use crate::tests::records::{Part, disk_over, file_of};
 use crate::tests::starts::{report_of_submitted, started};
+use cv_base::Seq;
 use cv_keep::Journal;
 use cv_keep_record::WorkKind;
 use cv_keep_replay::{ReplayError, Resumed};
-use cv_seq::Seq;
 use std::test::Fail;
 
 fn resumed(events: u64, generation: u64) -> Result<Resumed, ReplayError> {
@@ -27,12 +27,12 @@ fn a_start_goes_on_where_the_records_end(rt: HostRuntime) -> Result<(), Fail> {
     let mut disk = file_of(
         alloc,
         &[
-            &[Step::Register(1, 0)],
+            &[Part::Register(1, 0)],
             &[
-                Step::Work(2, 7, WorkKind::Claim),
-                Step::Work(3, 7, WorkKind::Indexed),
+                Part::Work(2, 7, WorkKind::Claim),
+                Part::Work(3, 7, WorkKind::Indexed),
             ],
-            &[Step::Update(4, 0)],
+            &[Part::Update(4, 0)],
         ],
     )?;
     let start = started(&rt, alloc, &mut disk, Seq::of(Vec::new(alloc)))?;
@@ -46,20 +46,20 @@ fn a_start_goes_on_where_the_records_end(rt: HostRuntime) -> Result<(), Fail> {
 /// events; and one whose last text is cut.
 #[test]
 fn the_first_bad_record_is_named(rt: HostRuntime) -> Result<(), Fail> {
-    let first: &[Step] = &[Step::Register(1, 0)];
-    let ninth: &[Step] = &[
-        Step::Work(2, 8, WorkKind::Claim),
-        Step::Work(3, 8, WorkKind::Fault),
+    let first: &[Part] = &[Part::Register(1, 0)];
+    let ninth: &[Part] = &[
+        Part::Work(2, 8, WorkKind::Claim),
+        Part::Work(3, 8, WorkKind::Fault),
     ];
-    let claim: &[Step] = &[Step::Work(3, 0, WorkKind::Claim)];
-    let cases: [(&[&[Step]], u64); 7] = [
-        (&[first, &[Step::Update(3, 0)]], 1),
-        (&[&[Step::Register(1, 1)]], 0),
-        (&[first, &[Step::List(2, 0)]], 1),
+    let claim: &[Part] = &[Part::Work(3, 0, WorkKind::Claim)];
+    let cases: [(&[&[Part]], u64); 7] = [
+        (&[first, &[Part::Update(3, 0)]], 1),
+        (&[&[Part::Register(1, 1)]], 0),
+        (&[first, &[Part::List(2, 0)]], 1),
         (&[first, ninth], 1),
-        (&[first, &[Step::Update(2, 0)], claim], 2),
+        (&[first, &[Part::Update(2, 0)], claim], 2),
         (&[&[]], 0),
-        (&[first, &[Step::Update(2, 0), Step::Cut]], 1),
+        (&[first, &[Part::Update(2, 0), Part::Cut]], 1),
     ];
     for (records, k) in cases {
         let mut disk = file_of(rt.alloc(), records)?;
@@ -75,10 +75,10 @@ fn a_desk_that_fails_ends_a_start(rt: HostRuntime) -> Result<(), Fail> {
     let mut disk = file_of(
         alloc,
         &[
-            &[Step::Register(1, 0)],
+            &[Part::Register(1, 0)],
             &[
-                Step::Work(2, 0, WorkKind::Claim),
-                Step::Work(3, 0, WorkKind::Indexed),
+                Part::Work(2, 0, WorkKind::Claim),
+                Part::Work(3, 0, WorkKind::Indexed),
             ],
         ],
     )?;
@@ -91,7 +91,7 @@ fn a_desk_that_fails_ends_a_start(rt: HostRuntime) -> Result<(), Fail> {
 #[test]
 fn a_disk_that_fails_ends_a_start(rt: HostRuntime) -> Result<(), Fail> {
     let alloc = rt.alloc();
-    let file = file_of(alloc, &[&[Step::Register(1, 0)]])?;
+    let file = file_of(alloc, &[&[Part::Register(1, 0)]])?;
     let mut calm = disk_over(alloc, file.bytes(), u64::MAX)?;
     Journal::open(&mut calm)?;
     let calls = calm.calls().len() as u64;

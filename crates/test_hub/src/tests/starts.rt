@@ -18,9 +18,9 @@ use std::marker::Brand;
 use std::sync::Wait;
 use std::test::Fail;
 use test_data::{Flaw, advisory, unsealed};
-use test_hub_events::By;
+use test_hub_events::{By, entered};
 
-const LIMITS: Limits = Limits {
+pub const LIMITS: Limits = Limits {
     images: 1,
     feeds: 1,
 };
@@ -35,7 +35,7 @@ static ROWS: [TableEntry; 3] = [
 ];
 
 /// One layer, for all digests.
-struct OneLayer;
+pub struct OneLayer;
 
 impl Table for OneLayer {
     ghost rows = { layer_rows };
@@ -45,7 +45,7 @@ impl Table for OneLayer {
     }
 }
 
-type LayerDesk = Faulty<TableDesk<OneLayer>>;
+pub type LayerDesk = Faulty<TableDesk<OneLayer>>;
 
 /// How a start from a file ends, and what the report of the image is then.
 #[derive(Drop)]
@@ -129,16 +129,6 @@ fn report_from<L: Identity, W: Wait>(
     (view.close(), report)
 }
 
-fn entered<L: Identity, W: Wait>(rt: &W, mut seat: Seat<LayerDesk, L>) -> View<LayerDesk, L> {
-    for _ in rt.forever() {
-        match seat.view() {
-            Ok(view) => return view,
-            Err(back) => seat = back,
-        }
-    }
-    unreachable!()
-}
-
 fn report_in<L: Identity>(alloc: Global, view: &View<LayerDesk, L>) -> Result<String, NoMemory> {
     Ok(format!(in alloc; "{:?}", view.report(&image()))?)
 }
@@ -161,23 +151,30 @@ fn submit<L: Identity, W: Wait>(
     requires core { core ≡ opened L.limits }
 {
     let (hub, mut seats) = Hub::<LayerDesk, L>::start(rt, alloc, blank, core, 1)?;
-    let report = match submit_all(rt, alloc, &hub, seats.as_mut_slice()) {
-        Ok(()) => reported(rt, alloc, seats.as_mut_slice()),
-        Err(NoMemory) => Err(NoMemory),
-    };
+    let report = submit_and_report(rt, alloc, &hub, seats.as_mut_slice());
     hub.end(rt, seats);
     report
 }
 
-fn submit_all<L: Identity, W: Wait>(
+fn submit_and_report<L: Identity, W: Wait>(
     rt: &W,
     alloc: Global,
     hub: &Hub<LayerDesk, L>,
     seats: &mut [Seat<LayerDesk, L>],
+) -> Result<String, NoMemory> {
+    if let Some(seat) = seats.first_mut() {
+        submit_all(rt, alloc, hub, seat)?;
+    }
+    reported(rt, alloc, seats)
+}
+
+/// Submits the registration of the image, the work on its layer, and an update with a record of its package.
+pub fn submit_all<L: Identity, W: Wait>(
+    rt: &W,
+    alloc: Global,
+    hub: &Hub<LayerDesk, L>,
+    seat: &mut Seat<LayerDesk, L>,
 ) -> Result<(), NoMemory> {
-    let Some(seat) = seats.first_mut() else {
-        return Ok(());
-    };
     let by = By::Lane { lane: 0, line: 1 };
     let layers = vec![in alloc; layer()]?;
     let manifest = unsealed(alloc, image(), layers)?;

@@ -1,5 +1,5 @@
+use cv_base::{NoMemory, Seq};
 use cv_keep::{Journal, KeepError, MemDisk};
-use cv_seq::{NoMemory, Seq};
 use std::test::Fail;
 
 /// The records `one` and `two`, with the closed gate.

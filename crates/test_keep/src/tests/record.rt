@@ -1,8 +1,7 @@
-use cv_base::Digest;
+use cv_base::{Digest, NoMemory, Seq};
 use cv_keep_record::{
     KeptBy, KeptEvent, WorkKind, are_numbered, push_line, push_work, read_record,
 };
-use cv_seq::{NoMemory, Seq};
 use std::test::Fail;
 
 /// Event 258 is line 3 of lane 1, which is `hi`; event 259 is a fault of worker 2 at a layer whose digest is full of 07.

@@ -3,6 +3,7 @@ use crate::findings::{
 };
 use crate::machine::letters::{IMAGES, LAYERS};
 use crate::machine::step::{Patch, Step, Work};
+use crate::machine::table::Table;
 use cv_base::{NoMemory, Reason};
 use cv_core_machine::{Limits, Status};
 use std::alloc::Global;
@@ -12,20 +13,6 @@ use std::alloc::Global;
 struct Registered {
     layers: &'static [u8],
     seals: &'static [u8],
-}
-
-/// An image, and what is registered of it.
-#[derive(Clone, Copy)]
-struct Image {
-    letter: u8,
-    registered: Option<Registered>,
-}
-
-/// A layer, and its status if it is in the table.
-#[derive(Clone, Copy)]
-struct Layer {
-    letter: u8,
-    status: Option<Status>,
 }
 
 /// A row of the notification of a number.
@@ -43,8 +30,8 @@ struct NumberedRow {
 pub struct Machine {
     limits: Limits,
     count: u64,
-    images: Vec<Image>,
-    layers: Vec<Layer>,
+    images: Table<Registered>,
+    layers: Table<Status>,
     feeds: Vec<Feed>,
     generation: u64,
     rows: Vec<NumberedRow>,
@@ -53,42 +40,15 @@ pub struct Machine {
 impl Machine {
     /// A machine without images, feeds and notifications.
     pub fn new(alloc: Global, limits: Limits) -> Result<Machine, NoMemory> {
-        let mut machine = Machine {
+        Ok(Machine {
             limits,
             count: 0,
-            images: Vec::new(alloc),
-            layers: Vec::new(alloc),
-            feeds: Vec::new(alloc),
+            images: Table::of(alloc, &IMAGES)?,
+            layers: Table::of(alloc, &LAYERS)?,
+            feeds: absent_feeds(alloc)?,
             generation: 0,
             rows: Vec::new(alloc),
-        };
-        machine.open()?;
-        Ok(machine)
-    }
-
-    /// Enters all images, layers and feeds that there can be, in ascending order.
-    fn open(&mut self) -> Result<(), NoMemory> {
-        for letter in IMAGES {
-            self.images.push(Image {
-                letter,
-                registered: None,
-            })?;
-        }
-        for letter in LAYERS {
-            self.layers.push(Layer {
-                letter,
-                status: None,
-            })?;
-        }
-        for name in FEEDS {
-            self.feeds.push(Feed {
-                name,
-                stands: false,
-                code: 0,
-                since: 0,
-            })?;
-        }
-        Ok(())
+        })
     }
 
     /// Does an event, and writes the reply and the state after it.
@@ -121,7 +81,7 @@ impl Machine {
     }
 
     fn register(&mut self, letter: u8, new: Registered, out: &mut Lines) {
-        if let Some(kept) = self.registered_as(letter) {
+        if let Some(kept) = self.images.get(letter) {
             if kept == new {
                 return out.word("already");
             }
@@ -130,23 +90,23 @@ impl Machine {
         if self.registered() >= self.limits.images {
             return out.word("too_many_images");
         }
-        self.set_registered(letter, Some(new));
+        self.images.set(letter, Some(new));
         for layer in new.layers {
             if self.status(*layer).is_none() {
-                self.set_status(*layer, Some(Status::Queued));
+                self.layers.set(*layer, Some(Status::Queued));
             }
         }
         out.word("registered");
     }
 
     fn drop_image(&mut self, letter: u8) -> &'static str {
-        let Some(dropped) = self.registered_as(letter) else {
+        let Some(dropped) = self.images.get(letter) else {
             return "not_registered";
         };
-        self.set_registered(letter, None);
+        self.images.set(letter, None);
         for layer in dropped.layers {
             if !self.is_named(*layer) && !self.is_claimed(*layer) {
-                self.set_status(*layer, None);
+                self.layers.set(*layer, None);
             }
         }
         "dropped"
@@ -155,7 +115,8 @@ impl Machine {
     fn claim(&mut self, work: Work) -> &'static str {
         match self.status(work.layer) {
             Some(Status::Queued) => {
-                self.set_status(work.layer, Some(Status::Claimed(work.worker)));
+                self.layers
+                    .set(work.layer, Some(Status::Claimed(work.worker)));
                 "claimed"
             }
             Some(Status::Claimed(_) | Status::Indexed) => "taken",
@@ -169,10 +130,10 @@ impl Machine {
             return "not_claimed";
         }
         if !self.is_named(work.layer) {
-            self.set_status(work.layer, None);
+            self.layers.set(work.layer, None);
             return "discarded";
         }
-        self.set_status(work.layer, Some(next));
+        self.layers.set(work.layer, Some(next));
         reply
     }
 
@@ -252,7 +213,7 @@ impl Machine {
     /// The rows of all images whose layers are indexed and which are good.
     fn add_rows(&mut self, alloc: Global, before: &[Feed]) -> Result<(), NoMemory> {
         for letter in IMAGES {
-            if let Some(Registered { layers, seals }) = self.registered_as(letter)
+            if let Some(Registered { layers, seals }) = self.images.get(letter)
                 && self.pending(layers).is_none()
                 && fault_of(layers, seals).is_none()
             {
@@ -313,9 +274,9 @@ impl Machine {
         out.number(" | events ", self.count);
         self.show_queued(out);
         self.show_heads(out);
-        for image in &self.images {
-            if let Some(registered) = image.registered {
-                self.show_report(alloc, image.letter, registered, out);
+        for (image, registered) in self.images.rows() {
+            if let Some(registered) = registered {
+                self.show_report(alloc, *image, *registered, out);
             }
         }
     }
@@ -323,9 +284,9 @@ impl Machine {
     /// The layers that wait for a worker, in ascending order.
     fn show_queued(&self, out: &mut Lines) {
         out.word(" | queued");
-        for layer in &self.layers {
-            if layer.status == Some(Status::Queued) {
-                out.letter(" ", layer.letter);
+        for (layer, status) in self.layers.rows() {
+            if *status == Some(Status::Queued) {
+                out.letter(" ", *layer);
             }
         }
     }
@@ -379,29 +340,11 @@ impl Machine {
         }
     }
 
-    /// What is registered of an image.
-    fn registered_as(&self, letter: u8) -> Option<Registered> {
-        for image in &self.images {
-            if image.letter == letter {
-                return image.registered;
-            }
-        }
-        None
-    }
-
-    fn set_registered(&mut self, letter: u8, registered: Option<Registered>) {
-        for image in self.images.iter_mut() {
-            if image.letter == letter {
-                image.registered = registered;
-            }
-        }
-    }
-
     /// How many images are registered.
     fn registered(&self) -> u32 {
         let mut count: u32 = 0;
-        for image in &self.images {
-            if image.registered.is_some() {
+        for (_, registered) in self.images.rows() {
+            if registered.is_some() {
                 count = count.saturating_add(1);
             }
         }
@@ -420,8 +363,8 @@ impl Machine {
 
     /// Whether a registered image has the layer.
     fn is_named(&self, layer: u8) -> bool {
-        for image in &self.images {
-            if let Some(registered) = image.registered
+        for (_, registered) in self.images.rows() {
+            if let Some(registered) = registered
                 && registered.layers.contains(&layer)
             {
                 return true;
@@ -435,22 +378,23 @@ impl Machine {
     }
 
     /// The status of a layer, if it is in the table.
-    pub fn status(&self, letter: u8) -> Option<Status> {
-        for layer in &self.layers {
-            if layer.letter == letter {
-                return layer.status;
-            }
-        }
-        None
+    pub fn status(&self, layer: u8) -> Option<Status> {
+        self.layers.get(layer)
     }
+}
 
-    fn set_status(&mut self, letter: u8, status: Option<Status>) {
-        for layer in self.layers.iter_mut() {
-            if layer.letter == letter {
-                layer.status = status;
-            }
-        }
+/// All feeds that there can be, none of which stands.
+fn absent_feeds(alloc: Global) -> Result<Vec<Feed>, NoMemory> {
+    let mut feeds = Vec::new(alloc);
+    for name in FEEDS {
+        feeds.push(Feed {
+            name,
+            stands: false,
+            code: 0,
+            since: 0,
+        })?;
     }
+    Ok(feeds)
 }
 
 fn show_findings(out: &mut Lines, changes: &[Change]) {

@@ -22,25 +22,44 @@ fn try_command<R: Abort + Threads + Wait + Sync>(
     Ok(())
 }
 
-#[test]
-fn a_scan_prints_its_findings(rt: HostRuntime) -> Result<(), NoMemory> {
-    let input = scan_input(rt.alloc(), "a", "<X-1>")?;
-    let output = r#"{"findings":[<openssl-found>],"image":"<1>","reply":"good"}
-"#;
-    let want = (Status::Done, output);
-    let is_same = runs_to(&rt, rt.alloc(), &["scan"], input.as_str(), &CALM, want)?;
-    assert!(rt; is_same);
+/// Runs the service with one worker, and compares how it ends and what it prints.
+fn try_session<R: Abort + Threads + Wait + Sync>(
+    rt: &R,
+    alloc: Global,
+    input: &str,
+    outside: &Outside,
+    want: (Status, &str),
+) -> Result<(), NoMemory> {
+    let arguments = ["serve", "--workers", "1"];
+    let is_same = runs_to(rt, alloc, &arguments, input, outside, want)?;
+    assert!(rt; is_same, "{outside:?} {input}");
     Ok(())
 }
 
+/// A layer, the record that is sent with it, and what is printed of its package.
+static SCANS: [(&str, &str, &str); 2] = [
+    (
+        "a",
+        "<X-1>",
+        r#"{"findings":[<openssl-found>],"image":"<1>","reply":"good"}
+"#,
+    ),
+    (
+        "8",
+        "<python-foo-bar>",
+        r#"{"findings":[<python-found>],"image":"<1>","reply":"good"}
+"#,
+    ),
+];
+
 #[test]
-fn a_scan_finds_a_python_package(rt: HostRuntime) -> Result<(), NoMemory> {
-    let input = scan_input(rt.alloc(), "8", "<python-foo-bar>")?;
-    let output = r#"{"findings":[<python-found>],"image":"<1>","reply":"good"}
-"#;
-    let want = (Status::Done, output);
-    let is_same = runs_to(&rt, rt.alloc(), &["scan"], input.as_str(), &CALM, want)?;
-    assert!(rt; is_same);
+fn a_scan_prints_its_findings(rt: HostRuntime) -> Result<(), NoMemory> {
+    for (layer, record, output) in &SCANS {
+        let input = scan_input(rt.alloc(), layer, record)?;
+        let want = (Status::Done, *output);
+        let is_same = runs_to(&rt, rt.alloc(), &["scan"], input.as_str(), &CALM, want)?;
+        assert!(rt; is_same, "{layer} {record}");
+    }
     Ok(())
 }
 
@@ -91,43 +110,48 @@ fn a_service_prints_its_transcript(rt: HostRuntime) -> Result<(), NoMemory> {
 #[test]
 fn a_patch_changes_the_feed_that_it_knows(rt: HostRuntime) -> Result<(), NoMemory> {
     for (input, output) in &patches::CASES {
-        let arguments = ["serve", "--workers", "1"];
-        let want = (Status::Done, *output);
-        let is_same = runs_to(&rt, rt.alloc(), &arguments, input, &CALM, want)?;
-        assert!(rt; is_same, "{input}");
+        try_session(&rt, rt.alloc(), input, &CALM, (Status::Done, *output))?;
     }
     Ok(())
 }
 
 #[test]
-fn what_fails_is_blamed(rt: HostRuntime) -> Result<(), NoMemory> {
-    for case in &failures::CASES {
-        let want = (case.status, case.output);
-        let is_same = runs_to(
-            &rt,
-            rt.alloc(),
-            &["serve", "--workers", "1"],
-            case.input,
-            &case.outside,
-            want,
-        )?;
-        assert!(rt; is_same, "{}", case.input);
+fn a_layer_that_could_not_be_read_is_claimed_again(rt: HostRuntime) -> Result<(), NoMemory> {
+    let want = (Status::Done, failures::CLAIMED_AGAIN);
+    for desk in &failures::DESK_CALLS {
+        let outside = Outside {
+            desk: *desk,
+            ..CALM
+        };
+        try_session(&rt, rt.alloc(), failures::SESSION, &outside, want)?;
+    }
+    Ok(())
+}
+
+#[test]
+fn a_read_that_fails_is_blamed(rt: HostRuntime) -> Result<(), NoMemory> {
+    for (reads, input, output) in &failures::READS {
+        let outside = Outside {
+            piece: 4096,
+            reads: *reads,
+            ..CALM
+        };
+        let want = (Status::ReadFault, *output);
+        try_session(&rt, rt.alloc(), input, &outside, want)?;
     }
     Ok(())
 }
 
 #[test]
 fn the_lines_before_a_failing_write_stand(rt: HostRuntime) -> Result<(), NoMemory> {
-    for (fails, output) in &writes::CASES {
+    for (writes, output) in &writes::CASES {
         let outside = Outside {
             piece: 4096,
-            writes: *fails,
+            writes: *writes,
             ..CALM
         };
         let want = (Status::WriteFault, *output);
-        let arguments = ["serve", "--workers", "1"];
-        let is_same = runs_to(&rt, rt.alloc(), &arguments, writes::SESSION, &outside, want)?;
-        assert!(rt; is_same, "{fails:?}");
+        try_session(&rt, rt.alloc(), writes::SESSION, &outside, want)?;
     }
     Ok(())
 }

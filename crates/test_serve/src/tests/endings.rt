@@ -17,10 +17,22 @@ const TWO_ROUNDS: &str = "{\"do\":\"list\"}\n\n{\"do\":\"list\"}\n";
 const FIRST_ROUND: &str =
     "{\"at\":0,\"lane\":0,\"line\":1,\"notifications\":[],\"read\":\"list\",\"reply\":\"list\"}\n";
 
-/// What comes after a text: letters without end, or no memory for any read.
+/// The first round of these two, and what ends it.
+const ONE_ROUND: &str = "{\"do\":\"list\"}\n\n";
+
+/// How many answers an input has that is this round and then lines of 65,535 bytes, 2^36 bytes in all. Of these 1,048,576 lines 2,048 are a
+/// round, since one more would bring it past its limit, and the last round has not ended.
+const ANSWERS: usize = 1 + 511 * 2048;
+
+/// The last of these answers.
+const LAST_ANSWER: &str = "\n{\"line\":1046530,\"refused\":\"bad_json\"}\n";
+
+/// What comes after a text: letters without end; lines without end, each as long as a read, whose first byte shows that they are no UTF-8;
+/// or no memory for any read.
 #[derive(Clone, Copy)]
 enum Then {
     Letters,
+    Lines,
     NoMemory,
 }
 
@@ -44,6 +56,13 @@ impl Source for TextThen {
         match self.then {
             Then::Letters => {
                 buf.fill(b'a');
+                Ok(buf.len())
+            }
+            Then::Lines => {
+                buf.fill(0xff);
+                if let Some(last) = buf.last_mut() {
+                    *last = b'\n';
+                }
                 Ok(buf.len())
             }
             Then::NoMemory => Err(IoFault::NoMemory),
@@ -123,5 +142,26 @@ fn a_round_that_has_begun_is_not_written(rt: HostRuntime) -> Result<(), Fail> {
             "{end:?}"
         );
     }
+    Ok(())
+}
+
+#[test]
+fn the_rounds_of_an_input_that_is_too_long_are_written(rt: HostRuntime) -> Result<(), Fail> {
+    let text = Seq::of(ONE_ROUND.as_bytes().to_vec(rt.alloc())?);
+    let mut source = TextThen {
+        text: CalmSource::new(text, 100),
+        then: Then::Lines,
+    };
+    let mut sink = CalmSink::new(rt.alloc(), 65_536);
+    let mut desks = vec![in rt.alloc(); TableDesk::<NoLayer>::new()]?;
+    let ended = serve(&rt, rt.alloc(), &mut source, &mut sink, &mut desks, 1);
+    let written = sink.bytes();
+    if ended == ServeEnd::NoMemory || tells_no_memory(written) {
+        return Err(Fail::from(NoMemory));
+    }
+    let answers = written.iter().filter(|byte| **byte == b'\n').count();
+    assert_eq!(rt; (ended, answers), (ServeEnd::InputTooLong, ANSWERS));
+    assert!(rt; written.starts_with(FIRST_ROUND.as_bytes()));
+    assert!(rt; written.ends_with(LAST_ANSWER.as_bytes()));
     Ok(())
 }

@@ -1,4 +1,4 @@
-use cv_seq::NoMemory;
+use cv_base::NoMemory;
 use cv_serve_crew::{Crew, Team, run_sides};
 use std::sync::atomic::AtomicU64;
 use std::sync::atomic::Ordering::SeqCst;

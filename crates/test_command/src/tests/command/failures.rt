@@ -1,4 +1,4 @@
-use test_commands::{Failure, Outside, Status};
+use test_commands::{Failure, Outside, Status, UNREAD};
 
 /// Scans in which a call of a stream or of the desk fails.
 pub static CASES: [Failure; 6] = [
@@ -47,12 +47,7 @@ pub static CASES: [Failure; 6] = [
     // the input of a scan
     Failure {
         input: "",
-        outside: Outside {
-            piece: 5,
-            reads: &[1],
-            writes: &[],
-            desk: &[],
-        },
+        outside: UNREAD,
         status: Status::ReadFault,
         output: "",
     },

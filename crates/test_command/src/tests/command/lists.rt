@@ -1,4 +1,4 @@
-use test_commands::{Failure, Outside, Status};
+use test_commands::{Failure, Outside, Status, UNREAD};
 
 /// Inputs of `sbom`: how each ends, and what it prints.
 pub static SBOMS: [(&str, Status, &str); 12] = [
@@ -195,12 +195,7 @@ pub static SBOM_FAILURES: [Failure; 3] = [
     },
     Failure {
         input: "",
-        outside: Outside {
-            piece: 5,
-            reads: &[1],
-            writes: &[],
-            desk: &[],
-        },
+        outside: UNREAD,
         status: Status::ReadFault,
         output: "",
     },
@@ -221,12 +216,7 @@ pub static SBOM_FAILURES: [Failure; 3] = [
 pub static LIST_FAILURES: [Failure; 2] = [
     Failure {
         input: "",
-        outside: Outside {
-            piece: 5,
-            reads: &[1],
-            writes: &[],
-            desk: &[],
-        },
+        outside: UNREAD,
         status: Status::ReadFault,
         output: "",
     },

@@ -1,70 +1,27 @@
-use test_commands::{Failure, Outside, Status};
-
-/// Sessions of the service in which a call of a stream or of the desk fails.
-pub static CASES: [Failure; 6] = [
-    // a layer that could not be listed is claimed again
-    Failure {
-        input: r#"{"do":"register","manifest":{"hash":"<1>","layers":[{"hash":"<a>"}]}}
+/// An image of one layer, and a round without lines after it.
+pub const SESSION: &str = r#"{"do":"register","manifest":{"hash":"<1>","layers":[{"hash":"<a>"}]}}
 
 
-"#,
-        outside: Outside {
-            piece: 100,
-            reads: &[],
-            writes: &[],
-            desk: &[1],
-        },
-        status: Status::Done,
-        output: r#"{"at":1,"event":"register","image":"<1>","lane":0,"line":1,"reply":"registered"}
+"#;
+
+/// The call of the desk that fails: the listing of the layer, the read of its first file, or that of the last one.
+pub static DESK_CALLS: [&[u64]; 3] = [&[1], &[2], &[3]];
+
+/// The layer is given back, and claimed again.
+pub const CLAIMED_AGAIN: &str =
+    r#"{"at":1,"event":"register","image":"<1>","lane":0,"line":1,"reply":"registered"}
 {"at":2,"event":"claim","layer":"<a>","reply":"claimed","worker":0}
 {"at":3,"event":"fault","layer":"<a>","reply":"requeued","worker":0}
 {"at":4,"event":"claim","layer":"<a>","reply":"claimed","worker":0}
 {"at":5,"event":"indexed","layer":"<a>","reply":"entered","worker":0}
-"#,
-    },
-    // and so is one of which the first file could not be read
-    Failure {
-        input: r#"{"do":"register","manifest":{"hash":"<1>","layers":[{"hash":"<a>"}]}}
+"#;
 
-
-"#,
-        outside: Outside {
-            piece: 100,
-            reads: &[],
-            writes: &[],
-            desk: &[2],
-        },
-        status: Status::Done,
-        output: r#"{"at":1,"event":"register","image":"<1>","lane":0,"line":1,"reply":"registered"}
-{"at":2,"event":"claim","layer":"<a>","reply":"claimed","worker":0}
-{"at":3,"event":"fault","layer":"<a>","reply":"requeued","worker":0}
-{"at":4,"event":"claim","layer":"<a>","reply":"claimed","worker":0}
-{"at":5,"event":"indexed","layer":"<a>","reply":"entered","worker":0}
-"#,
-    },
-    // or the last one
-    Failure {
-        input: r#"{"do":"register","manifest":{"hash":"<1>","layers":[{"hash":"<a>"}]}}
-
-
-"#,
-        outside: Outside {
-            piece: 100,
-            reads: &[],
-            writes: &[],
-            desk: &[3],
-        },
-        status: Status::Done,
-        output: r#"{"at":1,"event":"register","image":"<1>","lane":0,"line":1,"reply":"registered"}
-{"at":2,"event":"claim","layer":"<a>","reply":"claimed","worker":0}
-{"at":3,"event":"fault","layer":"<a>","reply":"requeued","worker":0}
-{"at":4,"event":"claim","layer":"<a>","reply":"claimed","worker":0}
-{"at":5,"event":"indexed","layer":"<a>","reply":"entered","worker":0}
-"#,
-    },
-    // the input of a service, after its first round
-    Failure {
-        input: r#"{"do":"register","manifest":{"hash":"<1>","layers":[{"hash":"<a>"}]}}
+/// The read of the input that fails, the input, and what was printed before.
+pub static READS: [(&[u64], &str, &str); 3] = [
+    // after the first round
+    (
+        &[5],
+        r#"{"do":"register","manifest":{"hash":"<1>","layers":[{"hash":"<a>"}]}}
 
 {"do":"report","image":"<1>"}
 {"do":"report","image":"<1>"}
@@ -74,43 +31,24 @@ pub static CASES: [Failure; 6] = [
 {"do":"report","image":"<1>"}
 {"do":"report","image":"<1>"}
 {"do":"report","image":"<1>"}"#,
-        outside: Outside {
-            piece: 4096,
-            reads: &[5],
-            writes: &[],
-            desk: &[],
-        },
-        status: Status::ReadFault,
-        output: r#"{"at":1,"event":"register","image":"<1>","lane":0,"line":1,"reply":"registered"}
+        r#"{"at":1,"event":"register","image":"<1>","lane":0,"line":1,"reply":"registered"}
 "#,
-    },
+    ),
     // the first read of all
-    Failure {
-        input: r#"{"do":"register","manifest":{"hash":"<1>","layers":[{"hash":"<a>"}]}}
+    (
+        &[1],
+        r#"{"do":"register","manifest":{"hash":"<1>","layers":[{"hash":"<a>"}]}}
 
 "#,
-        outside: Outside {
-            piece: 4096,
-            reads: &[1],
-            writes: &[],
-            desk: &[],
-        },
-        status: Status::ReadFault,
-        output: "",
-    },
+        "",
+    ),
     // the read after a round, in which no layer is claimed then
-    Failure {
-        input: r#"{"do":"register","manifest":{"hash":"<1>","layers":[{"hash":"<a>"}]}}
+    (
+        &[4],
+        r#"{"do":"register","manifest":{"hash":"<1>","layers":[{"hash":"<a>"}]}}
 
 "#,
-        outside: Outside {
-            piece: 4096,
-            reads: &[4],
-            writes: &[],
-            desk: &[],
-        },
-        status: Status::ReadFault,
-        output: r#"{"at":1,"event":"register","image":"<1>","lane":0,"line":1,"reply":"registered"}
+        r#"{"at":1,"event":"register","image":"<1>","lane":0,"line":1,"reply":"registered"}
 "#,
-    },
+    ),
 ];

@@ -2,8 +2,6 @@ ghost use Rattle.std.specs.Prelude.{◌≡◌, ◌<◌, ◌≤◌, IsTrue};
 ghost use Rattle.cv_core.specs.Core.{IsSound, act_of};
 ghost use Rattle.cv_core_machine.specs.declared.limits.TheConstants.{MAX_FEEDS, MAX_IMAGES};
 
-use crate::findings::{advisories, ids_of};
-use crate::machine::{Patch, Step, Work};
 use crate::service::layers::{digest, layers_of, seal_by};
 use cv_base::{Digest, MAX_LAYERS, Manifest, NoMemory, Seq, Steps, Text};
 use cv_core::{Core, Event, Limits, Reply};
@@ -11,6 +9,7 @@ use std::alloc::Global;
 use std::marker::Brand;
 use std::sync::ledger::{Blank, Ledger};
 use test_data::{SampleDesk, facts_of};
+use test_plain::{Patch, Step, Work, advisories, ids_of};
 
 /// A core over the sample layers.
 pub type Service = Core<SampleDesk>;

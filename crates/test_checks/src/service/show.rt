@@ -1,5 +1,3 @@
-use crate::findings::{Found, Lines};
-use crate::machine::IMAGES;
 use crate::service::layers::{digest, letter_by, letter_of, sign_of, zeros};
 use crate::service::step::Service;
 use cv_base::{Digest, Finding, NoMemory, Row};
@@ -7,6 +5,7 @@ use cv_core::{NoticeHead, Notices, PageError, Reply, ReportRefusal};
 use cv_overlay::{ImageFault, TreeFault};
 use cv_transcript::reply_name;
 use std::alloc::Global;
+use test_plain::{Found, IMAGES, Lines};
 
 /// The reply to an event.
 pub fn show_reply(out: &mut Lines, reply: &Reply) {

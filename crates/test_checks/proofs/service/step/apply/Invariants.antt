@@ -1,4 +1,4 @@
-use Rattle.test_plain.proofs.service.step.apply.Given as goal
+use Rattle.test_checks.proofs.service.step.apply.Given as goal
 
 abbrev pub ghosts-apply_counted : goal.ghosts-apply_counted
 ghosts-apply_counted a = record { name = a.blank.name; parts = a.blank.parts }

@@ -1,10 +1,9 @@
-use crate::findings::Lines;
-use crate::machine::Step;
 use crate::service::show::{show_reply, show_state};
 use crate::service::step::{Service, apply};
 use cv_base::NoMemory;
 use cv_transcript::reply_name;
 use std::alloc::Global;
+use test_plain::{Lines, Step};
 
 /// Applies an event, and writes the reply and the state after it. It gives the name of the reply.
 pub fn report_step(
