@@ -64,7 +64,7 @@ class Service:
         self.child.stdin.flush()
 
     def ask(self, lines, answers):
-        """The last one of the answers to the lines of a round, of which there have to be so many, and the seconds that they took."""
+        """The last one of the answers to the lines of a round, of which there has to be this number, and the seconds that they took."""
         before = self.seconds()
         self.send(lines)
         last = b""

@@ -1,7 +1,7 @@
 /* Lets one call of the system fail in a program that is started with this library preloaded. The environment says which:
  *
- *   FAIL_CALL   the name of the call: read, write, open, openat, getdents64, statx, pread64, pwrite64, ftruncate64 or fsync; without it none
- *               fails
+ *   FAIL_CALL   the name of the call: read, write, open, openat, getdents64, statx, pread64, pwrite64, ftruncate64, rename or fsync; without it
+ *               none fails
  *   FAIL_AT     the number of the first call of this name that fails, from 1; without it none does
  *   FAIL_TIMES  how many calls fail, one after the other: 1 without it
  *   FAIL_ERROR  the number of the error: 4 without it, which says that a signal interrupted the call
@@ -12,6 +12,7 @@
 #include <fcntl.h>
 #include <stdarg.h>
 #include <stdatomic.h>
+#include <stdio.h>
 #include <stdlib.h>
 #include <string.h>
 #include <sys/stat.h>
@@ -106,6 +107,10 @@ ssize_t pwrite(int file, const void *buffer, size_t length, off_t at) {
 
 int ftruncate(int file, off_t length) {
     return ftruncate64(file, length);
+}
+
+int rename(const char *from, const char *to) {
+    return fails("rename") ? -1 : (int)syscall(SYS_renameat2, AT_FDCWD, from, AT_FDCWD, to, 0);
 }
 
 int fsync(int file) {

@@ -20,16 +20,16 @@ judge = transcripts.judge
 KILLED = -9
 
 
-def has_keep(program):
-    """Whether the program has the command `keep`; one without it prints its usage."""
+def has_command(program, command):
+    """Whether the program has the command `keep` or `push`; one without it prints its usage."""
     with tempfile.TemporaryDirectory() as folder:
-        return runs.run([program, "keep"], b"", folder).status != runs.USAGE
+        return runs.run([program, command], b"", folder).status != runs.USAGE
 
 
 def program_of(options):
     """The program that the options name or that is found. Without one, or where it has no `keep`, the script ends with status 2."""
     program = command_line.program_of(options)
-    if not has_keep(program):
+    if not has_command(program, "keep"):
         print(f"{os.path.basename(sys.argv[0])}: {program} has no command keep", file=sys.stderr)
         sys.exit(2)
     return program
@@ -109,7 +109,7 @@ class Answers:
 
 
 def check_rounds(machine, workers, count, rounds, records):
-    """Raises Illegal where the records are not the events of whole rounds, one after the other, from a machine after so many events."""
+    """Raises Illegal where the records are not the events of whole rounds, one after the other, from a machine after this number of events."""
     remaining = [*rounds, []]
     for record in records:
         events = kept_file.events_of(record)
@@ -171,23 +171,9 @@ class KeptSession:
         """The judge of an output; one that is not whole may end anywhere."""
         machine = self.machine()
         events = judge.resume(machine, self.records)
-        return judge_output(judge.Judge(judge_lines(output, is_whole), self.workers, machine, events), self.rounds, is_whole)
-
-
-def judge_lines(output, is_whole):
-    """The lines of an output, of which the last one may be cut off."""
-    return judge.Output(output if is_whole else output[: output.rfind(b"\n") + 1])
-
-
-def judge_output(judged, rounds, is_whole):
-    """Lets a judge go through its lines; those of an output that is not whole may end anywhere."""
-    try:
-        judged.resumed()
-        judged.judge(rounds)
-    except judge.Illegal:
-        if is_whole or judged.output.tag is not None:
-            raise
-    return judged
+        judged = judge.Judge(transcripts.lines_of(output, is_whole), self.workers, machine, events)
+        transcripts.judge_rounds(judged, self.rounds, is_whole, True)
+        return judged
 
 
 class Kept:
@@ -227,7 +213,8 @@ class Kept:
     def take_records(self, output, rounds, is_whole):
         """Takes what an output and the file say of a run, and gives how many records it kept without a line of their events."""
         before, records = Lists(self.machine), kept_file.read(self.path())
-        judged = judge_output(judge.Judge(judge_lines(output, is_whole), self.workers, self.machine, self.events), rounds, is_whole)
+        judged = judge.Judge(transcripts.lines_of(output, is_whole), self.workers, self.machine, self.events)
+        transcripts.judge_rounds(judged, rounds, is_whole, True)
         added = records[len(self.records) :]
         if records[: len(self.records)] != self.records:
             raise judge.Illegal("records of before are gone, or changed")

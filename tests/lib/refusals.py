@@ -34,7 +34,7 @@ class Library:
             file.write(bytes(16))
         return self.here.counts
 
-    def run(self, case, refusal=NONE, longest=600):
+    def run(self, case, refusal=NONE, longest=runs.LONGEST):
         counts = self.counts()
         refused = {"REFUSE_AT": str(refusal.at), **({"REFUSE_REST": "1"} if refusal.rest else {})}
         environment = {**os.environ, **refused, "LD_PRELOAD": self.path, "REFUSE_COUNTS": counts}

@@ -13,6 +13,9 @@ SCANS, SERVICES = ["first-scan", "three-layers", "python-image"], ["service", "s
 DONE, USAGE, NO_MEMORY, REFUSED, DESK_FAULT, KEEP_FAULT, BAD_KEEP = 0, 2, 5, 8, 9, 10, 11
 HANGS = "hangs"
 
+# a run of some seconds may take this many on a busy machine, by a program that is not optimised
+LONGEST = 600
+
 # the status (of a signal -number, or HANGS), the bytes written, and what was said on standard error
 Ended = namedtuple("Ended", ["status", "output", "said"])
 
@@ -23,7 +26,7 @@ def find_program(named):
     return subprocess.run(words, stdout=subprocess.PIPE, text=True, check=False).stdout.strip()
 
 
-def run(command, data, folder, longest=60, environment=None):
+def run(command, data, folder, longest=LONGEST, environment=None):
     """Runs a command over the input in a folder, for at most this number of seconds."""
     try:
         done = subprocess.run(command, input=data, cwd=folder, env=environment, capture_output=True, timeout=longest, check=False)

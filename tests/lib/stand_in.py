@@ -1,9 +1,11 @@
 #!/usr/bin/env python3
-"""A stand-in for `cvwatch serve` and `cvwatch keep`, made of the machine of dev/check-transcript, for tests that have to see wrong programs.
+"""A stand-in for `cvwatch serve`, `cvwatch keep` and `cvwatch push`, made of the machine of dev/check-transcript, for tests that have to see wrong programs.
 
 The environment variable WRONG names what it does wrong, if anything.
 """
 
+import contextlib
+import errno
 import fcntl
 import os
 import random
@@ -14,7 +16,7 @@ sys.path.insert(0, os.path.dirname(os.path.realpath(__file__)))
 
 # pylint: disable=wrong-import-position
 from kept_runs import judge, kept_file
-from runs import BAD_KEEP, DESK_FAULT, KEEP_FAULT, USAGE
+from runs import BAD_KEEP, DESK_FAULT, KEEP_FAULT, NO_MEMORY, USAGE
 
 WRONG = os.environ.get("WRONG", "")
 
@@ -137,11 +139,71 @@ class Round:
         self.reads = []
 
 
+class FolderHook:
+    """The folder `hook`, the last number that it took, and why an offer failed the last time."""
+
+    def __init__(self):
+        self.last, self.failure = 0, None
+
+    def after_round(self, notices):
+        """Offers what stands after the last number, up to the first that is not taken, and gives the lines of the offers."""
+        due = [number for number in sorted(notices, reverse=WRONG == "the greatest number is offered first") if number > self.last]
+        if WRONG == "the last number is offered again" and self.last in notices:
+            due.insert(0, self.last)
+        lines = []
+        for number in due:
+            is_taken = self.offer(number, judge.rows_text(notices[number]).encode())
+            lines.append(judge.object_text({"hook": "taken" if is_taken else "fault", "number": number}))
+            if is_taken or WRONG == "a fault counts as taken":
+                self.last = number
+            elif WRONG != "a round goes on after a fault":
+                break
+        return lines
+
+    def offer(self, number, rows):
+        name = f"hook/{number}.json"
+        try:
+            if WRONG == "a file is written under its name":
+                self.write(name, rows)
+            else:
+                self.write("hook/unfinished", rows)
+                os.rename("hook/unfinished", name)
+                self.sync("hook")
+        except OSError as error:
+            with contextlib.suppress(OSError):
+                os.remove("hook/unfinished")
+            if error.errno == errno.ENOMEM:
+                raise Ends(NO_MEMORY, "out of memory") from error
+            if WRONG == "a fault ends the run":
+                raise Ends(4, f"{name}: {error.strerror}") from error
+            self.failure = f"{name}: {error.strerror} (os error {error.errno})"
+            return False
+        return True
+
+    @staticmethod
+    def write(name, rows):
+        file = os.open(name, os.O_WRONLY | os.O_CREAT | os.O_TRUNC | os.O_CLOEXEC, 0o666)
+        try:
+            put(file, rows + b"\n" if WRONG == "a line feed is added to the rows" else rows)
+            os.fsync(file)
+        finally:
+            os.close(file)
+
+    @staticmethod
+    def sync(name):
+        file = os.open(name, os.O_RDONLY | os.O_CLOEXEC)
+        try:
+            os.fsync(file)
+        finally:
+            os.close(file)
+
+
 class Service:
-    def __init__(self, workers, keeps):
+    def __init__(self, workers, command):
         self.workers, self.count, self.journal = workers, 0, None
         self.machine = judge.Machine("layers", False)
-        if keeps:
+        self.hook = FolderHook() if command == "push" else None
+        if command == "keep":
             self.begin()
 
     def begin(self):
@@ -202,6 +264,8 @@ class Service:
             self.keep(made.events)
         if not is_early:
             self.write(made.lines)
+        if self.hook is not None:
+            self.write(self.hook.after_round(self.machine.notices))
 
     def run(self, source):
         """Reads the lines of an input to its end. An empty line ends a round."""
@@ -217,11 +281,13 @@ class Service:
             self.run_round(begun)
         if "queued" in self.machine.layers.values():
             self.run_round([])
+        if self.hook is not None and self.hook.failure is not None:
+            print(f"cvwatch: {self.hook.failure}", file=sys.stderr)
 
 
 def workers_of(words):
     """The number of workers that the arguments name, or None if they are none that it takes."""
-    if words[:1] not in (["serve"], ["keep"]):
+    if words[:1] not in (["serve"], ["keep"], ["push"]):
         return None
     if len(words) == 1:
         return 4
@@ -233,10 +299,10 @@ def main():
     words = sys.argv[1:]
     workers = workers_of(words)
     if workers is None:
-        print("usage: cvwatch serve|scan|order|drill|sbom|scan-list")
+        print("usage: cvwatch serve|scan|order|drill|sbom|scan-list|keep|push")
         return USAGE
     try:
-        Service(workers, words[0] == "keep").run(sys.stdin.buffer)
+        Service(workers, words[0]).run(sys.stdin.buffer)
     except Ends as ends:
         if ends.args[1:]:
             print(f"cvwatch: {ends.args[1]}", file=sys.stderr)
