@@ -32,4 +32,4 @@ _cvwatch_script() {
 }
 
 complete -F _cvwatch cvwatch
-complete -F _cvwatch_script cvwatch-image-to-layers cvwatch-feed-to-lines cvwatch-scan-one cvwatch-scan-many cvwatch-findings-table cvwatch-layer-seal
+complete -F _cvwatch_script cvwatch-image-to-layers cvwatch-feed-to-lines cvwatch-scan-one cvwatch-scan-many cvwatch-findings-table cvwatch-layer-seal cvwatch-deliver-hooks

@@ -29,6 +29,6 @@ end
 complete -c cvwatch -f
 complete -c cvwatch -n __fish_use_subcommand -a '(__cvwatch_commands | string split -f 1 " ")'
 complete -c cvwatch -n 'not __fish_use_subcommand' -a '(__cvwatch_arguments)'
-for script in image-to-layers feed-to-lines scan-one scan-many findings-table layer-seal
+for script in image-to-layers feed-to-lines scan-one scan-many findings-table layer-seal deliver-hooks
     complete -c cvwatch-$script -n 'string match -q -- "-*" (commandline -ct)' -a '(__cvwatch_options)'
 end

@@ -1,4 +1,4 @@
-#compdef cvwatch cvwatch-image-to-layers cvwatch-feed-to-lines cvwatch-scan-one cvwatch-scan-many cvwatch-findings-table cvwatch-layer-seal
+#compdef cvwatch cvwatch-image-to-layers cvwatch-feed-to-lines cvwatch-scan-one cvwatch-scan-many cvwatch-findings-table cvwatch-layer-seal cvwatch-deliver-hooks
 # Completions of cvwatch and its scripts for zsh. What they offer is read from the pages that --help prints.
 
 # the lines on the commands, as `serve [--workers N]`

@@ -25,9 +25,10 @@ STOP_SECONDS = 60.0
 END_SECONDS = 1.0
 # so does `keep` over an empty input
 PROBE_SECONDS = 10.0
-# the file of `keep` in its working directory, and statuses of cvwatch: the usage was printed, it does not take its file, its file is full
+# the file of `keep` in its working directory, and statuses of cvwatch: the usage was printed; `keep` cannot read a layer that is kept as
+# indexed; it does not take its file; its file is full
 KEPT = "cvwatch.keep"
-USAGE, BAD_KEEP, KEEP_FULL = 2, 11, 12
+USAGE, DESK_FAULT, BAD_KEEP, KEEP_FULL = 2, 9, 11, 12
 
 
 class ChildGone(Exception):

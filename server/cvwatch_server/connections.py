@@ -9,7 +9,7 @@ from aiohttp import web
 from .metrics import Metrics
 
 BUSY = b"HTTP/1.1 503 Service Unavailable\r\nContent-Length: 0\r\nConnection: close\r\nRetry-After: 1\r\n\r\n"
-# so many requests of one connection may wait for the one before them
+# the most requests of one connection that may wait for the one before them
 MOST_WAITING = 100
 # the option TCP_USER_TIMEOUT of Linux
 USER_TIMEOUT = 18

@@ -20,7 +20,7 @@ from .records import Change, Part, Records
 from .refusals import Refusal
 from .store import FeedState, Store
 
-# cvwatch takes so many records of one feed, and lines up to 64 MiB; a part is begun with less, so that it can grow
+# the most records and bytes with which a part of a feed begins. cvwatch takes 200,000 records of a feed and lines of 64 MiB, so a part can grow
 MOST_RECORDS = 150_000
 MOST_BYTES = 40_000_000
 RETRY_SECONDS = 5.0

@@ -7,7 +7,7 @@ import os
 import time
 from typing import Any, Awaitable, Callable
 
-from .child import BAD_KEEP, KEEP_FULL, KEPT, LANES, Answer, Child, ChildGone
+from .child import BAD_KEEP, DESK_FAULT, KEEP_FULL, KEPT, LANES, Answer, Child, ChildGone
 from .configuration import Configuration
 from .logs import note, warn
 from .metrics import Metrics
@@ -98,7 +98,7 @@ class Keeper:
         try:
             status = await running
             note("the child ended", logging.INFO if self.is_stopping.is_set() else logging.WARNING, status=status)
-            if status in (BAD_KEEP, KEEP_FULL):
+            if status in (DESK_FAULT, BAD_KEEP, KEEP_FULL):
                 self.set_aside()
         finally:
             self.is_ready.clear()
@@ -107,7 +107,7 @@ class Keeper:
             await asyncio.gather(restoring, return_exceptions=True)
 
     def set_aside(self) -> None:
-        """Renames the file that a child does not take, or cannot write any more, so that the next one begins anew and gets all that it needs."""
+        """Renames the file of a child that cannot go on with it, so that the next one begins without one and gets all that it needs."""
         file = self.configuration.state / KEPT
         aside = file.with_name(f"{KEPT}.{int(time.time())}")
         try:

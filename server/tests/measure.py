@@ -15,7 +15,7 @@ from typing import Any
 sys.dont_write_bytecode = True
 
 # pylint: disable=wrong-import-position
-from support import ROOT, Answers, Party, Server, blob_party, debian_blob, manifest_of, npm_blob, record, wait_for, write_feed
+from support import ROOT, Party, Server, blob_party, debian_blob, manifest_of, npm_blob, processor_seconds, record, wait_for, write_feed
 
 PACKAGES = 100
 ADVISORIES = 50
@@ -33,17 +33,24 @@ end
 
 
 def wrk(server: Server, folder: Path, connections: int) -> dict[str, str]:
-    """Reports a second and times, by wrk."""
+    """Reports a second, their times by the clock, and the processor time of one, by wrk."""
     (folder / "wrk.lua").write_text(SCRIPT)
+    before = server.processor_seconds()
     command = ["wrk", "--latency", "-t1", f"-c{connections}", f"-d{SECONDS}s", "-s", folder / "wrk.lua", f"http://127.0.0.1:{server.port}"]
     done = subprocess.run(command, stdout=subprocess.PIPE, check=True, text=True, env={**os.environ, "PATHS": str(folder / "paths")})
     assert "Non-2xx" not in done.stdout, done.stdout
-    found = {key: value for key, value in re.findall(r"^\s*(50%|99%|Requests/sec:)\s+(\S+)", done.stdout, re.MULTILINE)}
-    return {"rate": found["Requests/sec:"], "half": found["50%"], "slow": found["99%"]}
+    found = dict(re.findall(r"^\s*(50%|99%|Requests/sec:)\s+(\S+)", done.stdout, re.MULTILINE))
+    used = milliseconds(server.processor_seconds() - before, int(re.findall(r"(\d+) requests in", done.stdout)[0]))
+    return {"rate": found["Requests/sec:"], "half": found["50%"], "slow": found["99%"], "used": used}
+
+
+def milliseconds(seconds: float, reports: int) -> str:
+    """The processor time of one of these reports."""
+    return f"{1000 * seconds / max(reports, 1):.2f}ms"
 
 
 def pipes(program: str, folder: Path, digests: list[str], lines: int) -> dict[str, str]:
-    """The same of the child alone, over pipes, with rounds of so many lines."""
+    """The same of the child alone, over pipes, with rounds of this number of lines."""
     child = subprocess.Popen([program, "serve"], cwd=folder, stdin=subprocess.PIPE, stdout=subprocess.PIPE)
     assert child.stdin is not None and child.stdout is not None
     for request in [*json.loads((folder / "requests").read_text()), None]:
@@ -52,7 +59,7 @@ def pipes(program: str, folder: Path, digests: list[str], lines: int) -> dict[st
     child.stdin.flush()
     while b'"read":"list"' not in child.stdout.readline():
         pass
-    times, began, place = [], time.monotonic(), 0
+    times, began, place, before = [], time.monotonic(), 0, processor_seconds(child.pid)
     while time.monotonic() - began < SECONDS:
         start = time.monotonic()
         some = [digests[(place + step) % len(digests)] for step in range(lines)]
@@ -62,11 +69,12 @@ def pipes(program: str, folder: Path, digests: list[str], lines: int) -> dict[st
         for _ in some:
             assert b'"reply":"good"' in child.stdout.readline()
         times += [time.monotonic() - start] * lines
+    used = milliseconds(processor_seconds(child.pid) - before, len(times))
     child.stdin.close()
     child.wait()
     times.sort()
     rate = len(times) / (time.monotonic() - began)
-    return {"rate": f"{rate:.0f}", "half": f"{1000 * times[len(times) // 2]:.2f}ms", "slow": f"{1000 * times[len(times) * 99 // 100]:.2f}ms"}
+    return {"rate": f"{rate:.0f}", "half": f"{1000 * times[len(times) // 2]:.2f}ms", "slow": f"{1000 * times[len(times) * 99 // 100]:.2f}ms", "used": used}
 
 
 def records_of() -> list[dict[str, Any]]:
@@ -124,9 +132,9 @@ def main() -> None:
     load = os.getloadavg()[0]
     with tempfile.TemporaryDirectory() as folder:
         rows = table(program, Path(folder), count)
-    print("| | Reports a second | Half within | 99 % within |\n|---|---|---|---|")
+    print("| | Reports a second | Half within | 99 % within | Processor time of one |\n|---|---|---|---|---|")
     for name, row in rows:
-        print(f"| {name} | {row['rate']} | {row['half']} | {row['slow']} |")
+        print(f"| {name} | {row['rate']} | {row['half']} | {row['slow']} | {row['used']} |")
     print(f"\n{platform.machine()}, {os.cpu_count()} processors with a load of {load:.1f} before, Python {platform.python_version()}, commit {commit}")
 
 

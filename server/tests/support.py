@@ -251,7 +251,11 @@ class Server:
         return status
 
     def __enter__(self) -> "Server":
-        return self.start()
+        try:
+            return self.start()
+        except BaseException:
+            self.stop(signal.SIGKILL)
+            raise
 
     def __exit__(self, *_: Any) -> None:
         self.stop(signal.SIGTERM)
@@ -290,6 +294,11 @@ class Server:
         found = Path(f"/proc/{self.process.pid}/task/{self.process.pid}/children").read_text().split()
         return [int(number) for number in found if b"--workers" in Path(f"/proc/{number}/cmdline").read_bytes()]
 
+    def processor_seconds(self) -> float:
+        """The processor time of the server and its child so far."""
+        assert self.process is not None
+        return sum(processor_seconds(number) for number in [self.process.pid, *self.children()])
+
     def memory(self) -> int:
         """The most bytes of memory that the server had so far."""
         assert self.process is not None
@@ -297,6 +306,12 @@ class Server:
             if line.startswith("VmHWM:"):
                 return int(line.split()[1]) * 1024
         raise AssertionError("no memory is stated")
+
+
+def processor_seconds(number: int) -> float:
+    """The processor time that a process took so far."""
+    user, system = Path(f"/proc/{number}/stat").read_text().rpartition(")")[2].split()[11:13]
+    return (int(user) + int(system)) / os.sysconf("SC_CLK_TCK")
 
 
 def vulnerable(report: dict[str, Any]) -> list[tuple[str, str, str, str]]:
