@@ -1,4 +1,4 @@
-//! Tests of the pool, the hub, the attempts of a round over a view of the hub, and starts from a kept file.
+//! Tests of the pool, of the hub, and of starts from a kept file.
 #![tactic(auto)]
 
 #[cfg(test)]

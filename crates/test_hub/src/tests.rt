@@ -1,6 +1,5 @@
 mod hub;
 mod pool;
-mod pushed;
 mod records;
 mod replay;
 mod seats;
