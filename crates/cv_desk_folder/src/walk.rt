@@ -7,10 +7,11 @@ ghost use Rattle.cv_base.specs.Path.{path_cmp, path_of, path_text};
 ghost use Rattle.cv_desk_folder.specs.Folder.{most_entries};
 ghost use Rattle.cv_desk_folder.specs.code.Walked.{AreAllAdded, Grows, IsErrorOf, IsInterrupted, is_failure, joined};
 
-use crate::again::{MOST_TRIES, look, too_many_signals};
+use crate::again::look;
 use crate::failure::{FolderError, answer_at, failure};
 use crate::place::{folder_of, joined};
 use cv_base::{Digest, Kind, ListEntry, MAX_ENTRIES, PathError, RelPath, Seq};
+use cv_io::{MOST_TRIES, too_many_signals};
 use std::alloc::Global;
 use std::fs::{self, DirEntry, Metadata, ReadDir};
 use std::io::{self, ErrorKind};

@@ -5,7 +5,7 @@ ghost use Rattle.cv_dpkg.specs.Fields.{is_name, named, pair_in};
 ghost use Rattle.cv_dpkg.specs.code.Names.{entry_of, name_cmp};
 
 use cv_base::{are_printing, cut_at, is_same_name, trim_front};
-use cv_path::{ByteKey, compare_by};
+use cv_order::compare_in_lower_case;
 use std::cmp::Ordering;
 
 /// The fields that are used. Every other one is ignored.
@@ -66,22 +66,9 @@ pub fn named(name: &[u8]) -> Field
     }
 }
 
-/// Letters are compared in lower case.
-struct InLowerCase;
-
-impl ByteKey for InLowerCase {
-    ghost use Rattle.std.specs.Char.{to_ascii_lowercase};
-
-    ghost key = { to_ascii_lowercase };
-
-    fn key_of(byte: u8) -> u8 {
-        byte.to_ascii_lowercase()
-    }
-}
-
 /// The order of names, which are not case-sensitive in ASCII.
 pub fn name_order(one: &[u8], other: &[u8]) -> Ordering
     ensures { result ≡ name_cmp one.now other.now }
 {
-    compare_by::<InLowerCase>(one, other)
+    compare_in_lower_case(one, other)
 }

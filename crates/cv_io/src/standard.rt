@@ -1,7 +1,6 @@
-ghost use Rattle.std.specs.Prelude.{◌≡◌, ◌≤◌, ◌<◌, IfErr, IfOk, IsErrAnd, IsTrue, ◌↔◌, length};
+ghost use Rattle.std.specs.Prelude.{◌≡◌, ◌≤◌, ◌<◌, IfErr, IfOk, length};
 ghost use Rattle.std.specs.Io.{ReadsAtMost, WritesAtMost};
 ghost use Rattle.std.specs.Io.KnownBytes.{Keeps, ReadConsumes, WriteAppends};
-ghost use Rattle.std.specs.IoError.{error_kind};
 ghost use Rattle.cv_seq.specs.Cause.{CausedBy};
 ghost use Rattle.cv_io.specs.Fault.{is_failed};
 ghost use Rattle.cv_io.specs.Standard.{IsNoInterrupt, IsNoted};
@@ -9,12 +8,10 @@ ghost use Rattle.cv_io.specs.Writes.{WritesFront};
 
 use crate::counted::Counted;
 use crate::fault::IoFault;
+use crate::signal::{MOST_TRIES, is_interrupted, too_many_signals};
 use crate::sink::Sink;
 use crate::source::Source;
 use std::io::{self, ErrorKind, Read, Write};
-
-/// The most times that a call is made which signals interrupt.
-const MOST_TRIES: u32 = 100;
 
 /// Reads from a reader of std, as standard input. The remaining bytes are those that the reader's contract knows: of
 /// standard input none are known. It counts each error, and keeps the last one. A read that a signal interrupts is made again.
@@ -163,24 +160,4 @@ fn flush_again<W: Write>(writer: &mut W) -> io::Result<()>
         }
     }
     Err(too_many_signals())
-}
-
-/// Whether a signal interrupted the call.
-fn is_interrupted<X>(answer: &io::Result<X>) -> bool
-    ensures { IsTrue result ↔ IsErrAnd answer.now (λ error. error_kind error ≡ ErrorKind.Interrupted) }
-{
-    match answer {
-        Ok(_) => false,
-        Err(error) => error.kind() == ErrorKind::Interrupted,
-    }
-}
-
-/// The error of a call that signals interrupted each time.
-fn too_many_signals() -> io::Error
-    ensures { error_kind result ≡ ErrorKind.TimedOut }
-{
-    io::Error::new(
-        ErrorKind::TimedOut,
-        "signals interrupted the call each time",
-    )
 }

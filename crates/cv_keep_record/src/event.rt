@@ -1,5 +1,4 @@
-use cv_base::Digest;
-use cv_seq::Seq;
+use cv_base::{Digest, Seq};
 
 /// The byte before the fields of a request line.
 pub(crate) const BY_LINE: u8 = 0;

@@ -5,8 +5,7 @@ ghost use Rattle.cv_keep_record.specs.code.Reading.{by_at, event_at, line_at, wo
 
 use crate::event::{BY_LINE, BY_WORKER, KeptBy, KeptEvent};
 use crate::fields::{byte_at, digest_at, kind_of, text_at, u32_at, u64_at};
-use cv_base::Digest;
-use cv_seq::{NoMemory, Seq};
+use cv_base::{Digest, NoMemory, Seq};
 use std::alloc::Global;
 
 /// The events of a record, or `None` if the bytes are no record.

@@ -3,8 +3,7 @@ ghost use Rattle.std.specs.List.{AllByRecursion};
 ghost use Rattle.cv_keep_record.specs.Record.{Fits, IsRecord, kept_bytes, kind_byte, line_event, work_event};
 
 use crate::event::{BY_LINE, BY_WORKER, KeptBy, KeptEvent, WorkKind};
-use cv_base::Digest;
-use cv_seq::NoMemory;
+use cv_base::{Digest, NoMemory};
 use std::alloc::Global;
 
 /// Appends the event of a request line.

@@ -1,21 +1,13 @@
 -- No number of a line has a point.
-use Rattle.std.proofs.Common.{◌≡◌, ℕ, false, List, [], ◌∷◌, refl}
+use Rattle.std.proofs.Common.{◌≡◌, ℕ, false, List, refl}
 use Rattle.std.specs.Prelude.{Option, Some, None}
 use Rattle.serde_json.specs.Written.{has_float}
 use Rattle.cv_base.specs.declared.finding.Finding.{Finding}
-use Rattle.cv_scan_output.specs.Finding.{findings_data, fixed_data}
 use Rattle.cv_sbom.specs.declared.error.ListWhat.{ListWhat}
 use Rattle.cv_sbom.specs.declared.error.ListWhat.TheVariants.{NotObject, BadFormat, BadComponents}
 use Rattle.cv_list_output.specs.Fault.{bad_list_data}
+use Rattle.cv_scan_output.proofs.Floats.{findings_have_none}
 use Rattle.cv_list_output.specs.Good.{image_data, list_good_data}
-
-fixed_has_none : (fixed : Option (List ℕ)) → has_float (fixed_data fixed) ≡ false
-fixed_has_none None = refl
-fixed_has_none (Some text) = refl
-
-findings_have_none : (fs : List Finding) → has_float (findings_data fs) ≡ false
-findings_have_none [] = refl
-findings_have_none (f ∷ fs) = rw (fixed_has_none f.fixed) (findings_have_none fs)
 
 image_has_none : (image : Option (List ℕ)) → has_float (image_data image) ≡ false
 image_has_none None = refl

@@ -1,13 +1,13 @@
 ghost use Rattle.std.specs.Prelude.{◌≡◌, IfOk, string_bytes};
 ghost use Rattle.serde_json.specs.View.{view};
-ghost use Rattle.cv_scan_output.specs.Refusal.{line_data, refused_text};
+ghost use Rattle.cv_scan_output.specs.Refusal.{refused_text};
 ghost use Rattle.cv_list_output.specs.Fault.{bad_list_data, bad_list_text, fault_text, list_fault_text, named_list_data};
 
 use cv_base::NoMemory;
 use cv_request::{RequestError, RequestFault};
 use cv_sbom::{ListFault, ListWhat};
 use cv_scan_input::InputFault;
-use cv_scan_output::{line_of, refusal_line};
+use cv_scan_output::{line_of, refusal_line, refused_line};
 use serde_json::{Value, json};
 use std::alloc::Global;
 
@@ -42,21 +42,6 @@ fn list_fault_line(alloc: Global, line: u64, fault: ListFault) -> Result<String,
         ListFault::BadJson => refused_line(alloc, line, "bad_json"),
         ListFault::BadList(what) => bad_list_line(alloc, line, what),
     }
-}
-
-/// The line of a refusal by a word alone.
-#[tactic(auto, unfolding(cv_scan_output::specs::Refusal::refused_text))]
-fn refused_line(alloc: Global, line: u64, word: &str) -> Result<String, NoMemory>
-    ensures { IfOk result (λ text. string_bytes text ≡ refused_text line word.now) }
-{
-    let value = line_value(alloc, line, word)?;
-    line_of(alloc, &value)
-}
-
-fn line_value(alloc: Global, line: u64, word: &str) -> Result<Value, NoMemory>
-    ensures { IfOk result (λ value. view value ≡ line_data line word.now) }
-{
-    Ok(json!(in alloc; {"line": line, "refused": word})?)
 }
 
 /// The line of a list of components that is malformed.

@@ -1,4 +1,4 @@
-//! Texts of a layer: lines cut at a byte, texts compared, and paths with the package files among them.
+//! Texts of a layer: lines cut at a byte, and paths with the package files among them.
 //!
 //! ```text
 //! let path = RelPath::read(alloc, "var/lib/dpkg/status")?;
@@ -6,7 +6,6 @@
 //! ```
 #![tactic(auto)]
 
-mod compare;
 mod limits;
 mod package_files;
 mod path;
@@ -14,7 +13,6 @@ mod path_text;
 mod places;
 mod text;
 
-pub use compare::{ByteKey, compare_by};
 pub use limits::MAX_PATH_LEN;
 pub use package_files::place;
 pub use path::{PathError, RelPath, path_laws};

@@ -5,8 +5,8 @@ ghost use Rattle.cv_path.specs.Texts.{is_nil};
 ghost use Rattle.cv_path.specs.Path.{components, is_component, is_name, is_slash, is_special};
 ghost use Rattle.cv_path.specs.code.PathText.{front_text, goes_on, is_above_text, is_end, joined, rank, slashes_after, text_cmp};
 
-use crate::compare::{ByteKey, compare_by};
 use crate::limits::MAX_PATH_LEN;
+use cv_order::{ByteKey, compare_by};
 use cv_seq::NoMemory;
 use std::alloc::Global;
 use std::cmp::Ordering;

@@ -1,9 +1,7 @@
-ghost use Rattle.std.specs.Prelude.{◌≡◌, ◌+◌, ◌<◌, ◌↔◌, IsTrue, length, map};
-ghost use Rattle.std.specs.Char.{to_ascii_lowercase};
+ghost use Rattle.std.specs.Prelude.{◌≡◌, ◌+◌, ◌<◌, ◌↔◌, IsTrue, length};
 ghost use Rattle.std.specs.Cmp.{IsTotalOrder};
-ghost use Rattle.std.specs.Cmp.Lexicographic.{slice_cmp};
 ghost use Rattle.std.specs.Option.{option_cmp};
-ghost use Rattle.std.specs.Ordering.{nat_cmp, on};
+ghost use Rattle.std.specs.Ordering.{on};
 ghost use Rattle.cv_order.specs.Digits.{number_cmp};
 ghost use Rattle.cv_order.specs.Laws.{IsTotalPreorder};
 ghost use Rattle.cv_pep440.specs.Grammar.{IsWellWritten, Written, text_of};
@@ -15,7 +13,7 @@ ghost use Rattle.cv_pep440.specs.code.Walk.{next_number, places_cmp};
 
 use crate::parts::{Part, Parts, begins_with_digit, cut_run};
 use crate::rank::{DEV_RANK, RELEASE_RANK};
-use cv_order::{are_digits, compare_digits, compare_numbers};
+use cv_order::{are_digits, compare_digits, compare_in_lower_case, compare_numbers};
 use std::cmp::Ordering;
 
 /// The three laws of the order, `laws`: any two versions compare, the order is transitive, and `compare(b, a)` is the reverse of
@@ -192,30 +190,6 @@ fn compare_runs(a: &[u8], b: &[u8]) -> Ordering
         (true, true) => compare_digits(a, b),
         (true, false) => Ordering::Greater,
         (false, true) => Ordering::Less,
-        (false, false) => compare_letters(a, b),
-    }
-}
-
-/// Compares two texts by their bytes, letters in lower case.
-fn compare_letters(a: &[u8], b: &[u8]) -> Ordering
-    ensures { result ≡ slice_cmp nat_cmp (map to_ascii_lowercase a.now) (map to_ascii_lowercase b.now) }
-{
-    let mut left = a;
-    let mut right = b;
-    while let [x, xs @ ..] = left {
-        let [y, ys @ ..] = right else {
-            return Ordering::Greater;
-        };
-        let ordering = x.to_ascii_lowercase().cmp(&y.to_ascii_lowercase());
-        if ordering.is_ne() {
-            return ordering;
-        }
-        left = xs;
-        right = ys;
-    }
-    if right.is_empty() {
-        Ordering::Equal
-    } else {
-        Ordering::Less
+        (false, false) => compare_in_lower_case(a, b),
     }
 }

@@ -13,7 +13,6 @@ mod error;
 mod laws;
 mod list;
 mod member;
-mod names;
 mod read;
 mod write;
 

@@ -6,9 +6,8 @@ ghost use Rattle.cv_sbom.specs.ListRead.{list_read, list_with};
 ghost use Rattle.cv_sbom.specs.Listable.{HasPath, is_below_top};
 ghost use Rattle.cv_sbom.specs.ListText.{component_data, components_data, list_data, list_text, metadata_data, properties_data, property_data};
 
-use crate::names::kind_text;
 use cv_base::{Digest, NoMemory, Package, Text};
-use cv_scan_output::{Object, json_of};
+use cv_scan_output::{Object, json_of, kind_text};
 use serde_json::Value;
 use std::alloc::Global;
 

@@ -16,7 +16,7 @@ fixed_has_none : (fixed : Option (List ℕ)) → has_float (fixed_data fixed) �
 fixed_has_none None = refl
 fixed_has_none (Some text) = refl
 
-findings_have_none : (fs : List Finding) → has_float (findings_data fs) ≡ false
+pub findings_have_none : (fs : List Finding) → has_float (findings_data fs) ≡ false
 findings_have_none [] = refl
 findings_have_none (f ∷ fs) = rw (fixed_has_none f.fixed) (findings_have_none fs)
 

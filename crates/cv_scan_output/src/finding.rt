@@ -51,7 +51,8 @@ fn fixed_value(alloc: Global, fixed: Option<&Text>) -> Result<Value, NoMemory>
     }
 }
 
-fn kind_text(kind: PackageKind) -> &'static str
+/// The printed name of a kind.
+pub fn kind_text(kind: PackageKind) -> &'static str
     ensures { result.now ≡ kind_text kind }
 {
     match kind {

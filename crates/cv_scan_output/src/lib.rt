@@ -15,8 +15,8 @@ mod refusal;
 mod scan;
 
 pub use bad::{bad_image_line, bad_value};
-pub use finding::{finding_value, findings_value};
+pub use finding::{finding_value, findings_value, kind_text};
 pub use line::{ended, json_of, line_of};
 pub use object::Object;
-pub use refusal::{no_manifest_line, refusal_line, refusal_value};
+pub use refusal::{no_manifest_line, refusal_line, refusal_value, refused_line};
 pub use scan::{desk_fault_line, good_line};

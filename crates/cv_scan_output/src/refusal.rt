@@ -27,7 +27,7 @@ pub fn no_manifest_line(alloc: Global) -> Result<String, NoMemory>
 
 /// The line of a refusal by a word alone: `{"line":1,"refused":"no_manifest"}`. Lines are numbered from 1.
 #[tactic(auto, unfolding(crate::specs::Refusal::refused_text))]
-fn refused_line(alloc: Global, line: u64, word: &str) -> Result<String, NoMemory>
+pub fn refused_line(alloc: Global, line: u64, word: &str) -> Result<String, NoMemory>
     ensures { IfOk result (λ text. string_bytes text ≡ refused_text line word.now) }
 {
     let value = line_value(alloc, line, word)?;

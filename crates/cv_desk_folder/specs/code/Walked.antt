@@ -61,10 +61,6 @@ abbrev pub IsErrorOf : Error → FolderError → Type 0
 IsErrorOf reason (error.Failed failure) = (failure.reason ≡ reason) × (error_kind reason ≢ OutOfMemory)
 IsErrorOf reason error.NoMemory = error_kind reason ≡ OutOfMemory
 
--- no signal interrupted the call
-abbrev pub IsNoInterrupt : Error → Type 0
-IsNoInterrupt reason = error_kind reason ≢ Interrupted
-
 -- a signal interrupted the listing
 abbrev pub IsInterrupted : FolderError → Type 0
 IsInterrupted (error.Failed failure) = error_kind failure.reason ≡ Interrupted

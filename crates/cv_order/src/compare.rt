@@ -1,4 +1,5 @@
 //! Texts in the order of keys of their bytes.
+ghost use Rattle.std.specs.Char.{to_ascii_lowercase};
 ghost use Rattle.std.specs.Cmp.Lexicographic.{slice_cmp};
 ghost use Rattle.std.specs.Ordering.{nat_cmp};
 ghost use Rattle.std.specs.Prelude.{◌≡◌, map};
@@ -38,4 +39,24 @@ pub fn compare_by<K: ByteKey>(one: &[u8], other: &[u8]) -> Ordering
     } else {
         Ordering::Less
     }
+}
+
+/// Letters are compared in lower case.
+struct InLowerCase;
+
+impl ByteKey for InLowerCase {
+    ghost use Rattle.std.specs.Char.{to_ascii_lowercase};
+
+    ghost key = { to_ascii_lowercase };
+
+    fn key_of(byte: u8) -> u8 {
+        byte.to_ascii_lowercase()
+    }
+}
+
+/// The order of two texts by their bytes, with the letters of ASCII in lower case.
+pub fn compare_in_lower_case(one: &[u8], other: &[u8]) -> Ordering
+    ensures { result ≡ slice_cmp nat_cmp (map to_ascii_lowercase one.now) (map to_ascii_lowercase other.now) }
+{
+    compare_by::<InLowerCase>(one, other)
 }

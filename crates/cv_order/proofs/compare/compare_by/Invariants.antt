@@ -1,7 +1,7 @@
 use Rattle.std.proofs.Common.{◌≡◌, length, map}
 use Rattle.std.specs.Cmp.Lexicographic.{slice_cmp}
 use Rattle.std.specs.Ordering.{nat_cmp}
-use Rattle.cv_path.proofs.compare.compare_by.Given as goal
+use Rattle.cv_order.proofs.compare.compare_by.Given as goal
 
 -- what remains compares as the whole does
 abbrev pub invariant-loop-left : goal.invariant-loop-left
