@@ -113,7 +113,7 @@ Narrows before now (Ok (Text line)) = (room_of now < room_of before) × (room_of
 Narrows before now (Ok End) = Unit {0}
 Narrows before now (Err error) = Unit {0}
 
--- after a line, what was taken and is not yet given is less than one read gives: nothing is read beside the line
+-- after a line, what was taken and is not yet given is less than one read may take
 abbrev pub IsAhead : Reader → Result Line LineError → Type 0
 IsAhead now (Ok (Text line)) = length now.held < 65536
 IsAhead now (Ok End) = Unit {0}

@@ -120,7 +120,7 @@ EndsLastRound true texts all = length (cut_lines round_limits (numbered 1 texts)
 EndsLastRound false texts all =
     (earlier : List (List ℕ)) × (text : List ℕ) × (texts ≡ earlier ++ text ∷ []) × (length (cut_lines round_limits (numbered 1 earlier)).rounds < length all)
 
--- what was taken of the input are the lines that were given, and less behind them than one read gives
+-- what was taken of the input are the lines that were given, and less behind them than one read may take
 pub record IsTakenNoFurther (before now : Option (List ℕ)) (texts : List (List ℕ)) : Type 0 where
   pub given : List ℕ
   pub lines : lines_of given ≡ texts
@@ -128,7 +128,7 @@ pub record IsTakenNoFurther (before now : Option (List ℕ)) (texts : List (List
   pub front : Consumes before now (given ++ ahead)
   pub few : length ahead < 65536
 
--- a write that is not made is answered at once: no line is asked for between that of its round and the answer
+-- a write that is not made is answered at once: the last line that was given ended its round, or the end of the input did, and little more was taken
 abbrev pub IsAtOnce : WriteError → Bool → Option (List ℕ) → Option (List ℕ) → List (List ℕ) → List Round → Type 0
 IsAtOnce error.WriteFault true remaining remaining_now texts all = EndsLastRound true texts all
 IsAtOnce error.WriteFault false remaining remaining_now texts all = EndsLastRound false texts all × IsTakenNoFurther remaining remaining_now texts
