@@ -7,8 +7,8 @@ use cv_base::{NoMemory, Row};
 use cv_scan_output::json_of;
 use cv_transcript::rows_value;
 use std::alloc::Global;
-use std::fs::{self, File};
-use std::io::{self, Write};
+use std::fs::{self, File, OpenOptions};
+use std::io::{self, ErrorKind, Write};
 
 /// The folder, in the working directory.
 const FOLDER: &str = "hook";
@@ -44,9 +44,20 @@ pub fn replace(rt: &HostRuntime, name: &str, text: &str) -> io::Result<()> {
 
 /// Writes a text beside its name, brings it to the disk, and then the name.
 fn write(rt: &HostRuntime, name: &str, text: &str) -> io::Result<()> {
-    let mut file = File::create(rt, UNFINISHED)?;
+    let mut file = create_unfinished(rt)?;
     file.write_all(text.as_bytes())?;
     file.sync_all()?;
     fs::rename(rt, UNFINISHED, name)?;
     File::open(rt, FOLDER)?.sync_all()
+}
+
+/// Makes the file that has no name yet. What stands in its place is removed first, so a link is not followed, and no pipe waited for.
+fn create_unfinished(rt: &HostRuntime) -> io::Result<File> {
+    match fs::remove_file(rt, UNFINISHED) {
+        Err(error) if error.kind() != ErrorKind::NotFound => Err(error),
+        _ => OpenOptions::new()
+            .write(true)
+            .create_new(true)
+            .open(rt, UNFINISHED),
+    }
 }
