@@ -22,7 +22,7 @@ some_bytes bytes zero is some = absurd cc
 some_bytes bytes (suc n) is some = omega (arith, is)
 
 -- no record more
-pub none_more : (file : Option (List ℕ)) → option_map records file ≡ option_map (λ b. records b ++ []) file
+none_more : (file : Option (List ℕ)) → option_map records file ≡ option_map (λ b. records b ++ []) file
 none_more None = refl
 none_more (Some b) = ap Some (sym (append-nil (records b)))
 

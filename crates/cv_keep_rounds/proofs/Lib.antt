@@ -1,5 +1,4 @@
 pub mod EventLemmas
 pub mod KeepLemmas
-pub mod Laws
 pub mod TextLemmas
 mod Examples

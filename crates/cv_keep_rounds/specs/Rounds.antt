@@ -1,7 +1,7 @@
 -- Which records are kept of rounds (defined by this project). A round that has events is kept by one record of these events, in their
 -- order; a round without events has no record. Refused lines and reads are not kept. An event of a lane is kept with the text of its line,
 -- since an entry has only what the event is about, and an event of a worker with what the worker did.
-use Rattle.std.specs.Prelude.{◌≡◌, ◌⊎◌, ℕ, List, [], ◌∷◌, ◌++◌, replicate}
+use Rattle.std.specs.Prelude.{◌≡◌, ◌⊎◌, ℕ, List, [], ◌∷◌, replicate}
 use Rattle.std.specs.List.{AllZip, Contains}
 use Rattle.cv_core_records.specs.declared.event.Act.{Act}
 use Rattle.cv_core_records.specs.declared.event.Act.TheVariants as act
@@ -61,9 +61,3 @@ pub record IsRecordOf (round : WholeRound) (bytes : List ℕ) : Type 0 where
 abbrev pub AreRecordsOf : WholeRound → List (List ℕ) → Type 0
 AreRecordsOf round kept =
     ((bytes : List ℕ) × IsRecordOf round bytes × (kept ≡ bytes ∷ [])) ⊎ ((events_of round.entries ≡ []) × (kept ≡ []))
-
--- what is kept of rounds, one after the other
-abbrev pub AreRecordsOfAll : List WholeRound → List (List ℕ) → Type 0
-AreRecordsOfAll [] kept = kept ≡ []
-AreRecordsOfAll (round ∷ rounds) kept =
-    (first later : List (List ℕ)) × (kept ≡ first ++ later) × AreRecordsOf round first × AreRecordsOfAll rounds later
