@@ -1,5 +1,5 @@
 -- What was done with all lines of an input is what a service does, and so is what was done before it stopped.
-use Rattle.std.specs.Prelude.{◌≡◌, ⊤, ℕ, ◌<◌, true, false, length, List, [], ◌∷◌, ◌++◌, Option, Some, None, Err, IfSome, refl}
+use Rattle.std.specs.Prelude.{◌≡◌, ⊤, ℕ, ◌<◌, true, false, length, List, [], ◌∷◌, ◌++◌, Option, Some, None, Result, Err, IfSome, IsErrAnd, refl}
 use Rattle.std.proofs.Common.{ap, arith, inl, inr, length-append, subst, sym, ◌∙◌}
 use Rattle.std.proofs.lemmas.List.{append-nil, map-append}
 use Rattle.cv_base.specs.Lines.{Line, numbered}
@@ -27,11 +27,13 @@ use Rattle.cv_serve_round.proofs.Stops.{stops_after}
 use Rattle.cv_serve.specs.code.Ends.{end_of, input_end}
 use Rattle.cv_serve.specs.Done.{AreCarriedOut, IsServedDone, IsServedUpToDone, IsStoppedDone, WroteDone}
 use Rattle.cv_serve.specs.Kept.{IsServedKept, IsStoppedKept, WroteKept}
-use Rattle.cv_serve.specs.Served.{AreGiven, IsAtOnce, IsServed, IsServedFrom, IsStopped, IsTakenNoFurther, WroteFrom}
+use Rattle.cv_serve.specs.Served.{AreGiven, IsAtOnce, IsServed, IsServedFrom, IsStopped, IsTakenNoFurther, Wrote, WroteFrom}
 use Rattle.cv_serve.specs.code.Reading.{Done}
 use Rattle.cv_serve.specs.declared.end.ServeEnd.{ServeEnd}
 use Rattle.cv_serve.specs.declared.end.ServeEnd.TheVariants as end
+use Rattle.cv_serve.specs.declared.end.Stop.{Stop as Stopped}
 use Rattle.cv_serve.specs.declared.end.Stop.TheVariants as stop
+use Rattle.cv_serve.proofs.Input.{handed_end}
 use Rattle.cv_serve.proofs.Lines.{keeps_none, wrote_lines}
 use Rattle.cv_serve.proofs.Quiet.{Laws, complete_of}
 use Rattle.cv_serve.proofs.UpTo.{IsRefusal, Refuses}
@@ -251,3 +253,10 @@ nothing_wrote known trees workers start listings faults remaining remaining_now 
     wrote_only known trees workers start listings faults keeps_none keeps_none remaining remaining_now w w l l tt tt end.NoMemory
     (wrote_lines known trees workers ends may_stop keeps_none keeps_none (λ x round moment y h. h) (λ error x round moment y h. h) start listings faults l l (tt, w) (tt, w) remaining remaining_now end.NoMemory
     (wrote_nothing known trees workers start listings faults ends may_stop remaining remaining_now l (tt, w)))
+
+-- memory ran out before anything was done, as it is handed on
+pub handed_nothing : {D : Type 0} (known : Type 0) (trees : Trees) (listings faults : D → ℕ) (remaining w : Option (List ℕ)) (l : List D) (r : Result Unit Stopped) → IsErrAnd r (λ e. e ≡ stop.NoMemory)
+    → Wrote known trees (length l) listings faults remaining remaining w w l l (end_of r)
+handed_nothing known trees listings faults remaining w l r from =
+    handed_end (Wrote known trees (length l) listings faults remaining remaining w w l l) stop.NoMemory r from
+    (nothing_wrote known trees (length l) beginning listings faults remaining remaining w l)

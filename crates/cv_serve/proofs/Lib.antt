@@ -4,3 +4,4 @@ mod Input
 pub mod Lines
 mod Quiet
 mod UpTo
+pub mod WorkerDesks

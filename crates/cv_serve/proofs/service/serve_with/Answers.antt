@@ -6,23 +6,15 @@ use Rattle.cv_serve_legal.specs.Replay.{beginning}
 use Rattle.cv_serve_round.specs.Round.{moment_of}
 use Rattle.cv_serve_round.specs.Written.{EndsWritten, StopsWritten}
 use Rattle.cv_serve.specs.code.Ends.{end_of}
-use Rattle.cv_serve.specs.Served.{Wrote}
-use Rattle.cv_serve.specs.declared.end.Stop.TheVariants as stop
-use Rattle.cv_serve.proofs.Ending.{if_whole_served, nothing_wrote, wrote_only}
-use Rattle.cv_serve.proofs.Input.{handed_end}
+use Rattle.cv_serve.proofs.Ending.{handed_nothing, if_whole_served, wrote_only}
 use Rattle.cv_serve.proofs.Lines.{if_served_lines, keeps_none, wrote_lines}
 use Rattle.cv_serve.proofs.service.serve_with.Goals as goal
 
 -- nothing was done
 pub returns-in_err-service-clause-wrote : goal.returns-in_err-service-clause-wrote
 returns-in_err-service-clause-wrote g c =
-    let written = g.K.Sink.contents c.args.output.now in
-    let remaining = g.S.Source.remaining c.args.input.now in
-    let desks = c.args.desks.now in
-    handed_end
-    (λ ended. Wrote (StatesEveryLayer g.D.Desk.tree) (trees_of g.D.Desk.tree) (length desks) g.D.Desk.listings g.D.Desk.faults remaining remaining written written desks desks ended)
-    stop.NoMemory c.from_residual.result c.from_residual.ensures.1
-    (nothing_wrote (StatesEveryLayer g.D.Desk.tree) (trees_of g.D.Desk.tree) (length desks) beginning g.D.Desk.listings g.D.Desk.faults remaining remaining written desks)
+    handed_nothing (StatesEveryLayer g.D.Desk.tree) (trees_of g.D.Desk.tree) g.D.Desk.listings g.D.Desk.faults (g.S.Source.remaining c.args.input.now) (g.K.Sink.contents c.args.output.now) c.args.desks.now
+    c.from_residual.result c.from_residual.ensures.1
 
 -- the hub had applied no event
 pub returns-clause-done : goal.returns-clause-done
