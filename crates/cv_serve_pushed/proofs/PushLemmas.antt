@@ -4,7 +4,7 @@ use Rattle.std.specs.Io.KnownBytes.{Appends}
 use Rattle.std.specs.List.{flat_map}
 use Rattle.std.proofs.Common.{add-one, ap, arith, inl, inr, subst, sym, ◌∙◌}
 use Rattle.std.proofs.KnownBytes.{Appends-nil}
-use Rattle.std.proofs.Math.Seq.{take-append_seam, take-suc}
+use Rattle.std.proofs.Math.Seq.{take-suc}
 use Rattle.std.proofs.lemmas.Grind.{flat_map-append}
 use Rattle.std.proofs.lemmas.List.{append-nil}
 use Rattle.cv_io.specs.Writes.{AppendsPrefix}
@@ -71,10 +71,6 @@ module _ (known : Type 0) (notifications : Notifications) (before after : PushSt
   wrote_part bytes (Ok _) is part = tt
   wrote_part bytes (Err error.WriteFault) is part = record { lines = lines; made = made; part = subst (AppendsPrefix written written_now) is part }
   wrote_part bytes (Err error.NoMemory) is part = inl (record { lines = lines; made = made; part = subst (AppendsPrefix written written_now) is part })
-
--- a vector after its slice was lent
-pub slice_back : {X : Type 0} (count : ℕ) (slice rest : List X) → length slice ≡ count → take count (slice ++ rest) ≡ slice
-slice_back count slice rest many = ap (λ (n : ℕ). take n (slice ++ rest)) (sym many) ∙ take-append_seam slice rest
 
 -- ---- what stops a round
 

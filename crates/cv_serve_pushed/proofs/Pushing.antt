@@ -1,8 +1,7 @@
 -- The ends of a service that pushes.
-use Rattle.std.specs.Prelude.{◌≡◌, ⊤, ℕ, ◌≤◌, true, List, [], ◌∷◌, ◌++◌, length, take, Option, Some, None, IfSome, IsErrAnd, Result, Ok, Err, refl}
+use Rattle.std.specs.Prelude.{◌≡◌, ⊤, ℕ, true, List, [], ◌∷◌, Option, Some, None, IfSome, IsErrAnd, Result, Ok, Err, refl}
 use Rattle.std.specs.List.{flat_map}
-use Rattle.std.proofs.Common.{ap, append_assoc, subst, sym, ◌∙◌}
-use Rattle.std.proofs.lemmas.List.{take-take}
+use Rattle.std.proofs.Common.{subst}
 use Rattle.cv_transcript.specs.Entry.{entry_text}
 use Rattle.cv_core_machine.specs.Scans.{StatesEveryLayer, trees_of}
 use Rattle.cv_hook.specs.Attempts.{OutboxState, new_outbox}
@@ -26,7 +25,6 @@ use Rattle.cv_serve_pushed.specs.Pushes.{Pushes, StopsPushing}
 use Rattle.cv_serve_pushed.specs.code.Ended.{ended_by}
 use Rattle.cv_serve_pushed.specs.code.Pushing.{push_of}
 use Rattle.cv_serve_pushed.proofs.Mapping.{served_less, wrote_less}
-use Rattle.cv_serve_pushed.proofs.PushLemmas.{slice_back}
 use Rattle.cv_serve_pushed.proofs.RoundLemmas.{all_pushed}
 
 -- memory ran out before anything
@@ -128,17 +126,3 @@ module _ {D H : Type 0} (tree : DeskTrees) (workers : ℕ) (listings faults : D 
 pub ended_first : {E : Type 0} (Q : E → Type 0) (P : ServeEnd → Type 0) (r : Result ServeEnd E) → IsErrAnd r Q → P end.NoMemory → P (ended_by r)
 ended_first Q P (Ok ended) from h = absurd from
 ended_first Q P (Err e) from h = h
-
--- the desks of the workers are the first ones, before and after
-front_of : {X : Type 0} (new back tail : List X) (count len : ℕ) → length new ≡ count → count ≤ len → take count (take len (new ++ back ++ tail)) ≡ new
-front_of new back tail count len size within =
-    take-take count len (new ++ back ++ tail) within ∙ ap (take count) (append_assoc new back tail) ∙ slice_back count new (back ++ tail) size
-
-module _ {D E : Type 0} (P : ℕ → List D → List D → E → Type 0) where
-  pub over_mine : (count len : ℕ) (mine desks new back tail : List D) (ended stopped : E) → length mine ≡ count → mine ≡ take count desks → length new ≡ length mine → count ≤ len → ended ≡ stopped
-      → P (length mine) mine new stopped → P count (take count desks) (take count (take len (new ++ back ++ tail))) ended
-  over_mine count len mine desks new back tail ended stopped size front same within is h =
-      subst (λ (n : ℕ). P n (take count desks) (take count (take len (new ++ back ++ tail))) ended) size
-      (subst (λ (ds : List D). P (length mine) ds (take count (take len (new ++ back ++ tail))) ended) front
-      (subst (λ (ds : List D). P (length mine) mine ds ended) (sym (front_of new back tail count len (same ∙ size) within))
-      (subst (P (length mine) mine new) (sym is) h)))

@@ -1,11 +1,11 @@
 use Rattle.std.specs.Prelude.{length, IfOk, OnErr}
 use Rattle.std.proofs.Common.{ap, subst, sym, ◌∙◌}
+use Rattle.std.proofs.lemmas.List.{take_at}
 use Rattle.cv_core_machine.specs.Scans.{StatesEveryLayer}
 use Rattle.cv_serve_round.specs.Round.{AreRoundSeats}
 use Rattle.cv_serve_pushed.specs.Attempts.{notifications_after}
 use Rattle.cv_serve_pushed.specs.Pushes.{MadeAttempts, StoppedAttempts}
 use Rattle.cv_serve_pushed.specs.code.Pushing.{push_state}
-use Rattle.cv_serve_pushed.proofs.PushLemmas.{slice_back}
 use Rattle.cv_serve_pushed.proofs.SeatLemmas.{slice_seats, slice_viewed}
 use Rattle.cv_serve_pushed.proofs.rounds.attempt.Goals as goal
 
@@ -51,7 +51,7 @@ returns-clause-seats g c = λ workers seats.
     c.in-Some.ensures.items (c.as_mut_slice.ensures.value ∙ c.push_reserved.ensures.items) seats
     c.take_events.new.self c.attempt_at-seat.ensures.taken taken.more taken.seen taken.receipts taken.of_seats in
     subst (AreRoundSeats g.L.Ledger.parts workers c.take_events.new.self)
-    (sym (slice_back c.push_reserved.new.self.len c.take_events.new.seats _ (ap length taken.seats ∙ c.as_mut_slice.ensures.len) ∙ taken.seats))
+    (sym (take_at c.take_events.new.seats _ c.push_reserved.new.self.len (ap length taken.seats ∙ c.as_mut_slice.ensures.len) ∙ taken.seats))
     (subst (λ list. AreRoundSeats g.L.Ledger.parts workers list slice) (sym viewed.0)
     (slice_seats c.in-Some.seat c.attempt_at-seat.result.0 c.attempt_at-seat.ensures.seat g.L.Ledger.parts workers c.args.service.now.hub c.args.service.now.seats.items c.pop.new.self.items slice
     c.in-Some.ensures.items (c.as_mut_slice.ensures.value ∙ c.push_reserved.ensures.items) seats))

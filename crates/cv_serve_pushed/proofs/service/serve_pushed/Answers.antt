@@ -1,8 +1,8 @@
 use Rattle.std.specs.Prelude.{drop, length, take, ◌++◌}
 use Rattle.std.proofs.Common.{ap, arith, ◌∙◌}
+use Rattle.cv_serve.proofs.WorkerDesks.{over_mine}
 use Rattle.cv_serve_pushed.specs.Pushed.{PushEnds}
 use Rattle.cv_serve_pushed.specs.code.Ended.{ended_by}
-use Rattle.cv_serve_pushed.proofs.Pushing.{over_mine}
 use Rattle.cv_serve_pushed.proofs.service.serve_pushed.Goals as goal
 
 pub returns-clause-outcome : goal.returns-clause-outcome
