@@ -24,7 +24,7 @@ use Rattle.cv_serve_kept.specs.declared.end.KeptEnd.TheVariants as kept
 use Rattle.cv_serve_kept.specs.declared.stop.Stop.{Stop}
 use Rattle.cv_serve_kept.specs.declared.stop.Stop.TheVariants as stop
 use Rattle.cv_serve_kept.proofs.Keepers.{faults_later}
-use Rattle.cv_serve_kept.proofs.Stopping.{stops_there}
+use Rattle.cv_serve_kept.proofs.Stopping.{some_same, stops_there}
 
 -- ---- the input
 
@@ -41,7 +41,7 @@ reads_served before now ended to_end fits front limit taken = record {
   taken = λ h. taken (served_same ended end.InputTooLong h);
 }
 
-fits_none : (before : Option (List ℕ)) → FitsInput before end.NoMemory
+pub fits_none : (before : Option (List ℕ)) → FitsInput before end.NoMemory
 fits_none None = tt
 fits_none (Some bytes) = tt
 
@@ -50,7 +50,7 @@ fits_written None = tt
 fits_written (Some bytes) = tt
 
 module _ (before now : Option (List ℕ)) (limit : IsTakenWithin (2 ^ 36) before now) where
-  out_of_memory : ReadsInput before now (kept.Served end.NoMemory)
+  pub out_of_memory : ReadsInput before now (kept.Served end.NoMemory)
   out_of_memory = record { to_end = λ h. cc h; fits = fits_none before; front = tt; limit = limit; taken = λ h. cc h }
 
   pub reads_stopped : (s : Stop) → ReadsInput before now (stop_end s)
@@ -150,9 +150,6 @@ module _ {D J : Type 0} (contents : J → Option (List ℕ)) (keep_faults : J �
   keep_later end.InputTooLong h = faults_later contents keep_faults x h.served.rounds y h.kept
   keep_later end.WriteFault h = stops_later h.all write.WriteFault h.stops
   keep_later end.NoMemory h = stops_later h.all write.NoMemory h.stops
-
-  some_same : (found : Option KeepError) (a b : KeepError) → found ≡ Some a → found ≡ Some b → a ≡ b
-  some_same found a b first second = cc (first, second)
 
   module _ (ended : ServeEnd) (none : x.0.error ≡ None) (h : Wrote ended) where
     -- and it rose if the remembered error blames the disk

@@ -18,7 +18,7 @@ use Rattle.cv_serve_kept.specs.code.Stops.{end_of}
 use Rattle.cv_serve_kept.specs.declared.stop.Stop.TheVariants as stop
 use Rattle.cv_serve_kept.proofs.Keepers.{behind, has_room, is_full, may_less, refused_less, round_less, same_if_full}
 use Rattle.cv_serve_kept.proofs.Mapping.{if_served_less, kept_less, wrote_less}
-use Rattle.cv_serve_kept.proofs.Stopping.{RefusesLast, StopsThere, stops_there}
+use Rattle.cv_serve_kept.proofs.Stopping.{RefusesLast, StopsThere, some_same, stops_there}
 use Rattle.cv_serve_kept.proofs.Writing.{keeps_written}
 
 module _ {D J : Type 0} (tree : DeskTrees) (workers : ℕ) (listings faults : D → ℕ) (contents : J → Option (List ℕ)) (keep_faults : J → ℕ) (start : Moment)
@@ -111,9 +111,6 @@ module _ {D J : Type 0} (tree : DeskTrees) (workers : ℕ) (listings faults : D 
         same_if_full contents keep_faults last_refused.middle there.last last_refused.bytes y last_refused.of_last last_refused.refused is,
       )
       stop_ends keep.NoMemory is = inr (inr (served_there wrote))
-
-    some_same : (found : Option KeepError) (a b : KeepError) → found ≡ Some a → found ≡ Some b → a ≡ b
-    some_same found a b first second = cc (first, second)
 
     -- by the error that is remembered
     pub ends_with : (ended : ServeEnd) (e : KeepError) → x.0.error ≡ None → y.0.error ≡ Some e → Wrote ended → KeptEnds tree workers listings faults before now (end_of (Err (stop.Keep e)))

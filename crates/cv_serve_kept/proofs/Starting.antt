@@ -1,8 +1,7 @@
 -- How a kept service ends that did not go on, and what its first desk listed.
-use Rattle.std.specs.Prelude.{◌≡◌, ℕ, ◌≤◌, List, [], ◌∷◌, ◌++◌, Option, Some, None, IfErr, IfSome, IsErrAnd, Result, Ok, Err, get_or, length, slice_set, take, refl}
-use Rattle.std.proofs.Common.{ap, append_assoc, arith, inl, inr, subst, sym, ◌∙◌}
+use Rattle.std.specs.Prelude.{◌≡◌, ℕ, ◌≤◌, List, [], ◌∷◌, Option, Some, None, IfErr, IfSome, IsErrAnd, Result, Ok, Err, get_or, length, slice_set, refl}
+use Rattle.std.proofs.Common.{arith, inl, inr, subst, sym}
 use Rattle.std.proofs.KnownBytes.{Appends-nil}
-use Rattle.std.proofs.lemmas.List.{take-take, take_at}
 use Rattle.cv_io.specs.declared.write.WriteError.{WriteError}
 use Rattle.cv_io.specs.declared.write.WriteError.TheVariants as error
 use Rattle.cv_hub_seats.specs.Events.{DeskTrees}
@@ -73,19 +72,3 @@ module _ {D : Type 0} (listings faults : D → ℕ) where
     same = same;
     listed = unused_first kept desks some;
   }
-
--- ---- the desks of the workers
-
--- they are the first ones, before and after
-front_of : {X : Type 0} (new back tail : List X) (count len : ℕ) → length new ≡ count → count ≤ len → take count (take len (new ++ back ++ tail)) ≡ new
-front_of new back tail count len size within =
-    take-take count len (new ++ back ++ tail) within ∙ ap (take count) (append_assoc new back tail) ∙ take_at new (back ++ tail) count size
-
-module _ {D : Type 0} (P : ℕ → List D → List D → KeptEnd → Type 0) where
-  pub over_mine : (count len : ℕ) (mine desks new back tail : List D) (ended stopped : KeptEnd) → length mine ≡ count → mine ≡ take count desks → length new ≡ length mine → count ≤ len → ended ≡ stopped
-      → P (length mine) mine new stopped → P count (take count desks) (take count (take len (new ++ back ++ tail))) ended
-  over_mine count len mine desks new back tail ended stopped size front same within is h =
-      subst (λ (n : ℕ). P n (take count desks) (take count (take len (new ++ back ++ tail))) ended) size
-      (subst (λ (ds : List D). P (length mine) ds (take count (take len (new ++ back ++ tail))) ended) front
-      (subst (λ (ds : List D). P (length mine) mine ds ended) (sym (front_of new back tail count len (same ∙ size) within))
-      (subst (P (length mine) mine new) (sym is) h)))

@@ -23,6 +23,9 @@ use Rattle.cv_serve_kept.proofs.Keepers.{error_none}
 pub none_some : (found : Option KeepError) (e : KeepError) → found ≡ None → found ≡ Some e → ⊥
 none_some found e none some = cc (none, some)
 
+pub some_same : (found : Option KeepError) (a b : KeepError) → found ≡ Some a → found ≡ Some b → a ≡ b
+some_same found a b first second = cc (first, second)
+
 module _ {D J : Type 0} (contents : J → Option (List ℕ)) (faults : J → ℕ) (known : Type 0) (trees : Trees) (workers : ℕ) (start : Moment) (x y : KeeperView × J) (w v remaining : Option (List ℕ)) (listings faulted : D → ℕ) (l n : List D) where
   -- these rounds were kept and written, and the record of the last one was refused
   pub record RefusesLast (rounds : List WholeRound) (last : WholeRound) : Type 0 where

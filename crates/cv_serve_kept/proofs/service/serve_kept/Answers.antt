@@ -3,12 +3,12 @@ use Rattle.std.proofs.Common.{ap, arith, inl, inr, ◌∙◌}
 use Rattle.cv_seq.specs.Cause.{Rose}
 use Rattle.cv_core_machine.specs.Scans.{StatesEveryLayer}
 use Rattle.cv_serve.specs.declared.end.ServeEnd.TheVariants as end
+use Rattle.cv_serve.proofs.WorkerDesks.{over_mine}
 use Rattle.cv_serve_kept.specs.Ends.{FirstRose, KeptEnds, ReportsBadKeep}
 use Rattle.cv_serve_kept.specs.declared.end.KeptEnd.TheVariants as kept
 use Rattle.cv_serve_kept.specs.code.Stops.{end_of}
 use Rattle.cv_serve_kept.proofs.Keepers.{of_file}
 use Rattle.cv_serve_kept.proofs.Reported.{reports_bad}
-use Rattle.cv_serve_kept.proofs.Starting.{over_mine}
 use Rattle.cv_serve_kept.proofs.service.serve_kept.Goals as goal
 
 pub returns-clause-outcome : goal.returns-clause-outcome
