@@ -5,7 +5,10 @@ use Rattle.cv_io.specs.Lines.{Finished, Stop}
 use Rattle.cv_seq.specs.Cause.{Rose}
 use Rattle.cv_run.specs.Arguments.{command_of}
 use Rattle.cv_run.specs.Run.{Completes, IsService, KeepsLimits, RunsAs}
-use Rattle.cv_run.specs.Service.{ServeEnds, ServiceEnds, Stops, worker_count}
+use Rattle.cv_run.specs.Service.{ServeEnds, ServiceEnds, Stops, status_of, worker_count}
+use Rattle.cv_serve.specs.Served.{FitsInput}
+use Rattle.cv_serve.specs.declared.end.ServeEnd.{ServeEnd}
+use Rattle.cv_serve.specs.declared.end.ServeEnd.TheVariants as end
 use Rattle.cv_command.specs.World.{RunWorld, Trees}
 use Rattle.cv_run.specs.declared.arguments.Command.{Command}
 use Rattle.cv_run.specs.declared.arguments.Command.TheVariants.{Scan, Sbom, ListScan, Serve, Drill, Print}
@@ -13,9 +16,21 @@ use Rattle.cv_command.specs.declared.status.Status.{Status}
 use Rattle.cv_command.specs.declared.status.Status.TheVariants as status
 
 -- the lines of an input that keeps the limits stop at its end
-stops_finished : (stop : Stop) (remaining : Option (List ℕ)) → KeepsLimits remaining → Stops stop remaining → Finished ≡ stop
+pub stops_finished : (stop : Stop) (remaining : Option (List ℕ)) → KeepsLimits remaining → Stops stop remaining → Finished ≡ stop
 stops_finished stop None keeps stops = absurd keeps
 stops_finished stop (Some bytes) keeps stops = sym keeps ∙ stops
+
+-- an end of a service that fits its input, if the input keeps the limits and no count of failures rose
+pub served_completes : (remaining : Option (List ℕ)) (reads reads_now writes writes_now : ℕ) (ended : Status)
+    → (ended ≡ status.ReadFault → Rose reads reads_now) → (ended ≡ status.WriteFault → Rose writes writes_now)
+    → KeepsLimits remaining → ¬ Rose reads reads_now → ¬ Rose writes writes_now
+    → (served : ServeEnd) → status_of served ≡ ended → FitsInput remaining served → (ended ≡ status.Done) ⊎ (ended ≡ status.NoMemory)
+served_completes remaining reads reads_now writes writes_now ended read write keeps no_read no_write end.Done is fits = inl (sym is)
+served_completes remaining reads reads_now writes writes_now ended read write keeps no_read no_write end.NoMemory is fits = inr (sym is)
+served_completes remaining reads reads_now writes writes_now ended read write keeps no_read no_write end.ReadFault is fits = absurd (no_read (read (sym is)))
+served_completes remaining reads reads_now writes writes_now ended read write keeps no_read no_write end.WriteFault is fits = absurd (no_write (write (sym is)))
+served_completes remaining reads reads_now writes writes_now ended read write keeps no_read no_write end.LineTooLong is fits = absurd (cc (stops_finished _ remaining keeps fits))
+served_completes remaining reads reads_now writes writes_now ended read write keeps no_read no_write end.InputTooLong is fits = absurd (cc (stops_finished _ remaining keeps fits))
 
 module _ {S D : Type 0} (trees : Trees) (remaining : S → Option (List ℕ)) (listings faults : D → ℕ) (before now : RunWorld S D) (reads reads_now writes writes_now : ℕ) where
   serve_completes : (workers : ℕ) (ended : Status) → ServeEnds trees remaining listings faults workers before now ended

@@ -1,31 +1,30 @@
 -- How a run of `keep` ends.
-use Rattle.std.specs.Prelude.{◌≡◌, ℕ, zero, suc, ◌-◌, ◌≤◌, ◌^◌, ◌&&◌, nat_le, Bool, true, false, if◌then◌else◌, List, [], ◌∷◌, codes, length, min, take, drop, map, Option, Some, None, IfSome, is_some, option_map, refl}
+use Rattle.std.specs.Prelude.{◌≡◌, ℕ, zero, suc, ◌-◌, ◌≤◌, ◌^◌, ◌&&◌, nat_le, Bool, true, false, if◌then◌else◌, List, [], ◌∷◌, codes, length, min, take, drop, map, Option, Some, None, is_some, option_map, refl}
 use Rattle.std.proofs.Common.{◌⊎◌, ap, arith, get_or, inl, inr, subst, sym, ◌∙◌}
 use Rattle.std.proofs.lemmas.Bool.{leb-true}
 use Rattle.std.proofs.lemmas.List.{take_all}
 use Rattle.cv_base.specs.Texts.{same}
 use Rattle.cv_base.proofs.Same.{same_is}
-use Rattle.cv_io.specs.Lines.{Finished, Stop}
 use Rattle.cv_scan_input.proofs.Taken.{none_taken}
-use Rattle.cv_scan_input.specs.Request.{input_of}
 use Rattle.cv_seq.specs.Cause.{Rose}
 use Rattle.cv_command.specs.World.{RunWorld, Trees}
 use Rattle.cv_command.specs.declared.status.Status.{Status}
 use Rattle.cv_command.specs.declared.status.Status.TheVariants as status
 use Rattle.cv_command_arguments.specs.Forms.{workers_of}
-use Rattle.cv_serve.specs.Served.{FitsInput}
 use Rattle.cv_serve.specs.declared.end.ServeEnd.TheVariants as end
 use Rattle.cv_core_machine.specs.Scans.{StatesEveryLayer}
 use Rattle.cv_keep.specs.Records.{records}
 use Rattle.cv_serve_kept.specs.Ends.{FitsKept, FirstRose as FirstRises, ReportsBadKeep}
 use Rattle.cv_serve_kept.specs.declared.end.KeptEnd.{KeptEnd}
 use Rattle.cv_serve_kept.specs.declared.end.KeptEnd.TheVariants as kept
+use Rattle.cv_serve_kept.proofs.Causes.{out_of_memory}
 use Rattle.cv_serve_kept.proofs.Reported.{reports_as, reports_bad}
 use Rattle.cv_serve_kept.proofs.Starting.{nothing_done}
 use Rattle.cv_run.specs.Arguments.{command_of}
 use Rattle.cv_run.specs.Keep.{CompletesKept, IsKeptService, KeepEnds, ReportsBadRecord, RunsKept, asked_count, keep_count, keep_options, kept_status, kept_world}
 use Rattle.cv_run.specs.Run.{FirstRose, IsService, KeepsLimits}
 use Rattle.cv_run.specs.Service.{worker_count}
+use Rattle.cv_run.proofs.Completeness.{served_completes}
 use Rattle.cv_run.proofs.Unread.{nothing_written}
 
 -- ---- how many workers
@@ -44,20 +43,16 @@ at_least_one : (asked : Option ℕ) (desks count : ℕ) → 1 ≤ desks → work
 at_least_one None desks count some h = let same : min 4 desks ≡ count = cc h in omega (arith, same, some)
 at_least_one (Some workers) desks count some h = by_within workers desks count (nat_le 1 workers) (nat_le workers desks) refl h
 
-pub one_at_least : (found : Option (Option ℕ)) (desks count : ℕ) → 1 ≤ desks → asked_count found desks ≡ Some count → 1 ≤ count
+one_at_least : (found : Option (Option ℕ)) (desks count : ℕ) → 1 ≤ desks → asked_count found desks ≡ Some count → 1 ≤ count
 one_at_least None desks count some h = absurd (cc h)
 one_at_least (Some asked) desks count some h = at_least_one asked desks count some h
 
 -- ---- memory ran out before the arguments were read
 
-pub some_taken : {D : Type 0} (count : ℕ) (desks : List D) → 1 ≤ count → 1 ≤ length desks → 1 ≤ length (take count desks)
+some_taken : {D : Type 0} (count : ℕ) (desks : List D) → 1 ≤ count → 1 ≤ length desks → 1 ≤ length (take count desks)
 some_taken count [] some has = absurd (omega (arith, has))
 some_taken zero (desk ∷ desks) some has = absurd (omega (arith, some))
 some_taken (suc count) (desk ∷ desks) some has = omega arith
-
-pub fits_any : (remaining : Option (List ℕ)) → FitsInput remaining end.NoMemory
-fits_any None = tt
-fits_any (Some bytes) = tt
 
 module _ {S D J : Type 0} (trees : Trees) (remaining : S → Option (List ℕ)) (listings faults : D → ℕ) (contents : J → Option (List ℕ)) (world : RunWorld S D) (disk : J) where
   unread_with : (count : Option ℕ) → ((n : ℕ) → count ≡ Some n → 1 ≤ n) → 1 ≤ length world.desks → KeepEnds trees remaining listings faults contents count world world disk disk status.NoMemory
@@ -66,13 +61,7 @@ module _ {S D J : Type 0} (trees : Trees) (remaining : S → Option (List ℕ)) 
     end = kept.Served end.NoMemory;
     status = refl;
     ends = inl (nothing_done listings faults (remaining world.input) world.written _ _ (take count world.desks) (some_taken count world.desks (some count refl) has) refl);
-    reads = record {
-      to_end = λ h. absurd (cc h);
-      fits = fits_any (remaining world.input);
-      front = tt;
-      limit = none_taken (2 ^ 36) (remaining world.input);
-      taken = λ h. absurd (cc h);
-    };
+    reads = out_of_memory (remaining world.input) (remaining world.input) (none_taken (2 ^ 36) (remaining world.input));
     others = (refl, refl);
   }
 
@@ -81,22 +70,18 @@ module _ {S D J : Type 0} (trees : Trees) (remaining : S → Option (List ℕ)) 
 
 -- ---- completeness
 
+-- the first argument is this name
+pub is_named : (word name : List ℕ) (found options : List (List ℕ)) (test : Bool) → same name word ≡ test → (if test then Some found else None) ≡ Some options → name ≡ word
+is_named word name found options true equal some = same_is name word equal
+is_named word name found options false other some = absurd (cc some)
+
 -- `keep` is not one of the other commands
 by_name : (name : List ℕ) (options : List (List ℕ)) (desks : ℕ) → name ≡ codes "keep" → IsService (command_of (name ∷ options)) desks → ⊥
 by_name name options desks is h = subst (λ (n : List ℕ). IsService (command_of (n ∷ options)) desks) is h
 
 pub no_service : (arguments options : List (List ℕ)) (desks : ℕ) → keep_options arguments ≡ Some options → IsService (command_of arguments) desks → ⊥
 no_service [] options desks is h = cc is
-no_service (name ∷ found) options desks is h = by_test (same name (codes "keep")) refl is
-  where
-    by_test : (test : Bool) → same name (codes "keep") ≡ test → (if test then Some found else None) ≡ Some options → ⊥
-    by_test true equal some = by_name name found desks (same_is name (codes "keep") equal) h
-    by_test false other some = cc some
-
--- the lines of an input that keeps the limits stop at its end
-pub stops_finished : (stop : Stop) (remaining : Option (List ℕ)) → KeepsLimits remaining → IfSome remaining (λ bytes. (input_of bytes).stop ≡ stop) → Finished ≡ stop
-stops_finished stop None keeps stops = absurd keeps
-stops_finished stop (Some bytes) keeps stops = sym keeps ∙ stops
+no_service (name ∷ found) options desks is h = by_name name found desks (is_named (codes "keep") name found options _ refl is) h
 
 -- the status of a bad record is of that end alone
 bad_end : (end : KeptEnd) → kept_status end ≡ status.BadKeep → end ≡ kept.BadKeep
@@ -118,12 +103,8 @@ module _ (remaining : Option (List ℕ)) (reads reads_now writes writes_now keep
   AllQuiet = (KeepsLimits remaining) × (¬ Rose reads reads_now) × (¬ Rose writes writes_now) × (¬ Rose keeps keeps_now) × (ended ≡ status.DeskFault → ¬ FirstRises)
 
   end_completes : (end : KeptEnd) → kept_status end ≡ ended → FitsKept remaining end → AllQuiet → (ended ≡ status.BadKeep → ⊥) → (ended ≡ status.KeepFull → ⊥) → (ended ≡ status.Done) ⊎ (ended ≡ status.NoMemory)
-  end_completes (kept.Served end.Done) is fits quiet good room = inl (sym is)
-  end_completes (kept.Served end.NoMemory) is fits quiet good room = inr (sym is)
-  end_completes (kept.Served end.ReadFault) is fits quiet good room = absurd (quiet.1 (read (sym is)))
-  end_completes (kept.Served end.WriteFault) is fits quiet good room = absurd (quiet.2 (write (sym is)))
-  end_completes (kept.Served end.LineTooLong) is fits quiet good room = absurd (cc (stops_finished _ remaining quiet.0 fits))
-  end_completes (kept.Served end.InputTooLong) is fits quiet good room = absurd (cc (stops_finished _ remaining quiet.0 fits))
+  end_completes (kept.Served served) is fits quiet good room =
+      served_completes remaining reads reads_now writes writes_now ended read write quiet.0 quiet.1 quiet.2 served is fits
   end_completes kept.DeskFault is fits quiet good room = absurd (quiet.4 (sym is) (first (sym is)))
   end_completes kept.KeepFault is fits quiet good room = absurd (quiet.3 (keep (sym is)))
   end_completes kept.BadKeep is fits quiet good room = absurd (good (sym is))

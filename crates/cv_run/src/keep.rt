@@ -4,13 +4,11 @@ ghost use Rattle.cv_seq.specs.Cause.{Rose};
 ghost use Rattle.cv_keep.specs.Records.{records};
 ghost use Rattle.cv_run.specs.Keep.{CompletesKept, KeepEnds, KeepsServing, ReportsBadRecord, RunKeptEnds, keep_count, kept_status};
 ghost use Rattle.cv_run.specs.Run.{Completes, FirstRose};
-ghost use Rattle.cv_run.specs.Service.{worker_count};
 
 use crate::commands::run;
-use crate::service::{status_of, worker_count};
+use crate::service::{asked_workers, status_of};
 use cv_base::NoMemory;
 use cv_command::{Status, print_usage};
-use cv_command_arguments::workers_of;
 use cv_desk::Desk;
 use cv_io::{Sink, Source};
 use cv_keep::Disk;
@@ -90,45 +88,11 @@ fn keep_command<
     ensures desk_fault { result ≡ Status.DeskFault → FirstRose D.faults desks.old.items desks.new.items }
     ensures keep_fault { result ≡ Status.KeepFault → Rose (J.faults disk.old) (J.faults disk.new) }
 {
-    match workers_of(alloc, options) {
-        Ok(Some(workers)) => keep_service(rt, alloc, workers, input, output, desks, disk),
+    match asked_workers(alloc, options, desks.len()) {
+        Ok(Some(workers)) => keep_by(rt, alloc, workers, input, output, desks, disk),
         Ok(None) => print_usage(output),
         Err(NoMemory) => Status::NoMemory,
     }
-}
-
-/// Serves from the kept events on, with as many workers as were asked for.
-fn keep_service<
-    S: Source,
-    K: Sink,
-    D: Desk + Drop + Send + Sync,
-    J: Disk,
-    W: Threads + Wait + Sync,
->(
-    rt: &W,
-    alloc: Global,
-    workers: Option<u32>,
-    input: &mut S,
-    output: &mut K,
-    desks: &mut Vec<D>,
-    disk: &mut J,
-) -> Status
-    requires has_desks { 1 ≤ length desks.old.items }
-    requires at_most_8_desks { length desks.old.items ≤ 8 }
-    requires room { All (λ desk. D.listings desk < 2 ^ 62) desks.old.items }
-    ensures outcome { KeepEnds D.tree S.remaining D.listings D.faults J.contents (worker_count workers (length desks.old.items))
-        (record { input = input.old; written = K.contents output.old; desks = desks.old.items })
-        (record { input = input.new; written = K.contents output.new; desks = desks.new.items })
-        disk.old disk.new result }
-    ensures read_fault { result ≡ Status.ReadFault → Rose (S.faults input.old) (S.faults input.new) }
-    ensures write_fault { result ≡ Status.WriteFault → Rose (K.faults output.old) (K.faults output.new) }
-    ensures desk_fault { result ≡ Status.DeskFault → FirstRose D.faults desks.old.items desks.new.items }
-    ensures keep_fault { result ≡ Status.KeepFault → Rose (J.faults disk.old) (J.faults disk.new) }
-{
-    let Some(workers) = worker_count(workers, desks.len()) else {
-        return print_usage(output);
-    };
-    keep_by(rt, alloc, workers, input, output, desks, disk)
 }
 
 /// Serves from the kept events on, with this number of workers.

@@ -5,13 +5,11 @@ ghost use Rattle.cv_seq.specs.Cause.{Rose};
 ghost use Rattle.cv_run.specs.Keep.{CompletesKept, ReportsBadRecord, keep_count};
 ghost use Rattle.cv_run.specs.Push.{CompletesPushed, PushCommandEnds, PushesServing, RunAllEnds};
 ghost use Rattle.cv_run.specs.Run.{Completes, FirstRose};
-ghost use Rattle.cv_run.specs.Service.{worker_count};
 
 use crate::keep::run_kept;
-use crate::service::{status_of, worker_count};
+use crate::service::{asked_workers, status_of};
 use cv_base::NoMemory;
 use cv_command::{Status, print_usage};
-use cv_command_arguments::workers_of;
 use cv_desk::Desk;
 use cv_hook::Hook;
 use cv_io::{Sink, Source};
@@ -94,43 +92,11 @@ fn push_command<
     ensures read_fault { result ≡ Status.ReadFault → Rose (S.faults input.old) (S.faults input.new) }
     ensures write_fault { result ≡ Status.WriteFault → Rose (K.faults output.old) (K.faults output.new) }
 {
-    match workers_of(alloc, options) {
-        Ok(Some(workers)) => push_service(rt, alloc, workers, input, output, desks, hook),
+    match asked_workers(alloc, options, desks.len()) {
+        Ok(Some(workers)) => push_by(rt, alloc, workers, input, output, desks, hook),
         Ok(None) => print_usage(output),
         Err(NoMemory) => Status::NoMemory,
     }
-}
-
-/// Serves with as many workers as were asked for.
-fn push_service<
-    S: Source,
-    K: Sink,
-    D: Desk + Drop + Send + Sync,
-    H: Hook,
-    W: Threads + Wait + Sync,
->(
-    rt: &W,
-    alloc: Global,
-    workers: Option<u32>,
-    input: &mut S,
-    output: &mut K,
-    desks: &mut Vec<D>,
-    hook: &mut H,
-) -> Status
-    requires has_desks { 1 ≤ length desks.old.items }
-    requires at_most_8_desks { length desks.old.items ≤ 8 }
-    requires room { All (λ desk. D.listings desk < 2 ^ 62) desks.old.items }
-    ensures outcome { PushCommandEnds D.tree S.remaining D.listings D.faults H.offers H.faults (worker_count workers (length desks.old.items))
-        (record { input = input.old; written = K.contents output.old; desks = desks.old.items })
-        (record { input = input.new; written = K.contents output.new; desks = desks.new.items })
-        hook.old hook.new result }
-    ensures read_fault { result ≡ Status.ReadFault → Rose (S.faults input.old) (S.faults input.new) }
-    ensures write_fault { result ≡ Status.WriteFault → Rose (K.faults output.old) (K.faults output.new) }
-{
-    let Some(workers) = worker_count(workers, desks.len()) else {
-        return print_usage(output);
-    };
-    push_by(rt, alloc, workers, input, output, desks, hook)
 }
 
 /// Serves with this number of workers.

@@ -1,8 +1,12 @@
-ghost use Rattle.std.specs.Prelude.{◌≡◌, ◌^◌, ◌<◌, ◌≤◌, length, All, IfSome};
+ghost use Rattle.std.specs.Prelude.{◌≡◌, ◌^◌, ◌<◌, ◌≤◌, length, All, IfOk, IfSome};
+ghost use Rattle.cv_command_arguments.specs.Simple.{texts_of};
 ghost use Rattle.cv_seq.specs.Cause.{Rose};
+ghost use Rattle.cv_run.specs.Keep.{keep_count};
 ghost use Rattle.cv_run.specs.Service.{ServeEnds, ServiceEnds, status_of, worker_count};
 
+use cv_base::NoMemory;
 use cv_command::{Status, print_usage};
+use cv_command_arguments::workers_of;
 use cv_desk::Desk;
 use cv_io::{Sink, Source};
 use cv_serve::{ServeEnd, serve};
@@ -60,6 +64,24 @@ fn serve_by<S: Source, K: Sink, D: Desk + Drop + Send + Sync, W: Threads + Wait 
     ensures write_fault { result ≡ Status.WriteFault → Rose (K.faults output.old) (K.faults output.new) }
 {
     status_of(serve(rt, alloc, input, output, desks, workers))
+}
+
+/// How many workers the arguments of `keep` or `push` ask for, if these are arguments of a service, and there may be as many.
+pub fn asked_workers(
+    alloc: Global,
+    options: &[String],
+    desks: usize,
+) -> Result<Option<u32>, NoMemory>
+    requires has_desks { 1 ≤ desks }
+    requires at_most_8_desks { desks ≤ 8 }
+    ensures value { IfOk result (λ count. count ≡ keep_count (texts_of options.now) desks) }
+    ensures at_least_one { IfOk result (λ count. IfSome count (λ n. 1 ≤ n)) }
+    ensures within { IfOk result (λ count. IfSome count (λ n. n ≤ desks)) }
+{
+    match workers_of(alloc, options)? {
+        Some(workers) => Ok(worker_count(workers, desks)),
+        None => Ok(None),
+    }
 }
 
 /// How many workers there are, if there may be as many as were asked for.
