@@ -21,7 +21,7 @@ pub record Shows (tree : DeskTrees) (limits : Limits) (parts : ℕ) (named : Boo
   pub front : IsListPrefix tree limits parts named (length post.list) post.book post.list
   pub board : StatesEveryLayer tree → post.board ≡ board_of (trees_of tree) (state_of (trees_of tree) limits post.list)
 
--- nobody knows of more than so many events
+-- nobody knows of more events than this number
 abbrev pub AllBelow : ℕ → List ℕ → Type 0
 AllBelow n views = (place v : ℕ) → get_elem? views place ≡ some v → v ≤ n
 

@@ -22,7 +22,7 @@ pub fn have_seen<D: Desk, L: Identity>(front: &Prefix<D, L>, seats: &[Seat<D, L>
     }
 }
 
-/// So many seats, which share the parts of the ledger, each with a reader of what is published. It waits while no place for a reader
+/// A number of seats, which share the parts of the ledger, each with a reader of what is published. It waits while no place for a reader
 /// is free.
 pub fn fresh_seats<W: Wait, D: Desk, L: Identity>(
     rt: &W,

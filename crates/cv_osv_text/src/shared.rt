@@ -96,7 +96,7 @@ impl Texts for SharedTexts {
     }
 }
 
-/// So many slots, with the places of these texts.
+/// A number of slots, with the places of these texts.
 fn slots_for(alloc: Global, made: &[Text], count: usize) -> Result<Vec<usize>, NoMemory> {
     let mut slots = vec![in alloc; 0usize; count]?;
     for (place, text) in made.iter().enumerate() {

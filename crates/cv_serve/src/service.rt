@@ -33,7 +33,7 @@ use std::marker::Brand;
 use std::sync::Wait;
 use std::thread::Threads;
 
-/// Serves the requests of the input to its end, in rounds, and writes the transcript. So many workers index layers: the first with the
+/// Serves the requests of the input to its end, in rounds, and writes the transcript. The workers index layers: the first one with the
 /// first desk, and so on. The other desks are not used. It waits for its threads.
 pub fn serve<S: Source, K: Sink, D: Desk + Drop + Send + Sync, W: Threads + Wait + Sync>(
     rt: &W,

@@ -26,8 +26,8 @@ use std::marker::Brand;
 use std::sync::Wait;
 use std::thread::Threads;
 
-/// Serves the requests of the input to its end, in rounds, after the events that the file of this disk keeps, and keeps each round. So many
-/// workers index layers: the first with the first desk, and so on. The layers of the kept events are listed by the first desk. The
+/// Serves the requests of the input to its end, in rounds, after the events that the file of this disk keeps, and keeps each round. The
+/// workers index layers: the first one with the first desk, and so on. The layers of the kept events are listed by the first desk. The
 /// other desks are not used. It waits for its threads.
 pub fn serve_kept<
     S: Source,

@@ -21,7 +21,7 @@ use std::sync::Wait;
 use std::thread::Threads;
 
 /// Serves the requests of the input to its end, in rounds, and after the lines of each round makes the attempts of the hook and writes
-/// their lines. So many workers index layers: the first with the first desk, and so on. The other desks are not used. It waits for its
+/// their lines. The workers index layers: the first one with the first desk, and so on. The other desks are not used. It waits for its
 /// threads.
 pub fn serve_pushed<
     S: Source,

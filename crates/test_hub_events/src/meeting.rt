@@ -14,7 +14,7 @@ use test_data::SampleDesk;
 /// The most turns that a thread takes until the other one has come so far.
 const TURNS: u32 = 10_000_000;
 
-/// For so many turns a view is kept once the other thread has submitted its first event.
+/// For this number of turns a view is kept once the other thread has submitted its first event.
 const PAUSE: u32 = 100_000;
 
 /// How many events are submitted.

@@ -12,7 +12,7 @@ use test_data::SampleDesk;
 /// The most views that a seat takes.
 const VIEWS: u64 = 10_000_000;
 
-/// After so many views a seat learns a note.
+/// After this number of views a seat learns a note.
 const EVERY: u64 = 16;
 
 /// What a view showed: the number of its last event, how many events its seat had seen before, and the report of an image.

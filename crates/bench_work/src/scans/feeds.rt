@@ -84,7 +84,7 @@ fn replace(
     }
 }
 
-/// So many records, of which one of `every` differs from one revision to the next. Every other one affects the packages.
+/// A number of records, of which one of `every` differs from one revision to the next. Every other one affects the packages.
 fn records(count: u64, every: u64) -> FeedRecords {
     FeedRecords {
         count,

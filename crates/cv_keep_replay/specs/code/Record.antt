@@ -35,7 +35,7 @@ abbrev pub ListsWithin : List ℕ → ℕ → ℕ → Type 0
 ListsWithin bytes before now =
     (now ≤ before) ⊎ ((events : List KeptEvent) × (acts : List MachineEvent) × IsRecord bytes events × HaveActs events acts × (now ≤ before + index_count acts))
 
--- the records before a gate of a file were replayed: so many, and the list is theirs
+-- the records before a gate of a file were replayed: their number, and the list is theirs
 pub record IsReplayedTo (tree : DeskTrees) (limits : Limits) (records : List (List ℕ)) (at count : ℕ) (list : List Submission) : Type 0 where
   pub front : List (List ℕ)
   pub later : List (List ℕ)

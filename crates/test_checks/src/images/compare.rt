@@ -9,7 +9,7 @@ use test_data::SampleDesk;
 /// What both ways of scanning an image say.
 #[derive(Clone, Copy)]
 pub enum Compared {
-    /// So many findings, the same in both ways.
+    /// The number of findings, which are the same in both ways.
     Found(usize),
     /// The image is bad, for the same reason in both ways.
     Bad,
