@@ -3,12 +3,12 @@ use Rattle.std.proofs.Common.{◌≡◌, ℕ, true, List, length, refl, sym, ◌
 use Rattle.std.specs.Prelude.{Option, Some, None, is_some}
 use Rattle.cv_io.specs.Lines.{Finished, Stop}
 use Rattle.cv_seq.specs.Cause.{Rose}
-use Rattle.cv_run.specs.Arguments.{command_of}
-use Rattle.cv_run.specs.Run.{Completes, IsService, KeepsLimits, RunsAs}
-use Rattle.cv_run.specs.Service.{ServeEnds, ServiceEnds, Stops, status_of, worker_count}
 use Rattle.cv_serve.specs.Served.{FitsInput}
 use Rattle.cv_serve.specs.declared.end.ServeEnd.{ServeEnd}
 use Rattle.cv_serve.specs.declared.end.ServeEnd.TheVariants as end
+use Rattle.cv_run.specs.Arguments.{command_of}
+use Rattle.cv_run.specs.Run.{Completes, IsService, KeepsLimits, RunsAs}
+use Rattle.cv_run.specs.Service.{ServeEnds, ServiceEnds, Stops, status_of, worker_count}
 use Rattle.cv_command.specs.World.{RunWorld, Trees}
 use Rattle.cv_run.specs.declared.arguments.Command.{Command}
 use Rattle.cv_run.specs.declared.arguments.Command.TheVariants.{Scan, Sbom, ListScan, Serve, Drill, Print}
@@ -16,7 +16,7 @@ use Rattle.cv_command.specs.declared.status.Status.{Status}
 use Rattle.cv_command.specs.declared.status.Status.TheVariants as status
 
 -- the lines of an input that keeps the limits stop at its end
-pub stops_finished : (stop : Stop) (remaining : Option (List ℕ)) → KeepsLimits remaining → Stops stop remaining → Finished ≡ stop
+stops_finished : (stop : Stop) (remaining : Option (List ℕ)) → KeepsLimits remaining → Stops stop remaining → Finished ≡ stop
 stops_finished stop None keeps stops = absurd keeps
 stops_finished stop (Some bytes) keeps stops = sym keeps ∙ stops
 

@@ -85,7 +85,7 @@ pub fn asked_workers(
 }
 
 /// How many workers there are, if there may be as many as were asked for.
-pub fn worker_count(workers: Option<u32>, desks: usize) -> Option<u32>
+fn worker_count(workers: Option<u32>, desks: usize) -> Option<u32>
     requires has_desks { 1 ≤ desks }
     requires at_most_8_desks { desks ≤ 8 }
     ensures value { result ≡ worker_count workers desks }
