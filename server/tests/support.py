@@ -222,12 +222,13 @@ class Server:
             tables += '\n[fetch]\nnetworks = ["127.0.0.0/8"]\n'
         self.config = folder / "config.toml"
         self.config.write_text(text + tables, encoding="utf-8")
+        self.command = [str(SERVER), "--config", str(self.config)]
         self.process: subprocess.Popen[bytes] | None = None
 
     def start(self, is_waited: bool = True) -> "Server":
         """Starts the server, and waits until it is ready."""
         with self.log.open("ab") as log:
-            self.process = subprocess.Popen([SERVER, "--config", self.config], stdout=log, stderr=log)
+            self.process = subprocess.Popen(self.command, stdout=log, stderr=log)
         if is_waited:
             wait_for(self.is_ready)
         return self
@@ -294,11 +295,6 @@ class Server:
         found = Path(f"/proc/{self.process.pid}/task/{self.process.pid}/children").read_text().split()
         return [int(number) for number in found if b"--workers" in Path(f"/proc/{number}/cmdline").read_bytes()]
 
-    def processor_seconds(self) -> float:
-        """The processor time of the server and its child so far."""
-        assert self.process is not None
-        return sum(processor_seconds(number) for number in [self.process.pid, *self.children()])
-
     def memory(self) -> int:
         """The most bytes of memory that the server had so far."""
         assert self.process is not None
@@ -309,9 +305,9 @@ class Server:
 
 
 def processor_seconds(number: int) -> float:
-    """The processor time that a process took so far."""
-    user, system = Path(f"/proc/{number}/stat").read_text().rpartition(")")[2].split()[11:13]
-    return (int(user) + int(system)) / os.sysconf("SC_CLK_TCK")
+    """The processor time that a process took so far, with that of the processes that it waited for."""
+    times = Path(f"/proc/{number}/stat").read_text().rpartition(")")[2].split()[11:15]
+    return sum(map(int, times)) / os.sysconf("SC_CLK_TCK")
 
 
 def vulnerable(report: dict[str, Any]) -> list[tuple[str, str, str, str]]:
@@ -360,9 +356,8 @@ def registry(folder: Path) -> Iterator[str]:
         process.wait()
 
 
-def push(address: str, folder: Path, name: str, blobs: tuple[Blob, ...]) -> str:
-    """Makes an OCI layout of an image, pushes it by skopeo, and gives the digest of its manifest."""
-    layout = folder / f"layout-{name}"
+def make_layout(layout: Path, blobs: tuple[Blob, ...]) -> str:
+    """Makes an OCI layout of an image, and gives the digest of its manifest."""
     place = layout / "blobs" / "sha256"
     place.mkdir(parents=True)
 
@@ -377,5 +372,12 @@ def push(address: str, folder: Path, name: str, blobs: tuple[Blob, ...]) -> str:
     head = put(json.dumps(manifest).encode(), "manifest.v1+json")
     (layout / "index.json").write_text(json.dumps({"schemaVersion": 2, "manifests": [head]}))
     (layout / "oci-layout").write_text('{"imageLayoutVersion":"1.0.0"}')
-    subprocess.run(["skopeo", "copy", "--quiet", "--dest-tls-verify=false", f"oci:{layout}", f"docker://{address}/{name}"], check=True)
     return str(head["digest"])
+
+
+def push(address: str, folder: Path, name: str, blobs: tuple[Blob, ...]) -> str:
+    """Pushes an image by skopeo, and gives the digest of its manifest."""
+    layout = folder / f"layout-{name}"
+    digest = make_layout(layout, blobs)
+    subprocess.run(["skopeo", "copy", "--quiet", "--dest-tls-verify=false", f"oci:{layout}", f"docker://{address}/{name}"], check=True)
+    return digest
