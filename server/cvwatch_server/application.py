@@ -3,7 +3,7 @@
 import asyncio
 import contextlib
 import os
-from typing import AsyncIterator, Coroutine
+from typing import AsyncIterator, Awaitable, Callable
 
 from aiohttp import web
 
@@ -27,6 +27,8 @@ STOP_SECONDS = 60.0
 KEEP_ALIVE_SECONDS = 75.0
 # answers that are being written at the end get so long
 CLOSE_SECONDS = 5.0
+# a task that failed, as on a full disk, begins again after so long
+RETRY_SECONDS = 5.0
 
 
 class Application:
@@ -112,8 +114,8 @@ class Application:
         """Runs until it is to stop. The round that has begun is ended, and answered."""
         self.layers.prepare()
         await self.layers.tidy()
-        child = asyncio.create_task(self.keeper.run())
-        others = [asyncio.create_task(guarded(task)) for task in (self.feeds.run(), self.notifier.run())]
+        child = asyncio.create_task(guarded(self.keeper.run))
+        others = [asyncio.create_task(guarded(work)) for work in (self.feeds.run, self.notifier.run)]
         try:
             async with self.listening() as port:
                 note("listening", address=self.configuration.server.listen, port=port)
@@ -130,12 +132,14 @@ class Application:
             await self.close()
 
 
-async def guarded(work: Coroutine[None, None, None]) -> None:
-    """Logs what a task fails with."""
-    try:
-        await work
-    except Exception:  # pylint: disable=broad-exception-caught
-        logger.exception("a task failed")
+async def guarded(work: Callable[[], Awaitable[None]]) -> None:
+    """Does some work to its end. Logs what it fails with, and begins it again."""
+    while True:
+        try:
+            return await work()
+        except Exception:  # pylint: disable=broad-exception-caught
+            logger.exception("a task failed")
+        await asyncio.sleep(RETRY_SECONDS)
 
 
 async def serve(configuration: Configuration, stop: asyncio.Event) -> None:

@@ -48,10 +48,10 @@ class Feeds:
     async def run(self) -> None:
         """Looks at all feeds until the server stops."""
         names = {feed.name for feed in self.configuration.feeds}
-        for part in self.records.parts():
-            if part.feed not in names:
-                await self.empty(part)
         async with asyncio.TaskGroup() as group:
+            for part in self.records.parts():
+                if part.feed not in names:
+                    group.create_task(self.empty(part))
             for feed in self.configuration.feeds:
                 group.create_task(self.keep_fresh(feed))
 

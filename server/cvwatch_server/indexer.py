@@ -1,6 +1,7 @@
 """The indexer: images are posted, their layers fetched and unpacked, and registered with the child."""
 
 import asyncio
+import dataclasses
 import hashlib
 import shutil
 from pathlib import Path
@@ -14,7 +15,7 @@ from .keeper import Keeper, register
 from .layers import Layers
 from .logs import note
 from .packages import PackageLists
-from .refusals import Refusal, not_found
+from .refusals import Refusal, not_found, refusal_of
 from .store import Image, Store
 
 FINISHED, FAILED, PENDING = "IndexFinished", "IndexError", "IndexPending"
@@ -32,6 +33,8 @@ class Indexer:
         self.keeper = keeper
         self.layers = layers
         self.lists = PackageLists(configuration.child.program, configuration.state, configuration.fetch.at_once)
+        # an image is registered or dropped at a time, so that child and state have the same images; images share these locks by their last digits
+        self.locks = [asyncio.Lock() for _ in range(256)]
 
     async def post(self, request: web.Request) -> web.Response:
         """Indexes an image, and answers with its report when that is done."""
@@ -45,27 +48,32 @@ class Indexer:
             await self.layers.release(diff_ids)
         return web.json_response(report, status=201, headers={"Location": f"/indexer/api/v1/index_report/{manifest.digest}"})
 
+    def lock_of(self, digest: str) -> asyncio.Lock:
+        """The lock of an image."""
+        return self.locks[int(digest[-2:], 16)]
+
     async def index(self, digest: str, diff_ids: list[str], lane: int) -> dict[str, Any]:
         """The index report of an image, whose layers are there. It is kept before it is registered, so that it is not lost."""
-        is_new = self.store.add_image(digest, diff_ids)
-        answer = await self.keeper.ask(register(digest, diff_ids), lane)
-        if answer.get("reply") not in ("registered", "already"):
-            if is_new:
-                self.store.drop_image(digest)
-            raise refusal_of(answer)
+        async with self.lock_of(digest):
+            is_new = self.store.add_image(digest, diff_ids)
+            answer = await self.keeper.ask(register(digest, diff_ids), lane)
+            if answer.get("reply") not in ("registered", "already"):
+                if is_new:
+                    self.store.drop_image(digest)
+                raise refusal_of(answer)
         note("an image was registered", image=digest, layers=len(diff_ids), reply=answer["reply"])
         return await self.finish(digest, diff_ids, lane)
 
     async def finish(self, digest: str, diff_ids: list[str], lane: int) -> dict[str, Any]:
         """Waits until an image is indexed, notes what was found, and gives the report."""
         answer = await self.wait(digest, lane)
-        if answer["reply"] == "not_registered":
+        known = self.store.image(digest)
+        if known is None or known.layers != diff_ids:
             raise not_found("the image was deleted meanwhile")
-        packages = None
-        if answer["reply"] == "good":
-            known = self.store.image(digest)
-            packages = known.packages if known and known.packages is not None else await self.lists.packages(digest, diff_ids)
-        self.store.set_image(digest, state_of(answer), packages)
+        packages = known.packages if answer["reply"] == "good" else None
+        if answer["reply"] == "good" and packages is None:
+            packages = await self.lists.packages(digest, diff_ids)
+        self.store.set_image(dataclasses.replace(known, state=state_of(answer), packages=packages))
         return report_of(digest, packages, answer)
 
     async def wait(self, digest: str, lane: int) -> dict[str, Any]:
@@ -73,9 +81,7 @@ class Indexer:
         pause = FIRST_PAUSE
         end = asyncio.get_running_loop().time() + self.configuration.server.index_seconds
         while True:
-            answer = await self.keeper.ask({"do": "report", "image": digest}, lane)
-            if answer.get("reply") not in ("pending", "good", "bad_image", "not_registered"):
-                raise refusal_of(answer)
+            answer = await self.keeper.report(digest, lane)
             if answer["reply"] != "pending" or asyncio.get_running_loop().time() > end:
                 return answer
             await asyncio.sleep(pause)
@@ -91,8 +97,8 @@ class Indexer:
     async def get(self, request: web.Request) -> web.Response:
         """Answers with the index report of an image."""
         image = self.known(request.match_info["digest"])
-        answer = await self.keeper.ask({"do": "report", "image": image.digest}, request["lane"])
-        if answer.get("reply") == "good" and image.packages is None and self.lists.is_known:
+        answer = await self.keeper.report(image.digest, request["lane"])
+        if answer["reply"] == "good" and image.packages is None and self.lists.is_known:
             return web.json_response(await self.finish(image.digest, image.layers, request["lane"]))
         return web.json_response(report_of(image.digest, image.packages, answer))
 
@@ -116,19 +122,24 @@ class Indexer:
 
     async def drop(self, image: Image, lane: int) -> None:
         """Drops an image, first from the child and then from the state; and its layers, if no other image has them."""
-        answer = await self.keeper.ask({"do": "drop", "image": image.digest}, lane)
-        if answer.get("reply") not in ("dropped", "not_registered"):
-            raise refusal_of(answer)
-        self.store.drop_image(image.digest)
+        async with self.lock_of(image.digest):
+            answer = await self.keeper.ask({"do": "drop", "image": image.digest}, lane)
+            if answer.get("reply") not in ("dropped", "not_registered"):
+                raise refusal_of(answer)
+            self.store.drop_image(image.digest)
         note("an image was dropped", image=image.digest)
         await self.layers.remove_unused(image.layers)
 
     async def state(self, _request: web.Request) -> web.Response:
         """Answers with a text that changes when images may be found to have other packages: the sum of the program."""
-        program = shutil.which(self.configuration.child.program)
-        content = await asyncio.to_thread(Path(program).read_bytes) if program else b""
-        digest = hashlib.sha256(content).hexdigest()
+        digest = await asyncio.to_thread(sum_of, self.configuration.child.program)
         return web.json_response({"state": digest}, headers={"ETag": f'"{digest}"'})
+
+
+def sum_of(program: str) -> str:
+    """The digits of the SHA-256 of a program, or of nothing where there is none."""
+    place = shutil.which(program)
+    return hashlib.sha256(Path(place).read_bytes() if place else b"").hexdigest()
 
 
 def state_of(answer: dict[str, Any]) -> str:
@@ -138,20 +149,8 @@ def state_of(answer: dict[str, Any]) -> str:
 
 def report_of(digest: str, packages: list[dict[str, str]] | None, answer: dict[str, Any]) -> dict[str, Any]:
     """The index report of an image by the child's report."""
-    if answer.get("reply") == "bad_image":
+    if answer["reply"] == "bad_image":
         return clair.index_report(digest, None, FAILED, clair.reason_of(answer["bad"]))
-    if answer.get("reply") == "good":
+    if answer["reply"] == "good":
         return clair.index_report(digest, packages if packages is not None else answer["findings"], FINISHED)
     return clair.index_report(digest, None, PENDING, "the layers are not indexed yet")
-
-
-def refusal_of(answer: dict[str, Any]) -> Refusal:
-    """What a request is answered that the child did not carry out."""
-    reply = answer.get("reply") or answer.get("refused")
-    if reply == "conflict":
-        return Refusal(409, "conflict", "the image is registered with other layers")
-    if reply == "too_many_images":
-        return Refusal(507, "too-many-images", "cvwatch takes no more images")
-    if reply == "no_memory":
-        return Refusal(503, "unavailable", "cvwatch is out of memory")
-    return Refusal(500, "internal", f"cvwatch answered {reply}")

@@ -12,7 +12,7 @@ from .configuration import Configuration
 from .logs import note, warn
 from .metrics import Metrics
 from .records import Change, Records
-from .refusals import unavailable
+from .refusals import not_found, refusal_of, unavailable
 from .store import Store
 
 FIRST_PAUSE = 0.1
@@ -65,6 +65,15 @@ class Keeper:
             return await self.child.ask({**request, "lane": lane % LANES})
         except ChildGone:
             raise unavailable("cvwatch ended before it answered") from None
+
+    async def report(self, digest: str, lane: int) -> Answer:
+        """The child's report of an image, which is good, bad or pending. Raises Refusal if there is none."""
+        answer = await self.ask({"do": "report", "image": digest}, lane)
+        if answer.get("reply") == "not_registered":
+            raise not_found("the image is not registered")
+        if answer.get("reply") not in ("good", "bad_image", "pending"):
+            raise refusal_of(answer)
+        return answer
 
     async def run(self) -> None:
         """Starts children until the server stops."""
@@ -159,9 +168,11 @@ class Keeper:
         for first in range(0, len(images), AT_ONCE):
             some = images[first : first + AT_ONCE]
             for answer in await asyncio.gather(*(child.ask(register(image.digest, image.layers)) for image in some)):
-                if answer.get("reply") not in ("registered", "already"):
+                if answer.get("reply") in ("conflict", "too_many_images"):
                     warn("an image was not registered again", answer=answer)
-                    self.store.drop_image(answer.get("image", ""))
+                    self.store.drop_image(answer["image"])
+                elif answer.get("reply") not in ("registered", "already"):
+                    raise RuntimeError(f"an image was not taken: {answer}")
         pending = [image.digest for image in images]
         for pause in INDEX_PAUSES:
             pending = [digest for digest in pending if await self.is_pending(child, digest)]

@@ -1,6 +1,7 @@
 """Layers on disk: a blob is fetched, checked, and unpacked by `tools/unpack-layer` into the folder of its diff ID."""
 
 import asyncio
+import errno
 import hashlib
 import os
 import resource
@@ -96,7 +97,7 @@ class Unpacking:
         if await reader.wait() != 0:
             raise bad_layer("the blob is damaged: it cannot be uncompressed")
         if await maker.wait() != 0:
-            raise bad_layer(self.last_error())
+            raise self.failure()
         return digest
 
     async def pass_on(self, reader: asyncio.subprocess.Process, maker: asyncio.subprocess.Process) -> str:
@@ -113,7 +114,7 @@ class Unpacking:
                 await maker.stdin.drain()
             except (BrokenPipeError, ConnectionResetError):
                 await maker.wait()
-                raise bad_layer(self.last_error()) from None
+                raise self.failure() from None
         maker.stdin.close()
         return f"sha256:{digest.hexdigest()}"
 
@@ -124,10 +125,12 @@ class Unpacking:
             if await asyncio.to_thread(size_below, self.folder / "files") > self.settings.layer_bytes:
                 raise Refusal(422, "too-large", f"the layer has more than {self.settings.layer_bytes} bytes")
 
-    def last_error(self) -> str:
-        """What was said last of the layer."""
+    def failure(self) -> Exception:
+        """Why no tree was made, as was said last: the disk is full, which may leave no place to say so, or the blob is not one of a layer."""
         lines = (self.folder / "errors").read_text(encoding="utf-8", errors="replace").splitlines()
-        return (lines[-1] if lines else "the layer cannot be unpacked")[:500]
+        message = (lines[-1] if lines else "the layer cannot be unpacked")[:500]
+        is_full = os.strerror(errno.ENOSPC) in message or os.statvfs(self.folder).f_bavail == 0
+        return OSError(errno.ENOSPC, message) if is_full else bad_layer(message)
 
 
 class Layers:
@@ -164,11 +167,11 @@ class Layers:
         """The diff ID of a layer whose folder is there: it is fetched and unpacked, unless it was before. It stays until `release`."""
         async with self.locks[int(layer.digest[-2:], 16)]:
             diff_id = self.store.diff_id(layer.digest)
-            if diff_id is None or not self.folder(diff_id).is_dir():
-                async with self.slots:
-                    diff_id = await self.bring(layer)
-            self.held[diff_id] += 1
-            return diff_id
+            if diff_id is not None and self.folder(diff_id).is_dir():
+                self.held[diff_id] += 1
+                return diff_id
+            async with self.slots:
+                return await self.bring(layer)
 
     async def release(self, diff_ids: list[str]) -> None:
         """Lets layers be removed that no image has."""
@@ -176,7 +179,7 @@ class Layers:
         await self.remove_unused(diff_ids)
 
     async def bring(self, layer: Layer) -> str:
-        """Fetches and unpacks a layer. What is not whole is removed."""
+        """Fetches and unpacks a layer, which is held as soon as it is there. What is not whole is removed."""
         if not layer.uri:
             raise Refusal(422, "no-blob", f"the layer {layer.digest} is not known, and has no uri")
         work = Path(tempfile.mkdtemp(dir=self.work))
@@ -190,6 +193,7 @@ class Layers:
             diff_id = await Unpacking(self.settings, self.tools, blob, place).run()
             await self.move(place / "tree", diff_id)
             self.store.add_blob(layer.digest, diff_id)
+            self.held[diff_id] += 1
             return diff_id
         finally:
             await asyncio.to_thread(shutil.rmtree, work, True)

@@ -6,10 +6,9 @@ from typing import Any
 from aiohttp import web
 
 from . import clair, manifests
-from .indexer import PENDING, refusal_of
+from .indexer import PENDING
 from .keeper import Keeper
 from .records import Records
-from .refusals import not_found
 from .store import Store
 
 
@@ -23,12 +22,7 @@ class Matcher:
 
     async def answer(self, digest: str, lane: int) -> dict[str, Any]:
         """The child's report of an image that is registered."""
-        answer = await self.keeper.ask({"do": "report", "image": manifests.digest_of_path(digest)}, lane)
-        if answer.get("reply") == "not_registered":
-            raise not_found("the image is not registered")
-        if answer.get("reply") not in ("good", "pending", "bad_image"):
-            raise refusal_of(answer)
-        return answer
+        return await self.keeper.report(manifests.digest_of_path(digest), lane)
 
     async def get(self, request: web.Request) -> web.Response:
         """Answers with the vulnerability report of an image."""

@@ -5,6 +5,7 @@ import base64
 import binascii
 import errno
 import hmac
+import sqlite3
 import time
 from typing import Awaitable, Callable
 
@@ -59,6 +60,13 @@ def counted(metrics: Metrics) -> Middleware:
     return middleware
 
 
+def is_full(error: Exception) -> bool:
+    """Whether something failed because the disk is full, or there are too many open files."""
+    if isinstance(error, sqlite3.Error):
+        return getattr(error, "sqlite_errorcode", None) == sqlite3.SQLITE_FULL
+    return isinstance(error, OSError) and error.errno in (errno.ENOSPC, errno.EDQUOT, errno.EMFILE, errno.ENFILE)
+
+
 @web.middleware
 async def refusing(request: web.Request, handler: Handler) -> web.StreamResponse:
     """Answers in one form what is refused or fails."""
@@ -70,12 +78,9 @@ async def refusing(request: web.Request, handler: Handler) -> web.StreamResponse
         return answer_of(Refusal(error.status, error.reason.lower().replace(" ", "-"), error.reason))
     except ConnectionError:
         raise
-    except OSError as error:
-        if error.errno in (errno.ENOSPC, errno.EDQUOT, errno.EMFILE, errno.ENFILE):
+    except Exception as error:  # pylint: disable=broad-exception-caught
+        if is_full(error):
             return answer_of(Refusal(507, "no-space", "the server has no room for this"))
-        logger.exception("a request failed")
-        return answer_of(Refusal(500, "internal", "the request failed"))
-    except Exception:  # pylint: disable=broad-exception-caught
         logger.exception("a request failed")
         return answer_of(Refusal(500, "internal", "the request failed"))
 

@@ -106,7 +106,7 @@ class Notifier:
             async with session.post(self.settings.target, json=body, headers=self.settings.headers, allow_redirects=False) as response:
                 is_taken = 200 <= response.status < 300
                 outcome = "taken" if is_taken else f"status {response.status}"
-        except (aiohttp.ClientError, TimeoutError, OSError) as error:
+        except (aiohttp.ClientError, OSError, ValueError) as error:
             is_taken, outcome = False, type(error).__name__
         self.metrics.deliveries.labels("taken" if is_taken else "refused").inc()
         note("a notification was posted", notification=notification.id, outcome=outcome)

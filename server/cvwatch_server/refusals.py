@@ -1,5 +1,7 @@
 """What a request is refused with: a status, a code and a message, in the form of Clair."""
 
+from typing import Any
+
 
 class Refusal(Exception):
     """A request is not carried out."""
@@ -28,3 +30,15 @@ def not_found(message: str) -> Refusal:
 def unavailable(message: str) -> Refusal:
     """The child cannot be asked now."""
     return Refusal(503, "unavailable", message)
+
+
+def refusal_of(answer: dict[str, Any]) -> Refusal:
+    """What a request is answered that the child did not carry out."""
+    reply = answer.get("reply") or answer.get("refused")
+    if reply == "conflict":
+        return Refusal(409, "conflict", "the image is registered with other layers")
+    if reply == "too_many_images":
+        return Refusal(507, "too-many-images", "cvwatch takes no more images")
+    if reply == "no_memory":
+        return unavailable("cvwatch is out of memory")
+    return Refusal(500, "internal", f"cvwatch answered {reply}")

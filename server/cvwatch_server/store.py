@@ -118,10 +118,11 @@ class Store:
         """How many images there are in each state."""
         return {row[0]: row[1] for row in self.all("SELECT state, count(*) FROM image GROUP BY state")}
 
-    def set_image(self, digest: str, state: str, packages: list[dict[str, str]] | None) -> None:
-        """Notes what is known of an image."""
-        text = None if packages is None else json.dumps(packages)
-        self.all("UPDATE image SET state = ?, packages = ? WHERE digest = ?", state, text, digest)
+    def set_image(self, image: Image) -> None:
+        """Notes the state and the packages of an image, if it still has these layers."""
+        text = None if image.packages is None else json.dumps(image.packages)
+        values = (image.state, text, image.digest, json.dumps(image.layers))
+        self.all("UPDATE image SET state = ?, packages = ? WHERE digest = ? AND layers = ?", *values)
 
     def set_state(self, digest: str, state: str) -> None:
         """Notes the state of an image, if it is another one."""

@@ -4,9 +4,11 @@ import os
 import signal
 import subprocess
 import threading
+from concurrent.futures import ThreadPoolExecutor
 from pathlib import Path
 
-from support import SERVER, Server, blob_party, debian_blob, manifest_of, wait_for
+import pytest
+from support import SERVER, Server, blob_of, blob_party, debian_blob, manifest_of, npm_blob, sha256, wait_for
 
 LAYER = debian_blob(("bash", "bash", "5.2.15-2"))
 
@@ -32,6 +34,30 @@ def test_an_image_that_is_pending(tmp_path: Path, program: str) -> None:
             os.unlink(fault)
             wait_for(lambda: server.report(digest)[0] == 200)
             assert server.index(manifest)[1]["success"] is True
+
+
+def test_an_image_that_is_posted_and_deleted_at_once(tmp_path: Path, program: str) -> None:
+    """Whatever comes first, state and child have the image or not, with the layers of one post, and the packages of these."""
+    kinds = [(LAYER,), (LAYER, npm_blob("lodash", "4.17.20"))]
+    with blob_party(*kinds[1]) as party, Server(tmp_path, program) as server:
+        manifests = [manifest_of(party.uri, *blobs, digest=sha256(b"image")) for blobs in kinds]
+        digest = manifests[0]["hash"]
+        path = f"/indexer/api/v1/index_report/{digest}"
+
+        def step(number: int) -> None:
+            if number % 4 == 3:
+                assert server.call("DELETE", path)[0] in (204, 404)
+                return
+            status, report = server.index(manifests[number % 2])
+            assert status in (404, 409) or (status == 201 and len(report["packages"]) in (0, number % 2 + 1)), (status, report)
+
+        with ThreadPoolExecutor(8) as clients:
+            list(clients.map(step, range(200)))
+        assert server.call("GET", path)[0] == server.report(digest)[0]
+        if server.report(digest)[0] == 404:
+            assert server.index(manifests[0])[0] == 201
+        layers = len(list((server.state / "layers" / "sha256").iterdir()))
+        assert len(server.call("GET", path)[1]["packages"]) in (0, layers)
 
 
 def test_a_child_that_cannot_be_started(tmp_path: Path) -> None:
@@ -96,6 +122,21 @@ def test_a_stop_answers_what_was_asked(tmp_path: Path, program: str) -> None:
         for thread in threads:
             thread.join()
         assert set(statuses) <= {200, 503}
+
+
+@pytest.mark.skipif(subprocess.run(["unshare", "-m", "true"], check=False).returncode != 0, reason="only root mounts a disk")
+def test_a_full_disk(tmp_path: Path, program: str) -> None:
+    """A blob or a layer that does not fit on the disk is refused, and leaves it as it was."""
+    small, large, larger = (blob_of({"file": os.urandom(size)}) for size in (1, 5 << 20, 9 << 20))
+    server = Server(tmp_path, program)
+    server.state.mkdir()
+    mount = 'mount -t tmpfs -o size=8m tmpfs "$0" && exec "$@"'
+    server.command = ["unshare", "-m", "sh", "-c", mount, str(server.state), *server.command]
+    with blob_party(small, large, larger) as party, server:
+        for blob in (large, larger, large):
+            status, body = server.index(manifest_of(party.uri, blob))
+            assert (status, body["code"]) == (507, "no-space"), body
+            assert server.index(manifest_of(party.uri, small))[0] == 201
 
 
 def test_bad_arguments(tmp_path: Path) -> None:

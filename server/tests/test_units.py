@@ -1,6 +1,8 @@
 """Single rules: the configuration, addresses, feeds and their parts, the forms of Clair."""
 
+import errno
 import ipaddress
+import sqlite3
 from pathlib import Path
 from types import SimpleNamespace
 from typing import Any
@@ -13,6 +15,7 @@ from cvwatch_server.addresses import is_allowed
 from cvwatch_server.child import line_of
 from cvwatch_server.configuration import BadConfiguration
 from cvwatch_server.feeds import MOST_BYTES, MOST_RECORDS, part_names, split
+from cvwatch_server.middlewares import is_full
 from cvwatch_server.records import Part, Records
 from cvwatch_server.store import Store
 
@@ -155,6 +158,16 @@ def test_the_ids_of_notifications(tmp_path: Path) -> None:
     assert len(store.notifications()) == 2
     store.drop_notification(first)
     assert [one.rows for one in store.notifications()] == [1]
+
+
+def test_a_full_disk_by_its_errors() -> None:
+    """SQLite says it in another way than the system does."""
+    connection = sqlite3.connect(":memory:")
+    connection.execute("PRAGMA max_page_count = 1")
+    with pytest.raises(sqlite3.OperationalError) as caught:
+        connection.execute("CREATE TABLE a (b)")
+        connection.execute("CREATE TABLE c (d)")
+    assert is_full(caught.value) and is_full(OSError(errno.ENOSPC, "")) and not is_full(OSError(errno.ENOENT, "")) and not is_full(ValueError())
 
 
 def finding(**members: Any) -> dict[str, Any]:
