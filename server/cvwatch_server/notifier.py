@@ -30,6 +30,11 @@ def place_of(text: str) -> int:
         raise bad_request("next is not one that was given") from None
 
 
+def next_of(place: int, rows: int) -> str:
+    """What `next` is for the page that begins at a place, or nothing after the last of so many rows."""
+    return str(uuid.UUID(int=place)) if place < rows else ""
+
+
 def size_of(text: str) -> int:
     """The number of rows of a page."""
     if not text.isascii() or not text.isdigit() or not 1 <= int(text[:9]) <= MOST_ROWS:
@@ -77,7 +82,10 @@ class Notifier:
     def add(self, number: int, rows: list[dict[str, Any]], record: clair.Lookup) -> None:
         """Keeps the rows with what the records say now."""
         of = self.records.osv_records
-        texts = [{"image": row["image"], "reason": row["reason"], "vulnerability": clair.vulnerability_of(row["finding"], record, of)} for row in rows]
+        texts = [
+            {"image": row["image"], "reason": row["reason"], "package": row["finding"]["name"], "vulnerability": clair.vulnerability_of(row["finding"], record, of)}
+            for row in rows
+        ]
         self.store.add_notification(number, texts)
         self.has_news.set()
 
@@ -126,8 +134,8 @@ class Notifier:
         first = place_of(request.query.get("next", ""))
         rows = self.store.notification_rows(notification.id, first, size)
         page: dict[str, Any] = {"size": size}
-        if first + size < notification.rows:
-            page["next"] = str(uuid.UUID(int=first + size))
+        if following := next_of(first + size, notification.rows):
+            page["next"] = following
         return web.json_response({"page": page, "notifications": [self.form(notification, first + place, row) for place, row in enumerate(rows)]})
 
     def form(self, notification: Notification, place: int, row: dict[str, Any]) -> dict[str, Any]:

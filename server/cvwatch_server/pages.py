@@ -15,7 +15,7 @@ from .configuration import Configuration
 from .indexer import Indexer
 from .matcher import Matcher
 from .metrics import Metrics
-from .notifier import Notifier, place_of
+from .notifier import Notifier, next_of, place_of
 from .refusals import Refusal, bad_request
 from .store import Image, Store
 
@@ -117,7 +117,8 @@ class Pages:
         notification = self.notifier.known(request.match_info["id"])
         first = place_of(request.query.get("next", ""))
         rows = self.store.notification_rows(notification.id, first, ROWS_OF_PAGE)
-        return self.page("notification.html", notification=notification, rows=rows)
+        following = next_of(first + ROWS_OF_PAGE, notification.rows)
+        return self.page("notification.html", notification=notification, rows=rows, next=following)
 
     async def style(self, _request: web.Request) -> web.Response:
         """Answers with the style of the pages."""

@@ -58,6 +58,18 @@ def test_the_pages(server: Server) -> None:
         assert server.call("GET", f"/?page={query}")[0] == 400
 
 
+def test_a_long_notification(server: Server, tmp_path: Path) -> None:
+    """A page has 500 rows, and leads to the others."""
+    write_feed(tmp_path / "feed.jsonl", [record(f"Z-{number}", "Debian:12", "bash", None) for number in range(600)])
+    wait_for(lambda: server.metric('cvwatch_notifications{is_taken="false"}') == 2)
+    _, front = server.call("GET", "/")
+    path = re.findall(rb"/notifications/[0-9a-f-]{36}", front)[0].decode()
+    _, first = server.call("GET", path)
+    _, second = server.call("GET", path + re.findall(rb'href="(\?next=[^"]+)"', first)[0].decode())
+    found = [re.findall(r'osv.dev/vulnerability/([^"]+)', html.unescape(page.decode())) for page in (first, second)]
+    assert (len(found[0]), len(set(found[0] + found[1])), b"?next=" in second) == (500, 602, False)
+
+
 @pytest.mark.skipif(shutil.which("chromium") is None, reason="chromium is not installed")
 def test_a_browser(server: Server, tmp_path: Path) -> None:
     """A browser shows the findings, and runs no script of a record."""
