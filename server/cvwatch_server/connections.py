@@ -6,6 +6,7 @@ from typing import Any
 
 from aiohttp import web
 
+from .logs import warn
 from .metrics import Metrics
 
 BUSY = b"HTTP/1.1 503 Service Unavailable\r\nContent-Length: 0\r\nConnection: close\r\nRetry-After: 1\r\n\r\n"
@@ -55,6 +56,10 @@ class GuardedConnection(web.RequestHandler):
         super().data_received(data)
         if len(self._messages) > MOST_WAITING:
             self.force_close()
+
+    def log_exception(self, *_: Any, **members: Any) -> None:
+        """Logs in one line what is no request of HTTP."""
+        warn("a connection failed", error=repr(members.get("exc_info"))[:200])
 
     def refuse(self, answer: bytes) -> None:
         """Ends the connection with an answer."""

@@ -158,11 +158,12 @@ class Feeds:
     async def send_change(self, part: Part, lines: dict[str, bytes]) -> None:
         """The same, while no child is restored."""
         change = await asyncio.to_thread(self.records.change, part.name, lines)
-        known = self.records.part(part.name)
-        if known is not None and change.is_empty():
+        known = self.records.known(part)
+        is_sent = known.generation >= 0
+        if is_sent and change.is_empty():
             return
         answer: dict[str, Any] = {}
-        if known is not None:
+        if is_sent:
             answer = await self.keeper.ask(patch(part.name, known.generation, change))
         # the first time, and at `stale_base`, `no_feed` or `too_many_records`
         if answer.get("reply") != "updated":

@@ -76,13 +76,13 @@ class Fetcher:
             async with asyncio.timeout(self.settings.seconds):
                 return await self.follow(request, file)
         except TimeoutError:
-            raise Refusal(504, "fetch-timeout", "the registry did not answer in time") from None
+            raise Refusal(504, "fetch-timeout", "the source did not answer in time") from None
         except aiohttp.ClientConnectorError as error:
             if isinstance(error.os_error, RefusedAddress):
                 raise Refusal(403, "address-refused", str(error.os_error)) from None
-            raise Refusal(502, "fetch-failed", "the registry cannot be reached") from None
+            raise Refusal(502, "fetch-failed", "the source cannot be reached") from None
         except (aiohttp.ClientError, ValueError) as error:
-            raise Refusal(502, "fetch-failed", f"the registry did not answer as it should: {type(error).__name__}") from None
+            raise Refusal(502, "fetch-failed", f"the source did not answer as it should: {type(error).__name__}") from None
 
     async def follow(self, request: Request, file: Path) -> Fetched:
         """Fetches through redirects, each of which is checked as the first address is."""
@@ -105,7 +105,7 @@ class Fetcher:
         if response.status == 304:
             return Fetched(304, "", response.headers.get("ETag", ""))
         if response.status != 200:
-            raise Refusal(502, "fetch-failed", f"the registry answered with status {response.status}")
+            raise Refusal(502, "fetch-failed", f"the source answered with status {response.status}")
         too_large = Refusal(422, "too-large", f"there are more than {limit} bytes")
         if response.content_length is not None and response.content_length > limit:
             raise too_large

@@ -77,7 +77,8 @@ async def refusing(request: web.Request, handler: Handler) -> web.StreamResponse
     except web.HTTPException as error:
         return answer_of(Refusal(error.status, error.reason.lower().replace(" ", "-"), error.reason))
     except ConnectionError:
-        raise
+        # nobody reads this answer
+        return answer_of(Refusal(400, "bad-request", "the client left"))
     except Exception as error:  # pylint: disable=broad-exception-caught
         if is_full(error):
             return answer_of(Refusal(507, "no-space", "the server has no room for this"))

@@ -20,7 +20,7 @@ MOST_READ = 20_000
 
 @dataclasses.dataclass(frozen=True)
 class Part:
-    """A feed of the child: a feed, or one of the parts that a feed too long for one line has."""
+    """A feed of the child: a feed, or one of the parts that a feed too long for one line has. Its generation is -1 until it was sent."""
 
     name: str
     feed: str
@@ -57,16 +57,17 @@ class Records:
         self.connection.close()
 
     def parts(self) -> list[Part]:
-        """The parts that were sent."""
+        """The parts that the child has, or may have."""
         return [Part(*row) for row in self.connection.execute("SELECT * FROM part ORDER BY name")]
 
     def parts_of(self, feed: str) -> list[Part]:
-        """The parts of a feed that were sent."""
+        """The parts of a feed."""
         return [part for part in self.parts() if part.feed == feed]
 
-    def part(self, name: str) -> Part | None:
-        """The part of a name, if it was sent."""
-        return next((part for part in self.parts() if part.name == name), None)
+    def known(self, part: Part) -> Part:
+        """A part as it is known. One that is not is noted, since the child may have it although its answer is never read."""
+        self.connection.execute("INSERT OR IGNORE INTO part VALUES (?, ?, -1)", (part.name, part.feed))
+        return next(one for one in self.parts() if one.name == part.name)
 
     def set_generation(self, name: str, generation: int) -> None:
         """Notes at which generation the child has a part."""

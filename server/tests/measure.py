@@ -42,6 +42,16 @@ def milliseconds(seconds: float, count: int) -> str:
     return f"{1000 * seconds / max(count, 1):.2f} ms"
 
 
+def loop() -> list[float]:
+    """The processor times of one fixed loop, by which those of different hours and machines can be compared."""
+    times = []
+    for _ in range(5):
+        before = time.process_time()
+        sum(range(5_000_000))
+        times.append(time.process_time() - before)
+    return times
+
+
 class Used:
     """The processor time of the server, with the processes that it ran and that have ended, and of its child, since the last look."""
 
@@ -165,14 +175,16 @@ def main() -> None:
     program = os.path.realpath(os.environ.get("CVWATCH") or shutil.which("cvwatch") or sys.exit("there is no cvwatch: set CVWATCH"))
     count = int(sys.argv[1]) if len(sys.argv) > 1 else 1000
     commit = subprocess.run(["git", "-C", ROOT, "rev-parse", "--short=8", "HEAD"], stdout=subprocess.PIPE, text=True, check=False).stdout.strip()
-    load, began = os.getloadavg()[0], time.monotonic()
+    load, began, loops = os.getloadavg()[0], time.monotonic(), loop()
     with tempfile.TemporaryDirectory() as folder:
         rows = measure(program, Path(folder), count)
+    loops += loop()
     print("| | Reports a second | Half within | 99 % within | Processor time of one: server | child |\n|---|---|---|---|---|---|")
     for name, row in rows:
         print(f"| {name} | {row['rate']} | {row['half']} | {row['slow']} | {row['server']} | {row['child']} |")
     print(f"\n{platform.machine()}, {os.cpu_count()} processors with a load of {load:.1f} before, Python {platform.python_version()}, ", end="")
-    print(f"commit {commit}; all of it took {time.monotonic() - began:.0f} s")
+    print(f"commit {commit}; all of it took {time.monotonic() - began:.0f} s. ", end="")
+    print(f"A loop, `sum(range(5_000_000))`, took {1000 * min(loops):.0f} to {1000 * max(loops):.0f} ms of processor time before and after.")
 
 
 if __name__ == "__main__":

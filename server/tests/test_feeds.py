@@ -1,7 +1,10 @@
 """Feeds by HTTP: they are fetched with their ETag, sent when they change, and emptied when they go."""
 
+import contextlib
+import sqlite3
 from pathlib import Path
 
+import pytest
 from support import Answers, Party, Server, blob_party, debian_blob, manifest_of, record, vulnerable, wait_for, write_feed
 
 LAYER = debian_blob(("bash", "bash", "5.2.15-2"))
@@ -43,8 +46,9 @@ def test_a_feed_is_fetched_with_its_mark(tmp_path: Path, program: str) -> None:
             assert len(server.call("GET", "/")[1].split(b"/notifications/")) == 2
 
 
-def test_a_feed_that_is_not_configured_any_more(tmp_path: Path, program: str) -> None:
-    """The records of a feed go with it."""
+@pytest.mark.parametrize("is_interrupted", [False, True])
+def test_a_feed_that_is_not_configured_any_more(tmp_path: Path, program: str, is_interrupted: bool) -> None:
+    """The records of a feed go with it, also if it was being sent at the end."""
     feed = tmp_path / "feed.jsonl"
     write_feed(feed, [OF_BASH])
     with blob_party(LAYER) as party:
@@ -53,6 +57,12 @@ def test_a_feed_that_is_not_configured_any_more(tmp_path: Path, program: str) ->
         with server:
             assert server.index(manifest)[0] == 201
             wait_for(lambda: vulnerable(server.report(manifest["hash"])[1]) != [])
+            wait_for(lambda: server.metric('cvwatch_feed_records{feed="a"}') == 1)
+        if is_interrupted:
+            # as if the server had been killed before it read the answer of the child
+            with contextlib.closing(sqlite3.connect(server.state / "records.sqlite", isolation_level=None)) as connection:
+                connection.execute("DELETE FROM record")
+                connection.execute("UPDATE part SET generation = -1")
         server.config.write_text(server.config.read_text().partition("[[feed]]")[0])
         with server:
             wait_for(lambda: vulnerable(server.report(manifest["hash"])[1]) == [])

@@ -29,6 +29,7 @@ def server(tmp_path_factory: pytest.TempPathFactory, program: str) -> Iterator[S
     with Server(tmp_path_factory.mktemp("hostile"), program, TABLES, connections=300, request_seconds=3, index_seconds=5) as found:
         yield found
         assert found.memory() < MEMORY
+        assert "Traceback" not in found.log.read_text()
         with blob_party(LAYER) as party:
             assert found.index(manifest_of(party.uri, LAYER))[0] == 201
         assert list((found.state / "work").iterdir()) == []
@@ -79,6 +80,25 @@ def test_a_blob_that_never_ends(server: Server) -> None:
 
     with Party(answer) as party:
         assert refused(server, party) == (422, "too-large")
+
+
+def test_headers_that_never_end(server: Server) -> None:
+    """Headers without end are read up to a limit, those of a registry and those of a client."""
+    headers = b"".join(b"X-%d: %s\r\n" % (number, b"x" * 2000) for number in range(100))
+
+    def answer(request: Answers) -> None:
+        request.wfile.write(b"HTTP/1.1 200 OK\r\n")
+        while True:
+            request.wfile.write(headers)
+
+    with Party(answer) as party:
+        assert refused(server, party) == (502, "fetch-failed")
+    with socket.create_connection(("127.0.0.1", server.port), PATIENCE) as client:
+        client.sendall(b"GET / HTTP/1.1\r\n")
+        with pytest.raises(OSError):
+            for _ in range(5000):
+                client.sendall(headers)
+    assert server.memory() < MEMORY
 
 
 def test_a_registry_that_is_silent(server: Server) -> None:
@@ -304,13 +324,18 @@ def test_malformed_paths(server: Server, path: str) -> None:
     assert server.call("GET", "/notifier/api/v1/notification/" + path)[0] == 404
 
 
-def test_a_body_of_a_gigabyte(server: Server) -> None:
+@pytest.mark.parametrize(
+    ("header", "piece"),
+    [(b"Content-Length: 1073741824", b" " * (1 << 20)), (b"Transfer-Encoding: chunked", b"100000\r\n" + b" " * (1 << 20) + b"\r\n")],
+    ids=["by its header", "in chunks"],
+)
+def test_a_body_of_a_gigabyte(server: Server, header: bytes, piece: bytes) -> None:
     """A body that is too long is refused before all of it is read."""
     with socket.create_connection(("127.0.0.1", server.port), PATIENCE) as client:
-        client.sendall(b"POST /indexer/api/v1/index_report HTTP/1.1\r\nHost: x\r\nContent-Length: %d\r\n\r\n" % (1 << 30))
+        client.sendall(b"POST /indexer/api/v1/index_report HTTP/1.1\r\nHost: x\r\n%s\r\n\r\n" % header)
         with contextlib.suppress(OSError):
             for _ in range(1024):
-                client.sendall(b" " * (1 << 20))
+                client.sendall(piece)
         assert b" 413 " in client.recv(100)
 
 
@@ -377,6 +402,9 @@ def test_a_client_that_leaves(server: Server) -> None:
         client.sendall(b"GET / HTTP/1.1\r\nHost: x\r\n\r\n")
         client.setsockopt(socket.SOL_SOCKET, socket.SO_LINGER, struct.pack("ii", 1, 0))
         client.close()
+    with socket.create_connection(("127.0.0.1", server.port), PATIENCE) as client:
+        client.sendall(b"POST /indexer/api/v1/index_report HTTP/1.1\r\nHost: x\r\nContent-Length: 100\r\n\r\n{")
+    wait_for(lambda: "POST" in server.log.read_text().splitlines()[-1])
     assert server.is_ready()
 
 

@@ -131,6 +131,7 @@ def test_the_line_of_a_request() -> None:
 def test_what_changed_in_records(tmp_path: Path) -> None:
     """New, changed and removed records are found, and kept."""
     records = Records(tmp_path / "records.sqlite", TOOLS)
+    assert records.known(Part("a", "a", 7)) == Part("a", "a", -1)
     part = Part("a", "a", 1)
     first = records.change("a", {"x": b'{"id":"x"}', "y": b'{"id":"y"}'})
     records.apply(part, first)
@@ -142,7 +143,7 @@ def test_what_changed_in_records(tmp_path: Path) -> None:
     records.forget(part, change)
     assert (records.record("a", "y").summary, records.record("a", "x")) == ("s", None)
     assert records.change("a", records.lines("a")).is_empty()
-    assert records.parts() == [part]
+    assert records.parts() == [part] and records.known(Part("a", "a", -1)) == part
 
 
 def test_the_ids_of_notifications(tmp_path: Path) -> None:
