@@ -5,7 +5,7 @@ import subprocess
 from pathlib import Path
 
 import pytest
-from support import ROOT, Server, blob_party, debian_blob, free_port, manifest_of, npm_blob, record, wait_for, write_feed
+from support import ROOT, Server, blob_party, debian_blob, manifest_of, npm_blob, record, wait_for, write_feed
 
 EXAMPLE = ROOT / "server" / "examples" / "haproxy.cfg"
 BASE = debian_blob(("bash", "bash", "5.2.15-2"), ("libssl3", "openssl", "3.0.9-1"))
