@@ -2,7 +2,9 @@
 
 import asyncio
 import dataclasses
+import functools
 import hashlib
+import os
 import shutil
 from pathlib import Path
 from typing import Any
@@ -46,7 +48,8 @@ class Indexer:
             report = await self.index(manifest.digest, diff_ids, request["lane"])
         finally:
             await self.layers.release(diff_ids)
-        return web.json_response(report, status=201, headers={"Location": f"/indexer/api/v1/index_report/{manifest.digest}"})
+        headers = {"Location": f"/indexer/api/v1/index_report/{manifest.digest}", "ETag": f'"{await self.program_sum()}"'}
+        return web.json_response(report, status=201, headers=headers)
 
     def lock_of(self, digest: str) -> asyncio.Lock:
         """The lock of an image."""
@@ -99,8 +102,10 @@ class Indexer:
         image = self.known(request.match_info["digest"])
         answer = await self.keeper.report(image.digest, request["lane"])
         if answer["reply"] == "good" and image.packages is None and self.lists.is_known:
-            return web.json_response(await self.finish(image.digest, image.layers, request["lane"]))
-        return web.json_response(report_of(image.digest, image.packages, answer))
+            report = await self.finish(image.digest, image.layers, request["lane"])
+        else:
+            report = report_of(image.digest, image.packages, answer)
+        return web.json_response(report, headers={"ETag": f'"{await self.program_sum()}"'})
 
     async def delete(self, request: web.Request) -> web.Response:
         """Drops an image."""
@@ -132,14 +137,22 @@ class Indexer:
 
     async def state(self, _request: web.Request) -> web.Response:
         """Answers with a text that changes when images may be found to have other packages: the sum of the program."""
-        digest = await asyncio.to_thread(sum_of, self.configuration.child.program)
+        digest = await self.program_sum()
         return web.json_response({"state": digest}, headers={"ETag": f'"{digest}"'})
 
+    async def program_sum(self) -> str:
+        """The digits of the SHA-256 of the program, or nothing where there is none."""
+        place = shutil.which(self.configuration.child.program)
+        if place is None:
+            return ""
+        found = os.stat(place)
+        return await asyncio.to_thread(sum_of, place, found.st_mtime_ns, found.st_ino)
 
-def sum_of(program: str) -> str:
-    """The digits of the SHA-256 of a program, or of nothing where there is none."""
-    place = shutil.which(program)
-    return hashlib.sha256(Path(place).read_bytes() if place else b"").hexdigest()
+
+@functools.lru_cache(maxsize=1)
+def sum_of(file: str, _time: int, _number: int) -> str:
+    """The digits of the SHA-256 of a file, which is read again when it changed."""
+    return hashlib.sha256(Path(file).read_bytes()).hexdigest()
 
 
 def state_of(answer: dict[str, Any]) -> str:

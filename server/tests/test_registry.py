@@ -1,12 +1,14 @@
 """The whole way: images of a registry are indexed, their reports are those of `cvwatch scan`, and updates reach a webhook."""
 
+import http.client
+import json
 import subprocess
 from pathlib import Path
 from typing import Any
 
 import pytest
 from support import (
-    Answers, Blob, Party, Server, debian_blob, npm_blob, push, record, registry, scanned, vulnerable, wait_for, write_feed,
+    PATIENCE, Answers, Blob, Party, Server, debian_blob, npm_blob, push, record, registry, scanned, vulnerable, wait_for, write_feed,
 )
 
 BASE = debian_blob(("libssl3", "openssl", "3.0.9-1"), ("zlib1g", "zlib", "1:1.2.13.dfsg-1"))
@@ -90,6 +92,19 @@ def test_reports_are_those_of_a_scan(world: World) -> None:
     assert {one["did"] for one in report["distributions"].values()} == {"debian"}
     world.update([LODASH, BASH])
     world.check_reports()
+
+
+def test_index_reports_have_the_state_as_their_mark(world: World) -> None:
+    """A client sees by it whether another program indexed the image."""
+    world.index_all()
+    path = f"/indexer/api/v1/index_report/{world.images['one']}"
+    connection = http.client.HTTPConnection("127.0.0.1", world.server.port, timeout=PATIENCE)
+    for method, body in (("GET", None), ("POST", json.dumps(world.manifest("one")))):
+        connection.request(method, path if body is None else path.rpartition("/")[0], body)
+        response = connection.getresponse()
+        assert (response.read() != b"", response.headers["Location"]) == (True, None if body is None else path)
+        assert response.headers["ETag"] == f'"{world.server.call("GET", "/indexer/api/v1/index_state")[1]["state"]}"'
+    connection.close()
 
 
 def test_an_update_notifies_of_the_images_concerned(world: World) -> None:
