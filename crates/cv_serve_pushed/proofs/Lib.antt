@@ -6,3 +6,4 @@ pub mod PushLemmas
 pub mod Pushing
 pub mod RoundLemmas
 pub mod SeatLemmas
+pub mod TextLemmas

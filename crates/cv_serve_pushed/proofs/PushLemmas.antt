@@ -1,7 +1,7 @@
 -- The attempts of a round, what stops them, and their lines.
 use Rattle.std.specs.Prelude.{◌≡◌, ℕ, ◌+◌, ◌<◌, List, [], ◌∷◌, ◌++◌, get_or, length, take, Option, Result, Ok, Err, IfErr, IfOk, IsErrAnd, OnErr, OnOk}
 use Rattle.std.specs.Io.KnownBytes.{Appends}
-use Rattle.std.specs.List.{flat_map}
+use Rattle.std.specs.List.{AllByRecursion, flat_map}
 use Rattle.std.proofs.Common.{add-one, ap, arith, inl, inr, subst, sym, ◌∙◌}
 use Rattle.std.proofs.KnownBytes.{Appends-nil}
 use Rattle.std.proofs.Math.Seq.{take-suc}
@@ -21,7 +21,7 @@ use Rattle.cv_serve_legal.specs.Replay.{Moment}
 use Rattle.cv_serve_legal.specs.Whole.{WholeRound}
 use Rattle.cv_transcript.specs.Entry.{entry_text}
 use Rattle.cv_serve_pushed.specs.Attempts.{AreLines, IsAttempted, IsAttemptedInPart, IsLeft, after_lines, hook_faults}
-use Rattle.cv_serve_pushed.specs.HookText.{hook_text}
+use Rattle.cv_serve_pushed.specs.HookText.{HasNoTag, hook_text}
 use Rattle.cv_serve_pushed.specs.Pushes.{MadeAttempts, PushState, StoppedAttempts, StopsPushing}
 use Rattle.cv_serve_pushed.specs.code.Pushing.{StopsAfterLines, WroteAttempts, push_of, push_state}
 
@@ -61,10 +61,10 @@ module _ (known : Type 0) (notifications : Notifications) (before after : PushSt
   unwritten = inl (record { lines = lines; made = made; part = (0, omega arith, Appends-nil written) })
 
   -- they are written
-  pub wrote_lines : (bytes : List ℕ) (result : Result Unit WriteError) → bytes ≡ flat_map hook_text lines → OnOk result (Appends written written_now bytes)
-      → OnOk result (WroteAttempts known notifications before after written written_now)
-  wrote_lines bytes (Ok _) is output = record { lines = lines; made = made; output = subst (Appends written written_now) is output }
-  wrote_lines bytes (Err e) is output = tt
+  pub wrote_lines : (bytes : List ℕ) (result : Result Unit WriteError) → bytes ≡ flat_map hook_text lines → AllByRecursion HasNoTag lines
+      → OnOk result (Appends written written_now bytes) → OnOk result (WroteAttempts known notifications before after written written_now)
+  wrote_lines bytes (Ok _) is untagged output = record { lines = lines; made = made; output = subst (Appends written written_now) is output; untagged = untagged }
+  wrote_lines bytes (Err e) is untagged output = tt
 
   pub wrote_part : (bytes : List ℕ) (result : Result Unit WriteError) → bytes ≡ flat_map hook_text lines → OnErr result (AppendsPrefix written written_now bytes)
       → IfErr result (StopsAfterLines known notifications before after written written_now)

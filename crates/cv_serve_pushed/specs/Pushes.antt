@@ -3,7 +3,7 @@
 -- known.
 use Rattle.std.specs.Prelude.{◌≡◌, ◌⊎◌, ℕ, List, ◌++◌, Option}
 use Rattle.std.specs.Io.KnownBytes.{Appends}
-use Rattle.std.specs.List.{flat_map}
+use Rattle.std.specs.List.{AllByRecursion, flat_map}
 use Rattle.cv_io.specs.Writes.{AppendsPrefix}
 use Rattle.cv_io.specs.declared.write.WriteError.{WriteError}
 use Rattle.cv_io.specs.declared.write.WriteError.TheVariants as error
@@ -19,7 +19,7 @@ use Rattle.cv_serve_legal.specs.Replay.{Moment}
 use Rattle.cv_serve_legal.specs.Whole.{WholeRound}
 use Rattle.cv_serve_round.specs.Written.{WithBytes}
 use Rattle.cv_serve_pushed.specs.Attempts.{AreLines, IsAttempted, IsAttemptedInPart, IsLeft, after_lines, hook_faults}
-use Rattle.cv_serve_pushed.specs.HookText.{hook_text}
+use Rattle.cv_serve_pushed.specs.HookText.{HasNoTag, hook_text}
 
 -- what a push has between two rounds: its outbox, the hook's offers, if they are known, and the count of the hook's faults
 pub record PushState : Type 0 where
@@ -43,11 +43,13 @@ pub record StoppedAttempts (known : Type 0) (notifications : Notifications) (bef
 
 -- ---- a round that ends
 
--- the lines of a round were written, then its attempts were made over the state at this moment, and then their lines were written
+-- the lines of a round were written, then its attempts were made over the state at this moment, and then their lines were written, none of
+-- which is taken for a line of a round
 pub record Pushes (tree : DeskTrees) (before : WithBytes PushState) (round : WholeRound) (moment : Moment) (after : WithBytes PushState) : Type 0 where
   pub lines : List HookLine
   pub made : MadeAttempts (StatesEveryLayer tree) moment.state.notifications before.0 after.0 lines
   pub output : Appends before.1 after.1 (flat_map entry_text round.entries ++ flat_map hook_text lines)
+  pub untagged : AllByRecursion HasNoTag lines
 
 -- ---- a round that stops
 

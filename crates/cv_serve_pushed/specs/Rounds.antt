@@ -1,7 +1,7 @@
 -- What a push made of all its rounds (defined by this project), by lists: the lines of the attempts after each round, and the output.
 use Rattle.std.specs.Prelude.{◌≡◌, ℕ, List, [], ◌∷◌, ◌++◌}
 use Rattle.std.specs.Io.KnownBytes.{Appends}
-use Rattle.std.specs.List.{flat_map}
+use Rattle.std.specs.List.{AllByRecursion, flat_map}
 use Rattle.cv_transcript.specs.Entry.{entry_text}
 use Rattle.cv_core_machine.specs.Scans.{StatesEveryLayer, trees_of}
 use Rattle.cv_hook.specs.declared.offer.HookLine.{HookLine}
@@ -12,7 +12,7 @@ use Rattle.cv_serve_legal.specs.Round.{IsLegalRound}
 use Rattle.cv_serve_legal.specs.Whole.{WholeRound}
 use Rattle.cv_serve_round.specs.Written.{WithBytes}
 use Rattle.cv_serve_pushed.specs.Attempts.{AreLines, hook_faults}
-use Rattle.cv_serve_pushed.specs.HookText.{hook_text}
+use Rattle.cv_serve_pushed.specs.HookText.{HasNoTag, hook_text}
 use Rattle.cv_serve_pushed.specs.Pushes.{MadeAttempts, PushState}
 
 -- After each of these rounds the attempts were made, over the state there, and these are their lines. The outbox goes on from round to round
@@ -34,10 +34,11 @@ all_lines [] = []
 all_lines (lines ∷ hook_lines) = lines ++ all_lines hook_lines
 
 -- The attempts of all rounds. Each offer of the hook is one of a line, and each line is of an offer; the hook's count rose for each line that
--- says that it failed
+-- says that it failed. No line of an attempt is taken for a line of a round
 pub record ArePushed (tree : DeskTrees) (workers : ℕ) (start : Moment) (before : WithBytes PushState) (rounds : List WholeRound) (after : Moment) (now : WithBytes PushState) : Type 0 where
   pub hook_lines : List (List HookLine)
   pub attempts : AreAttempts tree workers start before.0 rounds hook_lines after now.0
   pub output : Appends before.1 now.1 (pushed_text rounds hook_lines)
+  pub untagged : AllByRecursion HasNoTag (all_lines hook_lines)
   pub offers : AreLines (all_lines hook_lines) before.0.offers now.0.offers
   pub faults : RoseBy (hook_faults (all_lines hook_lines)) before.0.faults now.0.faults

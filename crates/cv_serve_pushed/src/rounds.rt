@@ -1,6 +1,6 @@
 ghost use Rattle.std.specs.Prelude.{◌≡◌, ℕ, List, Option, IfErr, IfOk, OnErr, OnOk};
 ghost use Rattle.std.specs.Io.KnownBytes.{Appends};
-ghost use Rattle.std.specs.List.{flat_map};
+ghost use Rattle.std.specs.List.{AllByRecursion, flat_map};
 ghost use mathlib.Core.List.{IsPrefix};
 ghost use Rattle.cv_seq.specs.Cause.{CausedBy};
 ghost use Rattle.cv_io.specs.Fault.{is_write_fault};
@@ -8,7 +8,7 @@ ghost use Rattle.cv_core_machine.specs.Scans.{StatesEveryLayer, trees_of};
 ghost use Rattle.cv_hub_seats.specs.Seats.{seat_of};
 ghost use Rattle.cv_serve_round.specs.Round.{AreRoundSeats};
 ghost use Rattle.cv_serve_pushed.specs.Attempts.{notifications_after};
-ghost use Rattle.cv_serve_pushed.specs.HookText.{hook_text};
+ghost use Rattle.cv_serve_pushed.specs.HookText.{HasNoTag, hook_text};
 ghost use Rattle.cv_serve_pushed.specs.Pushes.{MadeAttempts, StoppedAttempts};
 ghost use Rattle.cv_serve_pushed.specs.code.Pushing.{StopsAfterLines, WroteAttempts, push_state};
 ghost use Rattle.cv_hook.specs.Attempts.{new_outbox};
@@ -188,7 +188,8 @@ fn attempt_at<H: Hook, D: Desk + Drop, L: Identity, W: Wait>(
 
 /// The bytes of lines.
 fn bytes_of(alloc: Global, lines: &[HookLine]) -> Result<Vec<u8>, NoMemory>
-    ensures { IfOk result (λ bytes. bytes.items ≡ flat_map hook_text lines.now) }
+    ensures text { IfOk result (λ bytes. bytes.items ≡ flat_map hook_text lines.now) }
+    ensures untagged { OnOk result (AllByRecursion HasNoTag lines.now) }
 {
     let mut bytes = Vec::new(alloc);
     for line in lines {

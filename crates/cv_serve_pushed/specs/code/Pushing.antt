@@ -1,7 +1,7 @@
 -- What the parts of `end_round` leave, over what a push has.
 use Rattle.std.specs.Prelude.{◌≡◌, ◌⊎◌, ℕ, List, Option}
 use Rattle.std.specs.Io.KnownBytes.{Appends}
-use Rattle.std.specs.List.{flat_map}
+use Rattle.std.specs.List.{AllByRecursion, flat_map}
 use Rattle.cv_io.specs.Writes.{AppendsPrefix}
 use Rattle.cv_io.specs.declared.write.WriteError.{WriteError}
 use Rattle.cv_io.specs.declared.write.WriteError.TheVariants as error
@@ -10,7 +10,7 @@ use Rattle.cv_hook.specs.Attempts.{OutboxState}
 use Rattle.cv_hook.specs.declared.offer.HookLine.{HookLine}
 use Rattle.cv_hook.specs.declared.offer.Offer.{Offer}
 use Rattle.cv_serve_round.specs.Written.{WithBytes}
-use Rattle.cv_serve_pushed.specs.HookText.{hook_text}
+use Rattle.cv_serve_pushed.specs.HookText.{HasNoTag, hook_text}
 use Rattle.cv_serve_pushed.specs.Pushes.{MadeAttempts, PushState, StoppedAttempts}
 
 -- what a push has, by its outbox and what its hook counts
@@ -26,6 +26,7 @@ pub record WroteAttempts (known : Type 0) (notifications : Notifications) (befor
   pub lines : List HookLine
   pub made : MadeAttempts known notifications before after lines
   pub output : Appends written written_now (flat_map hook_text lines)
+  pub untagged : AllByRecursion HasNoTag lines
 
 -- all attempts of a round were made, and of their lines the first bytes were written
 pub record WroteAttemptsInPart (known : Type 0) (notifications : Notifications) (before after : PushState) (written written_now : Option (List ℕ)) : Type 0 where
