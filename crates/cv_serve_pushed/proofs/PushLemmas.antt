@@ -22,8 +22,8 @@ use Rattle.cv_serve_legal.specs.Whole.{WholeRound}
 use Rattle.cv_transcript.specs.Entry.{entry_text}
 use Rattle.cv_serve_pushed.specs.Attempts.{AreLines, IsAttempted, IsAttemptedInPart, IsLeft, after_lines, hook_faults}
 use Rattle.cv_serve_pushed.specs.HookText.{HasNoTag, hook_text}
-use Rattle.cv_serve_pushed.specs.Pushes.{MadeAttempts, PushState, StoppedAttempts, StopsPushing}
-use Rattle.cv_serve_pushed.specs.code.Pushing.{StopsAfterLines, WroteAttempts, push_of, push_state}
+use Rattle.cv_serve_pushed.specs.Pushes.{MadeAttempts, PushState, StoppedAttempts, StopsPushing, push_of, push_state}
+use Rattle.cv_serve_pushed.specs.code.Pushing.{StopsAfterLines, WroteAttempts}
 
 -- ---- the attempts
 

@@ -21,9 +21,8 @@ use Rattle.cv_serve.specs.declared.end.ServeEnd.{ServeEnd}
 use Rattle.cv_serve.specs.declared.end.ServeEnd.TheVariants as end
 use Rattle.cv_serve.proofs.Ending.{wrote_nothing}
 use Rattle.cv_serve_pushed.specs.Pushed.{IsPushed, PushEnds, PushWorld, pushed_by}
-use Rattle.cv_serve_pushed.specs.Pushes.{Pushes, StopsPushing}
+use Rattle.cv_serve_pushed.specs.Pushes.{Pushes, StopsPushing, push_of}
 use Rattle.cv_serve_pushed.specs.code.Ended.{ended_by}
-use Rattle.cv_serve_pushed.specs.code.Pushing.{push_of}
 use Rattle.cv_serve_pushed.proofs.Mapping.{served_less, wrote_less}
 use Rattle.cv_serve_pushed.proofs.RoundLemmas.{all_pushed}
 

@@ -27,6 +27,14 @@ pub record PushState : Type 0 where
   pub offers : Option (List Offer)
   pub faults : ℕ
 
+-- the same, by the outbox and what the hook counts
+abbrev pub push_state : OutboxState → Option (List Offer) → ℕ → PushState
+push_state outbox offers faults = record { outbox = outbox; offers = offers; faults = faults }
+
+-- the same, by the outbox and a hook whose offers and count are these, with the bytes written
+abbrev pub push_of : {H : Type 0} → (H → Option (List Offer)) → (H → ℕ) → WithBytes (OutboxState × H) → WithBytes PushState
+push_of offers faults held = (push_state held.0.0 (offers held.0.1) (faults held.0.1), held.1)
+
 -- All attempts of a round were made, over the notifications that stand, and these are their lines. Which notifications stand is known where
 -- the layers of the desks' type are known; that each line is of one offer, and what the outbox and the hook count, is known of every desk
 pub record MadeAttempts (known : Type 0) (notifications : Notifications) (before after : PushState) (lines : List HookLine) : Type 0 where

@@ -9,8 +9,8 @@ ghost use Rattle.cv_hub_seats.specs.Seats.{seat_of};
 ghost use Rattle.cv_serve_round.specs.Round.{AreRoundSeats};
 ghost use Rattle.cv_serve_pushed.specs.Attempts.{notifications_after};
 ghost use Rattle.cv_serve_pushed.specs.HookText.{HasNoTag, hook_text};
-ghost use Rattle.cv_serve_pushed.specs.Pushes.{MadeAttempts, StoppedAttempts};
-ghost use Rattle.cv_serve_pushed.specs.code.Pushing.{StopsAfterLines, WroteAttempts, push_state};
+ghost use Rattle.cv_serve_pushed.specs.Pushes.{MadeAttempts, StoppedAttempts, push_state};
+ghost use Rattle.cv_serve_pushed.specs.code.Pushing.{StopsAfterLines, WroteAttempts};
 ghost use Rattle.cv_hook.specs.Attempts.{new_outbox};
 
 use crate::attempts::attempt_round;
@@ -93,8 +93,7 @@ impl<H: Hook> Keeper for PushRounds<H> {
 }
 
 impl<H: Hook> RoundKeeper for PushRounds<H> {
-    ghost use Rattle.cv_serve_pushed.specs.Pushes.{Pushes, StopsPushing};
-    ghost use Rattle.cv_serve_pushed.specs.code.Pushing.{push_of};
+    ghost use Rattle.cv_serve_pushed.specs.Pushes.{Pushes, StopsPushing, push_of};
     ghost use Rattle.cv_serve_pushed.specs.code.PushLaws.{unkept_stops, written_stops};
 
     ghost ends = { λ tree before round moment after. Pushes tree (push_of H.offers H.faults before) round moment (push_of H.offers H.faults after) };

@@ -12,8 +12,7 @@ use Rattle.cv_hook.specs.declared.offer.Offer.{Offer}
 use Rattle.cv_hub_seats.specs.Events.{DeskTrees}
 use Rattle.cv_serve_legal.specs.Replay.{Moment}
 use Rattle.cv_serve_legal.specs.Whole.{WholeRound}
-use Rattle.cv_serve_pushed.specs.Pushes.{PushState, StopsPushing}
-use Rattle.cv_serve_pushed.specs.code.Pushing.{push_of, push_state}
+use Rattle.cv_serve_pushed.specs.Pushes.{PushState, StopsPushing, push_of, push_state}
 
 module _ {H : Type 0} (offers : H → Option (List Offer)) (faults : H → ℕ) (tree : DeskTrees) where
   abbrev state_at : OutboxState × H → PushState

@@ -6,20 +6,9 @@ use Rattle.cv_io.specs.Writes.{AppendsPrefix}
 use Rattle.cv_io.specs.declared.write.WriteError.{WriteError}
 use Rattle.cv_io.specs.declared.write.WriteError.TheVariants as error
 use Rattle.cv_core_records.specs.Pages.{Notifications}
-use Rattle.cv_hook.specs.Attempts.{OutboxState}
 use Rattle.cv_hook.specs.declared.offer.HookLine.{HookLine}
-use Rattle.cv_hook.specs.declared.offer.Offer.{Offer}
-use Rattle.cv_serve_round.specs.Written.{WithBytes}
 use Rattle.cv_serve_pushed.specs.HookText.{HasNoTag, hook_text}
 use Rattle.cv_serve_pushed.specs.Pushes.{MadeAttempts, PushState, StoppedAttempts}
-
--- what a push has, by its outbox and what its hook counts
-abbrev pub push_state : OutboxState → Option (List Offer) → ℕ → PushState
-push_state outbox offers faults = record { outbox = outbox; offers = offers; faults = faults }
-
--- what a push has, by its outbox and its hook, with the bytes written
-abbrev pub push_of : {H : Type 0} → (H → Option (List Offer)) → (H → ℕ) → WithBytes (OutboxState × H) → WithBytes PushState
-push_of offers faults held = (push_state held.0.0 (offers held.0.1) (faults held.0.1), held.1)
 
 -- all attempts of a round were made, and their lines written
 pub record WroteAttempts (known : Type 0) (notifications : Notifications) (before after : PushState) (written written_now : Option (List ℕ)) : Type 0 where

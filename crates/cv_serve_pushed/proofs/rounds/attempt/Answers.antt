@@ -4,8 +4,7 @@ use Rattle.std.proofs.lemmas.List.{take_at}
 use Rattle.cv_core_machine.specs.Scans.{StatesEveryLayer}
 use Rattle.cv_serve_round.specs.Round.{AreRoundSeats}
 use Rattle.cv_serve_pushed.specs.Attempts.{notifications_after}
-use Rattle.cv_serve_pushed.specs.Pushes.{MadeAttempts, StoppedAttempts}
-use Rattle.cv_serve_pushed.specs.code.Pushing.{push_state}
+use Rattle.cv_serve_pushed.specs.Pushes.{MadeAttempts, StoppedAttempts, push_state}
 use Rattle.cv_serve_pushed.proofs.SeatLemmas.{slice_seats, slice_viewed}
 use Rattle.cv_serve_pushed.proofs.rounds.attempt.Goals as goal
 

@@ -2,8 +2,7 @@ use Rattle.std.proofs.Common.{ap, subst, sym}
 use Rattle.std.specs.Prelude.{IfOk, OnErr}
 use Rattle.cv_core_machine.specs.Scans.{StatesEveryLayer}
 use Rattle.cv_serve_pushed.specs.Attempts.{notifications_after}
-use Rattle.cv_serve_pushed.specs.Pushes.{MadeAttempts, StoppedAttempts}
-use Rattle.cv_serve_pushed.specs.code.Pushing.{push_state}
+use Rattle.cv_serve_pushed.specs.Pushes.{MadeAttempts, StoppedAttempts, push_state}
 use Rattle.cv_serve_pushed.proofs.PushLemmas.{made_all, made_some}
 use Rattle.cv_serve_pushed.proofs.rounds.attempt_at.Goals as goal
 

@@ -1,6 +1,7 @@
 use Rattle.cv_core_machine.specs.Scans.{StatesEveryLayer}
 use Rattle.cv_serve_pushed.specs.Attempts.{notifications_after}
-use Rattle.cv_serve_pushed.specs.code.Pushing.{StopsAfterLines, push_state}
+use Rattle.cv_serve_pushed.specs.Pushes.{push_state}
+use Rattle.cv_serve_pushed.specs.code.Pushing.{StopsAfterLines}
 use Rattle.cv_serve_pushed.proofs.PushLemmas.{out_of_memory, unwritten}
 use Rattle.cv_serve_pushed.proofs.rounds.write_attempts.Goals as goal
 
