@@ -1,6 +1,8 @@
 -- The definitions on worked examples.
-use Rattle.std.specs.Prelude.{◌≡◌, List, [], ◌∷◌, ◌++◌, Some, codes, refl}
+use Rattle.std.specs.Prelude.{◌≡◌, ◌<◌, List, [], ◌∷◌, ◌++◌, Some, None, codes, refl}
 use Rattle.std.specs.Fmt.{digits}
+use Rattle.std.proofs.Common.{arith}
+use Rattle.std.proofs.lemmas.List.Elements.{All-from_recursion, All-head}
 use Rattle.serde_json.proofs.OnLiterals.{serde_json_on_literals}
 use Rattle.cv_base.specs.declared.finding.Row.{Row}
 use Rattle.cv_hook.specs.Attempts.{new_outbox}
@@ -9,6 +11,7 @@ use Rattle.cv_hook.specs.declared.took.Outcome.TheVariants as outcome
 use Rattle.cv_scan_output.specs.Line.{line_text}
 use Rattle.cv_serve_pushed.specs.Attempts.{after_lines, hook_faults, offers_of}
 use Rattle.cv_serve_pushed.specs.HookText.{hook_text}
+use Rattle.cv_serve_pushed.specs.Rounds.{AreTakenOnce, all_lines, first_offered, last_untaken}
 
 -- 1 was taken, and the hook failed at 3
 abbrev lines : List HookLine
@@ -31,3 +34,21 @@ failed = refl
 refused : hook_text (record { number = 12; outcome = outcome.Refused }) ≡ codes "{\"hook\":\"refused\",\"number\":12}" ++ 10 ∷ []
 unfolding hook_text line_text serde_json_on_literals digits
 refused = refl
+
+-- 3 was not taken, so it is offered first in the next round
+abbrev next : List HookLine
+next = record { number = 3; outcome = outcome.Taken } ∷ record { number = 4; outcome = outcome.Taken } ∷ []
+
+waits : (last_untaken lines ≡ Some 3) × (first_offered next ≡ Some 3) × (last_untaken next ≡ None)
+waits = (refl, refl, refl)
+
+-- over both rounds what was taken is not offered again, also not 3, which was offered twice
+once : AreTakenOnce (all_lines (lines ∷ next ∷ []))
+once = (
+  λ _. All-from_recursion (λ n. 1 < n) (3 ∷ 3 ∷ 4 ∷ []) (omega arith, (omega arith, (omega arith, tt))),
+  ((λ h. absurd (cc h)), ((λ _. All-from_recursion (λ n. 3 < n) (4 ∷ []) (omega arith, tt)), ((λ _. All-from_recursion (λ n. 4 < n) [] tt), tt))),
+)
+
+-- but it is if 3 is offered after it was taken
+not_twice : AreTakenOnce (record { number = 3; outcome = outcome.Taken } ∷ record { number = 3; outcome = outcome.Refused } ∷ []) → ⊥
+not_twice so = let above : 3 < 3 = All-head (λ n. 3 < n) 3 [] (so.0 refl) in omega (arith, above)

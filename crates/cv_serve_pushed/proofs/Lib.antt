@@ -1,6 +1,9 @@
+pub mod AgainLemmas
+pub mod AgainRounds
 pub mod AttemptLemmas
 mod Examples
 pub mod Mapping
+pub mod NumberLemmas
 pub mod OfferLemmas
 pub mod PushLemmas
 pub mod Pushing

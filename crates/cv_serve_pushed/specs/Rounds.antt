@@ -1,9 +1,11 @@
 -- What a push made of all its rounds (defined by this project), by lists: the lines of the attempts after each round, and the output.
-use Rattle.std.specs.Prelude.{◌≡◌, ℕ, List, [], ◌∷◌, ◌++◌}
+-- What is offered again is said of these lines, too.
+use Rattle.std.specs.Prelude.{◌≡◌, ⊤, ℕ, ◌<◌, true, if◌then◌else◌, List, [], ◌∷◌, ◌++◌, Option, Some, None, All}
 use Rattle.std.specs.Io.KnownBytes.{Appends}
 use Rattle.std.specs.List.{AllByRecursion, flat_map}
 use Rattle.cv_transcript.specs.Entry.{entry_text}
 use Rattle.cv_core_machine.specs.Scans.{StatesEveryLayer, trees_of}
+use Rattle.cv_hook.specs.Attempts.{is_taken, offered}
 use Rattle.cv_hook.specs.declared.offer.HookLine.{HookLine}
 use Rattle.cv_hub_seats.specs.Events.{DeskTrees}
 use Rattle.cv_serve_lanes.specs.Counts.{RoseBy}
@@ -42,3 +44,31 @@ pub record ArePushed (tree : DeskTrees) (workers : ℕ) (start : Moment) (before
   pub untagged : AllByRecursion HasNoTag (all_lines hook_lines)
   pub offers : AreLines (all_lines hook_lines) before.0.offers now.0.offers
   pub faults : RoseBy (hook_faults (all_lines hook_lines)) before.0.faults now.0.faults
+
+-- ---- what is offered again
+
+-- rounds in two parts: the first ones lead to this moment, and the later ones go on from there
+pub record AreAttemptsInParts (tree : DeskTrees) (workers : ℕ) (before : Moment) (held : PushState) (first later : List WholeRound) (hook_lines : List (List HookLine)) (after : Moment) (held_now : PushState) : Type 0 where
+  pub between : Moment
+  pub middle : PushState
+  pub first_lines : List (List HookLine)
+  pub later_lines : List (List HookLine)
+  pub joined : hook_lines ≡ first_lines ++ later_lines
+  pub front : AreAttempts tree workers before held first first_lines between middle
+  pub back : AreAttempts tree workers between middle later later_lines after held_now
+
+-- the first number that is offered
+abbrev pub first_offered : List HookLine → Option ℕ
+first_offered [] = None
+first_offered (line ∷ lines) = Some line.number
+
+-- the number that is offered last, if it was not taken
+abbrev pub last_untaken : List HookLine → Option ℕ
+last_untaken [] = None
+last_untaken (line ∷ []) = if is_taken line.outcome then None else Some line.number
+last_untaken (line ∷ next ∷ lines) = last_untaken (next ∷ lines)
+
+-- after a number that was taken only greater ones are offered
+abbrev pub AreTakenOnce : List HookLine → Type 0
+AreTakenOnce [] = ⊤
+AreTakenOnce (line ∷ later) = (is_taken line.outcome ≡ true → All (λ number. line.number < number) (offered later)) × AreTakenOnce later
