@@ -1,7 +1,8 @@
 -- The definitions on worked examples.
-use Rattle.std.specs.Prelude.{◌≡◌, ◌<◌, List, [], ◌∷◌, ◌++◌, Some, None, codes, refl}
+use Rattle.std.specs.Prelude.{◌≡◌, ◌⊎◌, ℕ, ◌<◌, ◌≤◌, List, [], ◌∷◌, ◌++◌, Some, None, codes, refl}
 use Rattle.std.specs.Fmt.{digits}
-use Rattle.std.proofs.Common.{arith}
+use Rattle.std.specs.List.{Contains}
+use Rattle.std.proofs.Common.{arith, inl, inr, suc, zero}
 use Rattle.std.proofs.lemmas.List.Elements.{All-from_recursion, All-head}
 use Rattle.serde_json.proofs.OnLiterals.{serde_json_on_literals}
 use Rattle.cv_base.specs.declared.finding.Row.{Row}
@@ -11,7 +12,7 @@ use Rattle.cv_hook.specs.declared.took.Outcome.TheVariants as outcome
 use Rattle.cv_scan_output.specs.Line.{line_text}
 use Rattle.cv_serve_pushed.specs.Attempts.{after_lines, hook_faults, offers_of}
 use Rattle.cv_serve_pushed.specs.HookText.{hook_text}
-use Rattle.cv_serve_pushed.specs.Rounds.{AreTakenOnce, all_lines, first_offered, last_untaken}
+use Rattle.cv_serve_pushed.specs.Rounds.{AreTakenOnce, AreTakenOrWait, all_lines, first_offered, last_untaken, taken}
 
 -- 1 was taken, and the hook failed at 3
 abbrev lines : List HookLine
@@ -52,3 +53,22 @@ once = (
 -- but it is if 3 is offered after it was taken
 not_twice : AreTakenOnce (record { number = 3; outcome = outcome.Taken } ∷ record { number = 3; outcome = outcome.Refused } ∷ []) → ⊥
 not_twice so = let above : 3 < 3 = All-head (λ n. 3 < n) 3 [] (so.0 refl) in omega (arith, above)
+
+-- 1, 3 and 4 were taken over both rounds
+taken_both : taken (all_lines (lines ∷ next ∷ [])) ≡ 1 ∷ 3 ∷ 4 ∷ []
+taken_both = refl
+
+-- after the first round 1 was taken, and 3 and 4 wait
+waiting : AreTakenOrWait (1 ∷ 3 ∷ 4 ∷ []) 1 lines
+waiting = record {
+  each = All-from_recursion (λ n. Contains (1 ∷ []) n ⊎ (1 < n)) (1 ∷ 3 ∷ 4 ∷ []) (inl (zero, omega arith, refl), (inr (omega arith), (inr (omega arith), tt)));
+  not_both = All-from_recursion (λ n. n ≤ 1) (1 ∷ []) (omega arith, tt);
+}
+
+-- but 2 is skipped if 3 was taken, and 2 was not
+not_skipped : AreTakenOrWait (2 ∷ 3 ∷ []) 3 (record { number = 3; outcome = outcome.Taken } ∷ []) → ⊥
+not_skipped so = by_two (All-head (λ n. Contains {X = ℕ} (3 ∷ []) n ⊎ (3 < n)) 2 (3 ∷ []) so.each) where
+  by_two : Contains {X = ℕ} (3 ∷ []) 2 ⊎ (3 < 2) → ⊥
+  by_two (inl (zero, inside, same)) = omega (arith, same)
+  by_two (inl (suc k, inside, same)) = omega (arith, inside)
+  by_two (inr more) = omega (arith, more)

@@ -10,3 +10,5 @@ pub mod Pushing
 pub mod RoundLemmas
 pub mod SeatLemmas
 pub mod TextLemmas
+pub mod WaitLemmas
+pub mod WaitRounds

@@ -111,14 +111,25 @@ module _ (trees : Trees) (workers : ℕ) (before : Moment) (lines : Round) (entr
   pub round_consistent : IsConsistent before.state → IsConsistent after.state
   round_consistent so = replayed IsConsistent trees (step_consistent trees) (requests legal.taken) before legal.others after legal.replays so
 
-  -- a number that stands after it stood before, or is above the generation of before
-  abbrev StoodOrNew : ℕ → Type 0
-  StoodOrNew n = Contains (keys_of before.state.notifications) n ⊎ (before.state.generation < n)
+  -- the last number that a notification was given before
+  abbrev low : ℕ
+  low = before.state.generation
 
-  pub round_numbers : All StoodOrNew (keys_of after.state.notifications)
-  round_numbers =
+  -- a number stood before, or is above that one
+  abbrev StoodOrNew : ℕ → Type 0
+  StoodOrNew n = Contains (keys_of before.state.notifications) n ⊎ (low < n)
+
+  numbered : Has StoodOrNew low (λ n more. inr more) after.state
+  numbered =
       let stood = keys_of before.state.notifications in
       let first : AllByRecursion StoodOrNew stood = recursion_from_All StoodOrNew stood (All-weaker (Contains stood) StoodOrNew (λ n there. inl there) stood (All-contains_itself stood)) in
-      let last = replayed (Has StoodOrNew before.state.generation (λ n more. inr more)) trees (step_has StoodOrNew before.state.generation (λ n more. inr more) trees) (requests legal.taken)
-      before legal.others after legal.replays (first, omega arith) in
-      All-from_recursion StoodOrNew (keys_of after.state.notifications) last.0
+      replayed (Has StoodOrNew low (λ n more. inr more)) trees (step_has StoodOrNew low (λ n more. inr more) trees) (requests legal.taken) before legal.others after legal.replays
+      (first, omega arith)
+
+  -- each number that stands after a round stood before, or is new
+  pub round_numbers : All StoodOrNew (keys_of after.state.notifications)
+  round_numbers = All-from_recursion StoodOrNew (keys_of after.state.notifications) numbered.0
+
+  -- the generation does not fall
+  pub round_generation : before.state.generation ≤ after.state.generation
+  round_generation = numbered.1

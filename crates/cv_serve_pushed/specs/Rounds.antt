@@ -1,8 +1,8 @@
 -- What a push made of all its rounds (defined by this project), by lists: the lines of the attempts after each round, and the output.
--- What is offered again is said of these lines, too.
-use Rattle.std.specs.Prelude.{◌≡◌, ⊤, ℕ, ◌<◌, true, if◌then◌else◌, List, [], ◌∷◌, ◌++◌, Option, Some, None, All}
+-- What is offered again, and what waits, is said of these lines, too.
+use Rattle.std.specs.Prelude.{◌≡◌, ◌⊎◌, ⊤, ℕ, ◌<◌, ◌≤◌, true, if◌then◌else◌, List, [], ◌∷◌, ◌++◌, filter, Option, Some, None, All}
 use Rattle.std.specs.Io.KnownBytes.{Appends}
-use Rattle.std.specs.List.{AllByRecursion, flat_map}
+use Rattle.std.specs.List.{AllByRecursion, Contains, flat_map}
 use Rattle.cv_transcript.specs.Entry.{entry_text}
 use Rattle.cv_core_machine.specs.Scans.{StatesEveryLayer, trees_of}
 use Rattle.cv_hook.specs.Attempts.{is_taken, offered}
@@ -72,3 +72,15 @@ last_untaken (line ∷ next ∷ lines) = last_untaken (next ∷ lines)
 abbrev pub AreTakenOnce : List HookLine → Type 0
 AreTakenOnce [] = ⊤
 AreTakenOnce (line ∷ later) = (is_taken line.outcome ≡ true → All (λ number. line.number < number) (offered later)) × AreTakenOnce later
+
+-- ---- what waits
+
+-- the numbers that were taken
+abbrev pub taken : List HookLine → List ℕ
+taken lines = offered (filter (λ (line : HookLine). is_taken line.outcome) lines)
+
+-- None of the numbers that stand is skipped: each was taken, or waits above the last one taken, where the next round begins. What was taken
+-- does not wait
+pub record AreTakenOrWait (standing : List ℕ) (last : ℕ) (lines : List HookLine) : Type 0 where
+  pub each : All (λ number. Contains (taken lines) number ⊎ (last < number)) standing
+  pub not_both : All (λ number. number ≤ last) (taken lines)
