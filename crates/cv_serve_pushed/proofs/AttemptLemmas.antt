@@ -13,13 +13,13 @@ use Rattle.std.proofs.lemmas.List.{drop_more, map-append, take-append-drop}
 use Rattle.std.proofs.lemmas.List.Elements.{All-append, All-cons, All-contains, All-from_recursion, All-nil, All-weaker, Contains-append_right}
 use Rattle.cv_core_records.specs.Pages.{Notifications, heads}
 use Rattle.cv_core_records.specs.declared.read.NoticeHead.{NoticeHead}
-use Rattle.cv_hook.specs.Attempts.{IsDue, IsDueIf, IsLeast, IsLeastAbove, IsRoundFrom, OutboxState, after_line, begun, goes_on, numbers}
+use Rattle.cv_hook.specs.Attempts.{IsDue, IsDueIf, IsLeast, IsLeastAbove, IsRoundFrom, OutboxState, after_line, begun, goes_on, is_taken, numbers}
 use Rattle.cv_hook.specs.declared.offer.HookLine.{HookLine}
 use Rattle.cv_hook.specs.declared.took.Outcome.{Outcome}
 use Rattle.cv_hook.specs.declared.took.Outcome.TheVariants as outcome
 use Rattle.cv_hook.proofs.LeastLemmas.{numbers_more}
 use Rattle.cv_hook.proofs.RoundLemmas.{round_from}
-use Rattle.cv_serve_pushed.specs.Attempts.{BeginsRound, after_lines}
+use Rattle.cv_serve_pushed.specs.Attempts.{AreTaken, BeginsRound, after_lines}
 use Rattle.cv_serve_pushed.specs.code.Going.{BeginsRoundFrom, HavePassed, IsPast, due_number}
 
 -- ---- lines one after the other
@@ -43,6 +43,31 @@ round_after outbox standing (line ∷ lines) later so rest = (so.0, round_after 
 pub round_whole : (outbox : OutboxState) (standing : List ℕ) (lines : List HookLine) → BeginsRoundFrom outbox standing lines
     → IsDue (after_lines outbox lines) standing None → IsRoundFrom outbox standing lines
 round_whole outbox standing lines so none = subst (IsRoundFrom outbox standing) (append-nil lines) (round_after outbox standing lines [] so none)
+
+-- ---- what was taken
+
+pub none_taken : AreTaken []
+none_taken = All-nil (λ (line : HookLine). is_taken line.outcome ≡ true)
+
+-- the attempts go on after one notification more only if each offer was taken
+pub taken_more : (outbox outbox_now : OutboxState) (lines : List HookLine) (line : Option HookLine) → outbox_now ≡ after_lines outbox (option_to_list line)
+    → (goes_on outbox.noted ≡ false → line ≡ None) → (goes_on outbox.noted ≡ true → AreTaken lines) → goes_on outbox_now.noted ≡ true
+    → AreTaken (lines ++ option_to_list line)
+taken_more outbox outbox_now lines None after ended so on =
+    subst AreTaken (sym (append-nil lines)) (so (sym (ap (λ (o : OutboxState). goes_on o.noted) after) ∙ on))
+taken_more outbox outbox_now lines (Some line) after ended so on = by_going (goes_on outbox.noted) refl where
+  by_going : (going : Bool) → goes_on outbox.noted ≡ going → AreTaken (lines ++ line ∷ [])
+  by_going true is =
+      All-append (λ (l : HookLine). is_taken l.outcome ≡ true) lines (line ∷ []) (so is)
+      (All-cons (λ (l : HookLine). is_taken l.outcome ≡ true) line [] (sym (ap (λ (o : OutboxState). goes_on o.noted) after) ∙ on) none_taken)
+  by_going false is = absurd (cc (ended is))
+
+-- an attempt stops only while the attempts go on, so after offers that were taken
+pub taken_until : (outbox : OutboxState) (lines : List HookLine) → (goes_on outbox.noted ≡ false → ⊥) → (goes_on outbox.noted ≡ true → AreTaken lines) → AreTaken lines
+taken_until outbox lines on so = by_going (goes_on outbox.noted) refl where
+  by_going : (going : Bool) → goes_on outbox.noted ≡ going → AreTaken lines
+  by_going true is = so is
+  by_going false is = absurd (on is)
 
 -- ---- each state has a round
 

@@ -1,16 +1,16 @@
 -- The definitions on worked examples.
-use Rattle.std.specs.Prelude.{◌≡◌, ◌⊎◌, ℕ, ◌<◌, ◌≤◌, List, [], ◌∷◌, ◌++◌, Some, None, codes, refl}
+use Rattle.std.specs.Prelude.{◌≡◌, ◌⊎◌, ℕ, ◌<◌, ◌≤◌, true, List, [], ◌∷◌, ◌++◌, Some, None, codes, refl}
 use Rattle.std.specs.Fmt.{digits}
 use Rattle.std.specs.List.{Contains}
 use Rattle.std.proofs.Common.{arith, inl, inr, suc, zero}
-use Rattle.std.proofs.lemmas.List.Elements.{All-from_recursion, All-head}
+use Rattle.std.proofs.lemmas.List.Elements.{All-contains, All-from_recursion, All-head}
 use Rattle.serde_json.proofs.OnLiterals.{serde_json_on_literals}
 use Rattle.cv_base.specs.declared.finding.Row.{Row}
-use Rattle.cv_hook.specs.Attempts.{new_outbox}
+use Rattle.cv_hook.specs.Attempts.{is_taken, new_outbox}
 use Rattle.cv_hook.specs.declared.offer.HookLine.{HookLine}
 use Rattle.cv_hook.specs.declared.took.Outcome.TheVariants as outcome
 use Rattle.cv_scan_output.specs.Line.{line_text}
-use Rattle.cv_serve_pushed.specs.Attempts.{after_lines, hook_faults, offers_of}
+use Rattle.cv_serve_pushed.specs.Attempts.{AreTaken, after_lines, hook_faults, offers_of}
 use Rattle.cv_serve_pushed.specs.HookText.{hook_text}
 use Rattle.cv_serve_pushed.specs.Rounds.{AreTakenOnce, AreTakenOrWait, all_lines, first_offered, last_untaken, taken}
 
@@ -42,6 +42,13 @@ next = record { number = 3; outcome = outcome.Taken } ∷ record { number = 4; o
 
 waits : (last_untaken lines ≡ Some 3) × (first_offered next ≡ Some 3) × (last_untaken next ≡ None)
 waits = (refl, refl, refl)
+
+-- both were taken, and in the round before not the last one
+all_taken : AreTaken next × (AreTaken lines → ⊥)
+all_taken = (
+  All-from_recursion (λ (line : HookLine). is_taken line.outcome ≡ true) next (refl, (refl, tt)),
+  λ so. absurd (cc (All-contains (λ (line : HookLine). is_taken line.outcome ≡ true) lines (record { number = 3; outcome = outcome.Fault }) so (1, omega arith, refl))),
+)
 
 -- over both rounds what was taken is not offered again, also not 3, which was offered twice
 once : AreTakenOnce (all_lines (lines ∷ next ∷ []))

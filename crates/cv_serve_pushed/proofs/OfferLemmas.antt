@@ -29,11 +29,11 @@ use Rattle.cv_hook.specs.Attempts.{IsDue, IsRoundFrom, OutboxState, after_line, 
 use Rattle.cv_hook.specs.Memory.{is_fault}
 use Rattle.cv_hook.specs.declared.offer.HookLine.{HookLine}
 use Rattle.cv_hook.specs.declared.offer.Offer.{Offer}
-use Rattle.cv_serve_pushed.specs.Attempts.{AreLines, AreOffered, IsAttempted, IsAttemptedInPart, IsLeft, after_lines, hook_faults, line_of, offer_of, offers_of}
+use Rattle.cv_serve_pushed.specs.Attempts.{AreLines, AreOffered, AreTaken, IsAttempted, IsAttemptedInPart, IsLeft, after_lines, hook_faults, line_of, offer_of, offers_of}
 use Rattle.cv_serve_lanes.specs.Counts.{RoseBy}
 use Rattle.cv_serve_lanes.proofs.WorkerLemmas.{rose_then}
 use Rattle.cv_serve_pushed.specs.code.Going.{BeginsRoundFrom, IsHeadIn, WasOffered}
-use Rattle.cv_serve_pushed.proofs.AttemptLemmas.{above_if_less, begins_round, round_whole, same_if_equal}
+use Rattle.cv_serve_pushed.proofs.AttemptLemmas.{above_if_less, begins_round, none_taken, round_whole, same_if_equal}
 use Rattle.cv_hook.proofs.RoundLemmas.{round_from}
 
 -- ---- offers of lines
@@ -226,6 +226,7 @@ pub stopped_at_once : (ns : Notifications) (outbox outbox_now : OutboxState) (ma
 stopped_at_once ns outbox outbox_now made faults is = record {
   lines = [];
   round = begins_round outbox (keys_of ns) [] tt;
+  taken = none_taken;
   offers = same_offers made;
   outbox = is;
   faults = omega arith;
@@ -233,12 +234,14 @@ stopped_at_once ns outbox outbox_now made faults is = record {
 
 pub left_at_once : (outbox outbox_now : OutboxState) (made : Option (List Offer)) (faults : ℕ) → outbox_now ≡ begun outbox
     → IsLeft outbox outbox_now made made faults faults
-left_at_once outbox outbox_now made faults is = record { lines = []; offers = same_lines made; outbox = is; faults = omega arith }
+left_at_once outbox outbox_now made faults is = record { lines = []; taken = none_taken; offers = same_lines made; outbox = is; faults = omega arith }
 
 pub left_after : (known : Type 0) (ns : Notifications) (outbox start outbox_now : OutboxState) (before now : Option (List Offer)) (faults faults_now : ℕ) (lines : List HookLine)
-    → start ≡ begun outbox → WasOffered known ns start outbox_now before now faults faults_now lines → IsLeft outbox outbox_now before now faults faults_now
-left_after known ns outbox start outbox_now before now faults faults_now lines is so = record {
+    → start ≡ begun outbox → WasOffered known ns start outbox_now before now faults faults_now lines → AreTaken lines
+    → IsLeft outbox outbox_now before now faults faults_now
+left_after known ns outbox start outbox_now before now faults faults_now lines is so taken = record {
   lines = lines;
+  taken = taken;
   offers = so.added;
   outbox = so.outbox ∙ ap (λ (o : OutboxState). after_lines o lines) is;
   faults = so.rose;
@@ -246,10 +249,11 @@ left_after known ns outbox start outbox_now before now faults faults_now lines i
 
 pub stopped_after : (known : Type 0) (ns : Notifications) (outbox start outbox_now : OutboxState) (before now : Option (List Offer)) (faults faults_now : ℕ) (lines : List HookLine)
     → known → start ≡ begun outbox → WasOffered known ns start outbox_now before now faults faults_now lines → BeginsRoundFrom start (keys_of ns) lines
-    → IsAttemptedInPart ns outbox outbox_now before now faults faults_now
-stopped_after known ns outbox start outbox_now before now faults faults_now lines k is so begins = record {
+    → AreTaken lines → IsAttemptedInPart ns outbox outbox_now before now faults faults_now
+stopped_after known ns outbox start outbox_now before now faults faults_now lines k is so begins taken = record {
   lines = lines;
   round = begins_round outbox (keys_of ns) lines (subst (λ (o : OutboxState). BeginsRoundFrom o (keys_of ns) lines) is begins);
+  taken = taken;
   offers = so.offers k;
   outbox = so.outbox ∙ ap (λ (o : OutboxState). after_lines o lines) is;
   faults = so.rose;

@@ -1,11 +1,11 @@
 -- The attempts of a round over the notifications that stand in a state, and what they leave of a hook and of an outbox (defined by
 -- this project). Which numbers are offered, and when that stops, is `IsRound` of cv_hook.
-use Rattle.std.specs.Prelude.{◌≡◌, ℕ, List, [], ◌∷◌, ◌++◌, filter, length, map, Option, option_map, unwrap_or}
+use Rattle.std.specs.Prelude.{◌≡◌, ℕ, true, List, [], ◌∷◌, ◌++◌, filter, length, map, All, Option, option_map, unwrap_or}
 use Rattle.std.specs.Map.{keys_of}
 use Rattle.cv_core_machine.specs.Scans.{trees_of}
 use Rattle.cv_core_machine.specs.declared.limits.Limits.{Limits}
 use Rattle.cv_core_records.specs.Pages.{Notifications, notification_at}
-use Rattle.cv_hook.specs.Attempts.{IsRound, OutboxState, after_line, begun}
+use Rattle.cv_hook.specs.Attempts.{IsRound, OutboxState, after_line, begun, is_taken}
 use Rattle.cv_hook.specs.Memory.{is_fault}
 use Rattle.cv_hook.specs.declared.offer.HookLine.{HookLine}
 use Rattle.cv_hook.specs.declared.offer.Offer.{Offer}
@@ -44,6 +44,10 @@ after_lines outbox (line ∷ lines) = after_lines (after_line outbox line) lines
 abbrev pub hook_faults : List HookLine → ℕ
 hook_faults lines = length (filter (λ (line : HookLine). is_fault line.outcome) lines)
 
+-- each of these offers was taken
+abbrev pub AreTaken : List HookLine → Type 0
+AreTaken lines = All (λ (line : HookLine). is_taken line.outcome ≡ true) lines
+
 -- ---- the attempts of a round
 
 -- these lines are the first ones of a round's attempts
@@ -63,17 +67,20 @@ pub record IsAttempted (notifications : Notifications) (outbox : OutboxState) (b
   pub round : IsRound outbox.last (keys_of notifications) lines
   pub offers : AreOffered notifications lines before now
 
--- a round's attempts ended after some of them, with the hook's offers, this outbox and this count of its faults
+-- A round's attempts ended after some of them, with the hook's offers, this outbox and this count of its faults. Each of those was taken: no
+-- refusal and no fault ended them
 pub record IsAttemptedInPart (notifications : Notifications) (outbox_before outbox_now : OutboxState) (offers_before offers_now : Option (List Offer)) (faults_before faults_now : ℕ) : Type 0 where
   pub lines : List HookLine
   pub round : BeginsRound outbox_before.last (keys_of notifications) lines
+  pub taken : AreTaken lines
   pub offers : AreOffered notifications lines offers_before offers_now
   pub outbox : outbox_now ≡ after_lines (begun outbox_before) lines
   pub faults : RoseBy (hook_faults lines) faults_before faults_now
 
--- offers ended after those of some lines, over any desk
+-- offers ended after those of some lines, each of which was taken, over any desk
 pub record IsLeft (outbox_before outbox_now : OutboxState) (offers_before offers_now : Option (List Offer)) (faults_before faults_now : ℕ) : Type 0 where
   pub lines : List HookLine
+  pub taken : AreTaken lines
   pub offers : AreLines lines offers_before offers_now
   pub outbox : outbox_now ≡ after_lines (begun outbox_before) lines
   pub faults : RoseBy (hook_faults lines) faults_before faults_now

@@ -1,10 +1,10 @@
-ghost use Rattle.std.specs.Prelude.{◌≡◌, ◌<◌, ◌≤◌, ◌++◌, ◌+◌, ◌∷◌, [], None, length, map, option_map, vec_capacity, vec_len, IfOk, OnErr, OnOk};
+ghost use Rattle.std.specs.Prelude.{◌≡◌, ◌<◌, ◌≤◌, ◌++◌, ◌+◌, ◌∷◌, [], false, None, Ok, length, map, option_map, vec_capacity, vec_len, IfOk, OnErr, OnOk};
 ghost use Rattle.std.specs.Map.{keys_of};
 ghost use Rattle.std.specs.Option.{option_to_list};
 ghost use Rattle.cv_core_machine.specs.Scans.{StatesEveryLayer};
 ghost use Rattle.cv_core_records.specs.Pages.{heads, notification_at};
-ghost use Rattle.cv_hook.specs.Attempts.{IsDue, begun};
-ghost use Rattle.cv_serve_pushed.specs.Attempts.{AreLines, IsAttempted, IsAttemptedInPart, IsLeft, after_lines, hook_faults, notifications_after};
+ghost use Rattle.cv_hook.specs.Attempts.{IsDue, begun, goes_on};
+ghost use Rattle.cv_serve_pushed.specs.Attempts.{AreLines, AreTaken, IsAttempted, IsAttemptedInPart, IsLeft, after_lines, hook_faults, notifications_after};
 ghost use Rattle.cv_serve_lanes.specs.Counts.{RoseBy};
 ghost use Rattle.cv_serve_pushed.specs.code.Going.{BeginsRoundFrom, IsHeadIn, WasOffered, due_number, line_if, lines_in, offers_in};
 
@@ -67,6 +67,7 @@ fn attempt_all<D: Desk, L: Identity, H: Hook>(
     ensures offered { WasOffered (StatesEveryLayer D.tree × (list.now ≡ heads (notifications_after D.tree L.limits view.now.list))) (notifications_after D.tree L.limits view.now.list) outbox.old outbox.new (H.offers hook.old) (H.offers hook.new) (H.faults hook.old) (H.faults hook.new) lines.new.items }
     ensures begins { StatesEveryLayer D.tree × (list.now ≡ heads (notifications_after D.tree L.limits view.now.list)) → BeginsRoundFrom outbox.old (keys_of (notifications_after D.tree L.limits view.now.list)) lines.new.items }
     ensures whole { StatesEveryLayer D.tree × (list.now ≡ heads (notifications_after D.tree L.limits view.now.list)) → OnOk result (IsDue outbox.new (keys_of (notifications_after D.tree L.limits view.now.list)) None) }
+    ensures taken { OnErr result (AreTaken lines.new.items) }
 {
     step_laws();
     for head in list {
@@ -97,6 +98,7 @@ fn attempt<D: Desk, L: Identity, H: Hook>(
 ) -> Result<Option<HookLine>, NoMemory>
     ensures offered { WasOffered (StatesEveryLayer D.tree × IsHeadIn (notifications_after D.tree L.limits view.now.list) head.now) (notifications_after D.tree L.limits view.now.list) outbox.old outbox.new (H.offers hook.old) (H.offers hook.new) (H.faults hook.old) (H.faults hook.new) (lines_in result) }
     ensures due { StatesEveryLayer D.tree → IsHeadIn (notifications_after D.tree L.limits view.now.list) head.now → IfOk result (λ line. IsDue outbox.old (head.now.number ∷ []) (due_number line)) }
+    ensures ended { goes_on outbox.old.noted ≡ false → result ≡ Ok None }
 {
     if outbox.due(slice::from_ref(head)).is_none() {
         return Ok(None);

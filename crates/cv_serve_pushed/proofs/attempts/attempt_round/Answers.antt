@@ -27,7 +27,8 @@ returns-in_err-attempt_all-clause-stopped g c = λ known.
     c.from_residual-in_err-attempt_all.result
     (stopped_after (StatesEveryLayer g.D.Desk.tree × (c.as_slice.result.now ≡ heads standing)) standing c.args.outbox.now c.begin_round.new.self c.attempt_all.new.outbox
     (g.H.Hook.offers c.args.hook.now) (g.H.Hook.offers c.attempt_all.new.hook) (g.H.Hook.faults c.args.hook.now) (g.H.Hook.faults c.attempt_all.new.hook)
-    c.attempt_all.new.lines.items listed c.begin_round.ensures c.attempt_all.ensures.offered (c.attempt_all.ensures.begins listed))
+    c.attempt_all.new.lines.items listed c.begin_round.ensures c.attempt_all.ensures.offered (c.attempt_all.ensures.begins listed)
+    c.in_err-attempt_all.ensures.taken)
 
 pub returns-clause-attempts : goal.returns-clause-attempts
 returns-clause-attempts g c = λ known.
@@ -56,4 +57,4 @@ returns-in_err-attempt_all-clause-left g c =
     c.from_residual-in_err-attempt_all.result
     (left_after (StatesEveryLayer g.D.Desk.tree × (c.as_slice.result.now ≡ heads standing)) standing c.args.outbox.now c.begin_round.new.self c.attempt_all.new.outbox
     (g.H.Hook.offers c.args.hook.now) (g.H.Hook.offers c.attempt_all.new.hook) (g.H.Hook.faults c.args.hook.now) (g.H.Hook.faults c.attempt_all.new.hook)
-    c.attempt_all.new.lines.items c.begin_round.ensures c.attempt_all.ensures.offered)
+    c.attempt_all.new.lines.items c.begin_round.ensures c.attempt_all.ensures.offered c.in_err-attempt_all.ensures.taken)
