@@ -1,5 +1,5 @@
 -- The attempts of a round, what stops them, and their lines.
-use Rattle.std.specs.Prelude.{◌≡◌, ℕ, ◌+◌, ◌<◌, List, [], ◌∷◌, ◌++◌, get_or, length, take, Option, Result, Ok, Err, IfErr, IfOk, IsErrAnd, OnErr, OnOk}
+use Rattle.std.specs.Prelude.{◌≡◌, ℕ, ◌+◌, ◌<◌, List, [], ◌∷◌, ◌++◌, get_or, length, take, Option, Result, Ok, Err, IfErr, IfOk, IsErrAnd, OnErr, OnOk, refl}
 use Rattle.std.specs.Io.KnownBytes.{Appends}
 use Rattle.std.specs.List.{AllByRecursion, flat_map}
 use Rattle.std.proofs.Common.{add-one, ap, arith, inl, inr, subst, sym, ◌∙◌}
@@ -58,7 +58,7 @@ more_bytes lines i line old new below is before more =
 module _ (known : Type 0) (notifications : Notifications) (before after : PushState) (lines : List HookLine) (written written_now : Option (List ℕ)) (made : MadeAttempts known notifications before after lines) where
   -- they are not written
   pub unwritten : StopsAfterLines known notifications before after written written error.NoMemory
-  unwritten = inl (record { lines = lines; made = made; part = (0, omega arith, Appends-nil written) })
+  unwritten = inl (record { lines = lines; made = made; part = (0, omega arith, Appends-nil written); untagged = inl refl })
 
   -- they are written
   pub wrote_lines : (bytes : List ℕ) (result : Result Unit WriteError) → bytes ≡ flat_map hook_text lines → AllByRecursion HasNoTag lines
@@ -66,11 +66,12 @@ module _ (known : Type 0) (notifications : Notifications) (before after : PushSt
   wrote_lines bytes (Ok _) is untagged output = record { lines = lines; made = made; output = subst (Appends written written_now) is output; untagged = untagged }
   wrote_lines bytes (Err e) is untagged output = tt
 
-  pub wrote_part : (bytes : List ℕ) (result : Result Unit WriteError) → bytes ≡ flat_map hook_text lines → OnErr result (AppendsPrefix written written_now bytes)
-      → IfErr result (StopsAfterLines known notifications before after written written_now)
-  wrote_part bytes (Ok _) is part = tt
-  wrote_part bytes (Err error.WriteFault) is part = record { lines = lines; made = made; part = subst (AppendsPrefix written written_now) is part }
-  wrote_part bytes (Err error.NoMemory) is part = inl (record { lines = lines; made = made; part = subst (AppendsPrefix written written_now) is part })
+  pub wrote_part : (bytes : List ℕ) (result : Result Unit WriteError) → bytes ≡ flat_map hook_text lines → AllByRecursion HasNoTag lines
+      → OnErr result (AppendsPrefix written written_now bytes) → IfErr result (StopsAfterLines known notifications before after written written_now)
+  wrote_part bytes (Ok _) is untagged part = tt
+  wrote_part bytes (Err error.WriteFault) is untagged part = record { lines = lines; made = made; part = subst (AppendsPrefix written written_now) is part; untagged = inr untagged }
+  wrote_part bytes (Err error.NoMemory) is untagged part =
+      inl (record { lines = lines; made = made; part = subst (AppendsPrefix written written_now) is part; untagged = inr untagged })
 
 -- ---- what stops a round
 
@@ -88,8 +89,8 @@ module _ {H : Type 0} (offers : H → Option (List Offer)) (faults : H → ℕ) 
   Stopped before after by = StopsPushing tree by (push_of offers faults (before, written)) round moment (push_of offers faults (after, now))
 
   stops_at : (held after : OutboxState × H) (by : WriteError) → AfterLines held after by → Stopped held after by
-  stops_at held after error.WriteFault h = inr (record { between = middle; whole = whole; lines = h.lines; made = h.made; part = h.part })
-  stops_at held after error.NoMemory (inl h) = inr (inl (record { between = middle; whole = whole; lines = h.lines; made = h.made; part = h.part }))
+  stops_at held after error.WriteFault h = inr (record { between = middle; whole = whole; lines = h.lines; made = h.made; part = h.part; untagged = h.untagged })
+  stops_at held after error.NoMemory (inl h) = inr (inl (record { between = middle; whole = whole; lines = h.lines; made = h.made; part = h.part; untagged = h.untagged }))
   stops_at held after error.NoMemory (inr (stopped, same)) =
       inr (inr (record { whole = subst (λ (bytes : Option (List ℕ)). Appends written bytes (flat_map entry_text round.entries)) (sym same) whole; stopped = stopped }))
 

@@ -65,13 +65,15 @@ pub record Pushes (tree : DeskTrees) (before : WithBytes PushState) (round : Who
 abbrev pub StopsInLines : WithBytes PushState → WholeRound → WithBytes PushState → Type 0
 StopsInLines before round after = (after.0 ≡ before.0) × AppendsPrefix before.1 after.1 (flat_map entry_text round.entries)
 
--- the lines of a round were written, all its attempts were made, and of their lines the first bytes were written
+-- The lines of a round were written, all its attempts were made, and of their lines the first bytes were written. Nothing of them was written,
+-- or none of them is taken for a line of a round
 pub record StopsInHookLines (tree : DeskTrees) (before : WithBytes PushState) (round : WholeRound) (moment : Moment) (after : WithBytes PushState) : Type 0 where
   pub between : Option (List ℕ)
   pub whole : Appends before.1 between (flat_map entry_text round.entries)
   pub lines : List HookLine
   pub made : MadeAttempts (StatesEveryLayer tree) moment.state.notifications before.0 after.0 lines
   pub part : AppendsPrefix between after.1 (flat_map hook_text lines)
+  pub untagged : (after.1 ≡ between) ⊎ AllByRecursion HasNoTag lines
 
 -- the lines of a round were written, some of its attempts were made, and none of their lines was written
 pub record StopsInAttempts (tree : DeskTrees) (before : WithBytes PushState) (round : WholeRound) (moment : Moment) (after : WithBytes PushState) : Type 0 where

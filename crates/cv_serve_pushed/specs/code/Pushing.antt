@@ -17,11 +17,13 @@ pub record WroteAttempts (known : Type 0) (notifications : Notifications) (befor
   pub output : Appends written written_now (flat_map hook_text lines)
   pub untagged : AllByRecursion HasNoTag lines
 
--- all attempts of a round were made, and of their lines the first bytes were written
+-- All attempts of a round were made, and of their lines the first bytes were written. Nothing of them was written, or none of them is taken
+-- for a line of a round
 pub record WroteAttemptsInPart (known : Type 0) (notifications : Notifications) (before after : PushState) (written written_now : Option (List ℕ)) : Type 0 where
   pub lines : List HookLine
   pub made : MadeAttempts known notifications before after lines
   pub part : AppendsPrefix written written_now (flat_map hook_text lines)
+  pub untagged : (written_now ≡ written) ⊎ AllByRecursion HasNoTag lines
 
 -- the attempts of a round, or the writing of their lines, stopped by this error
 abbrev pub StopsAfterLines : Type 0 → Notifications → PushState → PushState → Option (List ℕ) → Option (List ℕ) → WriteError → Type 0
