@@ -46,6 +46,14 @@ const AFTER: [&str; 2] = [
 "#,
 ];
 
+/// What is printed of an input without a line after three events of which the last one says that a worker ran out of memory.
+const AFTER_MEMORY: [&str; 1] = [
+    r#"{"events":3,"generation":0,"reply":"resumed"}
+{"at":4,"event":"claim","layer":"<a>","reply":"claimed","worker":0}
+{"at":5,"event":"indexed","layer":"<a>","reply":"entered","worker":0}
+"#,
+];
+
 /// Runs the service on a disk, and compares how it ends and what it prints.
 fn try_keep<R: Abort + Threads + Wait + Sync>(
     rt: &R,
@@ -86,6 +94,10 @@ fn a_round_is_kept_or_it_is_not(rt: HostRuntime) -> Result<(), NoMemory> {
         let mut disk = disk_of(alloc, &[], &[], calls.saturating_sub(back))?;
         try_keep(&rt, alloc, INPUT, &mut disk, (Status::KeepFault, FIRST))?;
         let ended = run_on(&rt, alloc, &KEEP, "", &mut disk.crashed()?)?;
+        if is_one_of(alloc, &ended.1, &AFTER_MEMORY)? {
+            // the event stands in the round that was not printed
+            return Err(NoMemory);
+        }
         let is_right = ended.0 == Status::Done && is_one_of(alloc, &ended.1, &AFTER)?;
         assert!(rt; unless_out_of_memory(&ended, is_right)?, "{back}");
     }
