@@ -10,7 +10,7 @@ use std::thread::yield_now;
 use test_data::SampleDesk;
 
 /// The most views that a seat takes.
-const VIEWS: u64 = 10_000_000;
+const VIEWS: u64 = 200_000;
 
 /// After this number of views a seat learns a note.
 const EVERY: u64 = 16;
@@ -24,7 +24,7 @@ pub struct Viewed {
     pub report: String,
 }
 
-/// Views a hub until its last event is seen, or for ten million times. It keeps the first view of each number of events, and all views that
+/// Views a hub until its last event is seen, or for two hundred thousand times. It keeps the first view of each number of events, and all views that
 /// show fewer than their seat had seen.
 pub fn view_until<L: Identity, W: Wait>(
     rt: &W,
